@@ -1,0 +1,5 @@
+-- Proofs of crate `evaluation`: the rows and laws of specs/, then what the functions are proved by.
+pub mod Rows
+pub mod Laws
+pub mod Signed
+pub mod Operators
