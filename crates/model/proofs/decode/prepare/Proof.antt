@@ -1,0 +1,38 @@
+-- `prepare` meets its contract: the check's refusal with nothing changed, or the decoding.
+use borrow.Author.Needs.{needs}
+use mathlib.Core.Path.{sym, _∙_}
+use Rattle.model.specs.Decoding.{arrays}
+use Rattle.model.proofs.Preparing.{refused-prepared, ready-prepared}
+use Rattle.model.proofs.decode.prepare.Statement.{statement}
+use Rattle.model.proofs.decode.prepare.Tie as tie
+
+check-requires : tie.Need-check-requires
+check-requires c κs = search needs
+
+enum-known-number : tie.Need-enum-known-number
+enum-known-number c = search needs
+
+enum-known-sizes : tie.Need-enum-known-sizes
+enum-known-sizes c = search needs
+
+decode-requires : tie.Need-decode-requires
+decode-requires c κs = sym (c .before .before .before .before .before .before .before .before .before .before .check .ensures) ∙ c .before .before .before .before .before .before .before .before .sizes .given .1
+
+returns : tie.Need-returns
+returns c =
+    let given = c .before .before .before .before .before .args in
+    refused-prepared (given .model .now) (arrays (given .parameters .now) (given .sorts .now) (given .lows .now) (given .highs .now) (given .firsts .now) (given .nexts .now) (given .guards .now))
+    _ (sym (c .before .before .before .check .ensures) ∙ c .before .number .given .1)
+
+returns-2 : tie.Need-returns-2
+returns-2 c =
+    let given = c .before .before .before .before .before .before .before .before .before .before .before .before .before .args in
+    let left = c .decode .last in
+    ready-prepared (given .model .now) (arrays (given .parameters .now) (given .sorts .now) (given .lows .now) (given .highs .now) (given .firsts .now) (given .nexts .now) (given .guards .now))
+    _ (arrays (left .1 .1 .0) (left .1 .1 .1 .0) (left .1 .1 .1 .1 .0) (left .1 .1 .1 .1 .1 .0) (left .1 .1 .1 .1 .1 .1 .0) (left .1 .1 .1 .1 .1 .1 .1 .0) (left .1 .1 .1 .1 .1 .1 .1 .1 .0))
+    (c .decode .result) (sym (c .before .before .before .before .before .before .before .before .before .before .before .check .ensures) ∙ c .before .before .before .before .before .before .before .before .before .sizes .given .1) (c .decode .ensures)
+
+pub prepare-spec : {M : Type 1} → statement M
+prepare-spec =
+    tie.close
+    (tie.spec check-requires enum-known-number enum-known-sizes decode-requires returns returns-2)

@@ -1,0 +1,83 @@
+// The check of a model file, and of an expression handed outside a model.
+
+ghost use mathlib.Core.Path.{_≡_};
+ghost use Rattle.model.specs.Sizes.{byteLayout, sized};
+ghost use Rattle.model.specs.declared.Sized.the-variants.{Read};
+ghost use Rattle.model.specs.Walk.{outcome};
+ghost use Rattle.model.specs.Check.{walkedIn, verdict, answerOf, sortOf, expressionGiven, givenAnswer};
+use super::Checked;
+use super::Cursor;
+use super::Given;
+use super::Layout;
+use super::Model;
+use super::Sized;
+use super::Sizes;
+use super::Sort;
+use super::Walked;
+use super::header;
+use super::walk;
+
+// The nodes of a file whose sizes have been read.
+fn nodes_of(model: &[u8], sizes: Sizes) -> Walked
+    requires { ⌜ sized byteLayout (now model) ≡ Read sizes ⌝ }
+    ensures { λ r. ⌜ r ≡ outcome (walkedIn byteLayout (now (model .entry)) sizes) ⌝ }
+{
+    let mut parameters = [0i32; Model::MAX_NODES];
+    let nodes = sizes.nodes;
+    let past = 6 + nodes;
+    header::parameters_in(model, past, nodes, &mut parameters);
+    walk::system(&model[6..past], &parameters[..nodes], sizes)
+}
+
+// The check of a model file: its five sizes, or the refusal's number.
+pub fn check(model: &[u8]) -> Checked
+    ensures { λ r. ⌜ r ≡ answerOf (verdict (now (model .entry))) ⌝ }
+{
+    let layout = Layout {
+        width: 1,
+        max_nodes: Model::MAX_NODES,
+    };
+    match header::read_sizes(layout, model) {
+        Sized::Refused(number) => Checked::Refused(number),
+        Sized::Read(sizes) => match nodes_of(model, sizes) {
+            Walked::Refused(number) => Checked::Refused(number),
+            Walked::Next(_) => Checked::Accepted(sizes),
+        },
+    }
+}
+
+fn sort_code(wanted: Sort) -> u8
+    ensures { λ r. ⌜ r ≡ sortOf wanted ⌝ }
+{
+    match wanted {
+        Sort::Boolean => 1,
+        Sort::Number => 2,
+    }
+}
+
+// The check of an expression handed outside a model, over variables of these sorts (1 Boolean, 2 number).
+pub fn check_expression(kinds: &[u8], parameters: &[i32], sorts: &[u8], wanted: Sort) -> Given
+    ensures { λ r. ⌜ r ≡ givenAnswer (expressionGiven (now (kinds .entry)) (now (parameters .entry)) (now (sorts .entry)) (sortOf wanted)) ⌝ }
+{
+    if kinds.len() != parameters.len() {
+        return Given::Refused(3);
+    }
+    let sort = sort_code(wanted);
+    match walk::expression(
+        kinds,
+        parameters,
+        sorts,
+        Model::MAX_DEPTH,
+        sort,
+        Cursor::empty(),
+    ) {
+        Walked::Refused(number) => Given::Refused(number),
+        Walked::Next(next) => {
+            if next.at < kinds.len() {
+                Given::Refused(8)
+            } else {
+                Given::Accepted
+            }
+        }
+    }
+}
