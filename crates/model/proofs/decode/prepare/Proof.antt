@@ -16,21 +16,30 @@ enum-known-sizes : tie.Need-enum-known-sizes
 enum-known-sizes c = search needs
 
 decode-requires : tie.Need-decode-requires
-decode-requires c κs = sym (c .before .before .before .before .before .before .before .before .before .before .check .ensures) ∙ c .before .before .before .before .before .before .before .before .sizes .given .1
+decode-requires c κs =
+    let read = c .before .before .before .before .before .before .before .before in
+    sym (read .before .before .check .ensures) ∙ read .sizes .given .1
 
 returns : tie.Need-returns
 returns c =
-    let given = c .before .before .before .before .before .args in
-    refused-prepared (given .model .now) (arrays (given .parameters .now) (given .sorts .now) (given .lows .now) (given .highs .now) (given .firsts .now) (given .nexts .now) (given .guards .now))
-    _ (sym (c .before .before .before .check .ensures) ∙ c .before .number .given .1)
+    let checked = c .before .before .before in
+    let given = checked .before .before .args in
+    refused-prepared (given .model .now)
+    (arrays (given .parameters .now) (given .sorts .now) (given .lows .now) (given .highs .now) (given .firsts .now) (given .nexts .now) (given .guards .now))
+    _ (sym (checked .check .ensures) ∙ c .before .number .given .1)
 
 returns-2 : tie.Need-returns-2
 returns-2 c =
-    let given = c .before .before .before .before .before .before .before .before .before .before .before .before .before .args in
+    let read = c .before .before .before .before .before .before .before .before .before in
+    let checked = read .before .before in
+    let given = checked .before .before .args in
     let left = c .decode .last in
-    ready-prepared (given .model .now) (arrays (given .parameters .now) (given .sorts .now) (given .lows .now) (given .highs .now) (given .firsts .now) (given .nexts .now) (given .guards .now))
-    _ (arrays (left .1 .1 .0) (left .1 .1 .1 .0) (left .1 .1 .1 .1 .0) (left .1 .1 .1 .1 .1 .0) (left .1 .1 .1 .1 .1 .1 .0) (left .1 .1 .1 .1 .1 .1 .1 .0) (left .1 .1 .1 .1 .1 .1 .1 .1 .0))
-    (c .decode .result) (sym (c .before .before .before .before .before .before .before .before .before .before .before .check .ensures) ∙ c .before .before .before .before .before .before .before .before .before .sizes .given .1) (c .decode .ensures)
+    ready-prepared (given .model .now)
+    (arrays (given .parameters .now) (given .sorts .now) (given .lows .now) (given .highs .now) (given .firsts .now) (given .nexts .now) (given .guards .now))
+    _
+    (arrays (left .1 .1 .0) (left .1 .1 .1 .0) (left .1 .1 .1 .1 .0) (left .1 .1 .1 .1 .1 .0) (left .1 .1 .1 .1 .1 .1 .0) (left .1 .1 .1 .1 .1 .1 .1 .0)
+    (left .1 .1 .1 .1 .1 .1 .1 .1 .0))
+    (c .decode .result) (sym (checked .check .ensures) ∙ read .sizes .given .1) (c .decode .ensures)
 
 pub prepare-spec : {M : Type 1} → statement M
 prepare-spec =

@@ -1,0 +1,208 @@
+-- Guards, firing and starting on a loaded model: what the code answers and leaves is as the definitions `fired` and `begun` have it.
+use mathlib.Core.Path.{_≡_, refl, sym, ap, _∙_}
+use mathlib.Core.Bool.{Bool, true, false, true≢false}
+use mathlib.Core.List.{List}
+use mathlib.Core.Option.{some}
+use Prim.Native.Nat.{ℕ, _+_, _-_, _≤_, _<_, _^_}
+use native.Mathlib.Omega.{arith}
+use borrow.Author.Tests.{lt-ltb, le-ltb, ltb-true, ltb-false, eq-eqb, ne-eqb}
+use lib.Dec.{ltb}
+use lib.IntN.{ℤ, pos}
+use lib.ListN.{length, take, getD, getElem?, replicate, length-append, length-take, length-map}
+use lib.Seq.{take-at}
+use lib.Signed.{mag}
+use mir.Syntax.{w32}
+use mir.Val.{ofZ}
+use Rattle.evaluation.specs.declared.Evaluation.{Evaluation}
+use Rattle.evaluation.specs.declared.Evaluation.the-variants.{Unknown, Failed, Value}
+use Rattle.evaluation.proofs.Signed.{one-fits, equal-bits, other-bits}
+use Rattle.model.specs.declared.Model.{Model}
+use Rattle.model.specs.Trees.{Expression, Transition, variables}
+use Rattle.model.specs.Decoding.{ExpressionAt, sizeOfExpression}
+use Rattle.engine.specs.declared.Evaluated.{Evaluated}
+use Rattle.engine.specs.declared.Firing.the-variants.{Disabled, GuardFailed}
+use Rattle.engine.specs.Expressions.{evaluate}
+use Rattle.engine.specs.Actions.{act}
+use Rattle.engine.specs.Propagation.{settle}
+use Rattle.engine.specs.Meanings.{meaningOf, guardIn, actionIn}
+use Rattle.engine.specs.Firing.{Left, leaves, written, leftBySettling, leftByActing, leftByGuard, fired, begun}
+use Rattle.engine.specs.Cells.{Loaded, AllRepresentable, valuationOf, evaluatedAs, ExpressionStands, PropagationStands, TransitionStands}
+use Rattle.engine.proofs.Cells.{no-element}
+use Rattle.engine.proofs.Evaluating.{expression-within}
+use Rattle.engine.proofs.Valuations.{known-values}
+use Rattle.engine.proofs.Loading.{element-below, loaded-well-formed, loaded-states, loaded-flows, loaded-places, loaded-guards, loaded-guard, loaded-action, loaded-scoped, loaded-assertion, assertion-stands}
+
+module _ {model : Model} {kinds : List ℕ} {parameters : List ℤ} {sorts : List ℕ} {lows highs firsts : List ℤ} {nexts guards : List ℕ}
+    (d : Loaded model kinds parameters sorts lows highs firsts nexts guards) where
+  pub length-all : length (variables (d .decoded .system)) ≡ model .sizes .states + model .sizes .flows
+  length-all =
+      length-append (d .decoded .system .states) (d .decoded .system .flows) ∙ omega (arith, loaded-states d, loaded-flows d)
+
+  pub length-firsts : length firsts ≡ model .sizes .states + model .sizes .flows
+  length-firsts = ap length (d .decoded .firstsDecoded) ∙ length-map (variables (d .decoded .system)) (λ v. v .first) ∙ length-all
+
+  pub few-variables : model .sizes .states + model .sizes .flows ≤ 510
+  few-variables = omega (arith, loaded-states d, loaded-flows d, loaded-well-formed d .states, loaded-well-formed d .flows)
+
+  pub few-guards : length guards < 256
+  few-guards = omega (arith, loaded-guards d, loaded-well-formed d .transitions)
+
+  -- ---- guards
+
+  module _ (k : ℕ) where
+    pub guard-stands : k < length guards → ExpressionStands kinds parameters nexts (getD guards k 0)
+    guard-stands h =
+        let t = element-below (d .decoded .system .transitions) k (omega (arith, loaded-guards d)) in
+        record { expression = t .0 .guard; stands = loaded-guard d k (t .0) (t .1); places = loaded-places d }
+
+    pub guard-missing : length guards ≤ k → (values : List ℤ) → Unknown ≡ meaningOf (d .decoded .system) .guard k values
+    unfolding meaningOf guardIn
+    guard-missing h values = rw (no-element (d .decoded .system .transitions) k (omega (arith, loaded-guards d)))
+
+    pub guard-evaluated : k < length guards → (values : List ℤ) → AllRepresentable values → (r : Evaluated)
+        → ((e : Expression) → ExpressionAt kinds parameters e (getD guards k 0)
+        → r ≡ evaluatedAs (evaluate e (valuationOf values)) (getD guards k 0 + sizeOfExpression e))
+        → r .evaluation ≡ meaningOf (d .decoded .system) .guard k values
+    unfolding meaningOf guardIn
+    guard-evaluated h values known r e =
+        let t = element-below (d .decoded .system .transitions) k (omega (arith, loaded-guards d)) in
+        ap (λ r. r .evaluation) (e (t .0 .guard) (loaded-guard d k (t .0) (t .1))) ∙ rw (t .1, known-values values known)
+
+  -- ---- starting
+
+  module _ (ss old : List ℤ) where
+    pub begin-short : length old < model .sizes .states + model .sizes .flows → leaves Disabled old ≡ begun (meaningOf (d .decoded .system)) ss old
+    unfolding begun meaningOf
+    begin-short h = rw (lt-ltb (length old) (length (variables (d .decoded .system))) (omega (arith, length-all)))
+
+    pub begin-other : model .sizes .states + model .sizes .flows ≤ length old → (length ss ≡ model .sizes .states → ⊥)
+        → leaves Disabled old ≡ begun (meaningOf (d .decoded .system)) ss old
+    unfolding begun meaningOf
+    begin-other h n =
+        rw (
+          le-ltb (length old) (length (variables (d .decoded .system))) (omega (arith, length-all)),
+          ne-eqb (length ss) (length (d .decoded .system .states)) (λ e. n (e ∙ sym (loaded-states d))),
+        )
+
+    module _ (room : model .sizes .states + model .sizes .flows ≤ length old) (long : length ss ≡ model .sizes .states) where
+      abbrev pub begin-stands : PropagationStands kinds parameters nexts lows highs firsts (model .assertion) (length ss) (length firsts - length ss)
+      begin-stands =
+          record {
+            assertion = assertion-stands d;
+            firstValues = d .decoded .firstsDecoded;
+            stateCells = long ∙ loaded-states d;
+            flowCells = omega (arith, length-firsts, long, loaded-flows d);
+          }
+
+      pub begin-room : length firsts ≤ length old
+      begin-room = omega (arith, length-firsts)
+
+      pub begin-entered : (left : Left) → left ≡ leftBySettling old (settle (d .decoded .system) ss)
+          → left ≡ begun (meaningOf (d .decoded .system)) ss old
+      unfolding begun meaningOf
+      begin-entered left e =
+          rw (
+            le-ltb (length old) (length (variables (d .decoded .system))) (omega (arith, length-all)),
+            eq-eqb (length ss) (length (d .decoded .system .states)) (long ∙ loaded-states d),
+          ) e
+
+  -- ---- firing
+
+  action-of : (k : ℕ) (t : Transition) → getElem? (d .decoded .system .transitions) k ≡ some t → (values : List ℤ)
+      → act (d .decoded .system) (t .action) values ≡ meaningOf (d .decoded .system) .action k values
+  unfolding meaningOf actionIn
+  action-of k t e values = rw e
+
+  module _ (k : ℕ) (old : List ℤ) where
+    pub fire-short : length old < model .sizes .states + model .sizes .flows → leaves Disabled old ≡ fired (meaningOf (d .decoded .system)) k old
+    unfolding fired meaningOf
+    fire-short h = rw (lt-ltb (length old) (length (variables (d .decoded .system))) (omega (arith, length-all)))
+
+    -- the values are held in the first cells of an array
+    module _ (room : model .sizes .states + model .sizes .flows ≤ length old) where
+      pub length-values : model .sizes .states + model .sizes .flows ≡ length (take (model .sizes .states + model .sizes .flows) old)
+      length-values = simp length-take (omega arith)
+
+      pub values-fit : length (take (model .sizes .states + model .sizes .flows) old) ≤ 510
+      values-fit = omega (arith, length-values, few-variables)
+
+      module _ (array : List ℤ) (held : array ≡ written (take (model .sizes .states + model .sizes .flows) old) (replicate 510 (pos 0))) where
+        pub same-values : take (model .sizes .states + model .sizes .flows) array ≡ take (model .sizes .states + model .sizes .flows) old
+        same-values = ap (take (model .sizes .states + model .sizes .flows)) held ∙ take-at _ _ _ (sym length-values)
+
+        pub length-held : model .sizes .states + model .sizes .flows ≡ length (take (model .sizes .states + model .sizes .flows) array)
+        length-held = length-values ∙ ap length (sym same-values)
+
+        pub held-within : model .sizes .states + model .sizes .flows ≤ length array
+        held-within = omega (arith, length-held, length-take (model .sizes .states + model .sizes .flows) array)
+
+        module _ (known : AllRepresentable (take (model .sizes .states + model .sizes .flows) old)) (x : Evaluation)
+            (guarded : AllRepresentable (take (model .sizes .states + model .sizes .flows) array)
+            → x ≡ meaningOf (d .decoded .system) .guard k (take (model .sizes .states + model .sizes .flows) array)) where
+          pub known-held : AllRepresentable (take (model .sizes .states + model .sizes .flows) array)
+          known-held = rw same-values known
+
+          by-guard : leftByGuard (meaningOf (d .decoded .system)) k old x ≡ fired (meaningOf (d .decoded .system)) k old
+          unfolding fired meaningOf
+          by-guard =
+              rw (guarded known-held, same-values, ← length-all, le-ltb (length old) (length (variables (d .decoded .system))) (omega (arith, length-all)))
+
+          pub fire-unknown : x ≡ Unknown → leaves Disabled old ≡ fired (meaningOf (d .decoded .system)) k old
+          unfolding leftByGuard
+          fire-unknown e = rw e at by-guard
+
+          pub fire-failed : x ≡ Failed → leaves GuardFailed old ≡ fired (meaningOf (d .decoded .system)) k old
+          unfolding leftByGuard
+          fire-failed e = rw e at by-guard
+
+          module _ (v : ℤ) (fits : mag v < 2 ^ 31) (is : x ≡ Value v) where
+            pub fire-false : (ofZ w32 v ≡ 1 → ⊥) → leaves Disabled old ≡ fired (meaningOf (d .decoded .system)) k old
+            unfolding leftByGuard
+            fire-false n = rw (is, other-bits w32 {x = v} {y = pos 1} (record { sfits = fits }) one-fits n) at by-guard
+
+            pub fire-within : k < length guards
+            fire-within = by (ltb k (length guards)) refl
+              where
+                by : (t : Bool) → ltb k (length guards) ≡ t → k < length guards
+                by true e = ltb-true k (length guards) e
+                by false e =
+                    let u : Unknown ≡ Value v = guard-missing k (ltb-false k (length guards) e) _ ∙ sym (guarded known-held) ∙ is in
+                    let z : true ≡ false = cc in absurd (true≢false z)
+
+            pub transition : (t : Transition) × (getElem? (d .decoded .system .transitions) k ≡ some t)
+            transition = element-below (d .decoded .system .transitions) k (omega (arith, fire-within, loaded-guards d))
+
+            pub guard-within : getD guards k 0 < length nexts
+            guard-within =
+                rw (loaded-places d .long) (expression-within kinds parameters (transition .0 .guard) (getD guards k 0) (loaded-guard d k (transition .0) (transition .1)) .0)
+
+            abbrev pub fire-stands : TransitionStands kinds parameters nexts lows highs firsts (take (model .sizes .states + model .sizes .flows) array) old
+                (model .assertion) (getD nexts (getD guards k 0) 0) (model .sizes .states)
+            fire-stands =
+                record {
+                  system = d .decoded .system;
+                  action = transition .0 .action;
+                  wellFormed = loaded-well-formed d;
+                  scoped = loaded-scoped d k (transition .0) (transition .1);
+                  actionStands = loaded-action d k (transition .0) (transition .1);
+                  assertionStands = loaded-assertion d;
+                  places = loaded-places d;
+                  lowEnds = d .decoded .lowsDecoded;
+                  highEnds = d .decoded .highsDecoded;
+                  firstValues = d .decoded .firstsDecoded;
+                  stateCells = loaded-states d;
+                  room = omega (arith, length-all);
+                  held = same-values ∙ ap (λ n. take n old) (sym length-all);
+                  known = known-held;
+                }
+
+            pub fire-carried : ofZ w32 v ≡ 1 → (left : Left)
+                → left ≡ leftByActing (meaningOf (d .decoded .system)) old (act (d .decoded .system) (transition .0 .action) (take (model .sizes .states + model .sizes .flows) array))
+                → left ≡ fired (meaningOf (d .decoded .system)) k old
+            unfolding leftByGuard meaningOf
+            fire-carried n left e =
+                e ∙ acted ∙ (rw (is, equal-bits w32 {x = v} {y = pos 1} (record { sfits = fits }) one-fits n) at by-guard)
+              where
+                acted : leftByActing (meaningOf (d .decoded .system)) old (act (d .decoded .system) (transition .0 .action) (take (model .sizes .states + model .sizes .flows) array))
+                    ≡ leftByActing (meaningOf (d .decoded .system)) old (meaningOf (d .decoded .system) .action k (take (length (variables (d .decoded .system))) old))
+                acted = ap (leftByActing (meaningOf (d .decoded .system)) old) (action-of k (transition .0) (transition .1) _ ∙ ap (meaningOf (d .decoded .system) .action k) (same-values ∙ ap (λ n. take n old) (sym length-all)))

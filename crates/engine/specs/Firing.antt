@@ -1,0 +1,58 @@
+-- What firing a transition does to the values of a run, and what starting from given states does, over a meaning.
+-- 01: "Fire t: guard, action, assertion". No record is kept here.
+use mathlib.Core.Bool.{true, cond, not, _||_}
+use mathlib.Core.List.{List, _++_}
+use mathlib.Core.Option.{Option, some, none}
+use Prim.Native.Nat.{ℕ, _+_}
+use lib.Dec.{eqb, ltb}
+use lib.IntN.{ℤ, pos}
+use lib.ListN.{length, take, drop}
+use Rattle.evaluation.specs.declared.Evaluation.{Evaluation}
+use Rattle.evaluation.specs.declared.Evaluation.the-variants.{Unknown, Failed, Value}
+use Rattle.evaluation.specs.Numbers.{eqZ, boolean}
+use Rattle.engine.specs.declared.Fault.{Fault}
+use Rattle.engine.specs.declared.Firing.{Firing}
+use Rattle.engine.specs.declared.Firing.the-variants.{Disabled, GuardFailed, ActionFault, AssertionFault, Fired}
+use Rattle.engine.specs.Actions.{Acted}
+use Rattle.engine.specs.Actions.Acted.{faulty, states}
+use Rattle.engine.specs.Propagation.{Settled}
+use Rattle.engine.specs.Propagation.Settled.{refused, settled}
+use Rattle.engine.specs.Meanings.{Meaning}
+
+-- an answer with the values as they are left
+pub record Left : Type 0 where
+  pub answer : Firing
+  pub values : List ℤ
+
+abbrev pub leaves : Firing → List ℤ → Left
+leaves f values = record { answer = f; values = values }
+
+-- the values of all variables, and the cells from there on as they were
+abbrev pub written : List ℤ → List ℤ → List ℤ
+written new old = new ++ drop (length new) old
+
+unfoldable pub leftBySettling : List ℤ → Settled → Left
+leftBySettling old (refused f) = leaves (AssertionFault f) old
+leftBySettling old (settled count new) = leaves (Fired count) (written new old)
+
+unfoldable pub leftByActing : Meaning → List ℤ → Acted → Left
+leftByActing m old (faulty f) = leaves (ActionFault f) old
+leftByActing m old (states ss) = leftBySettling old (m .propagate ss)
+
+unfoldable pub leftByGuard : Meaning → ℕ → List ℤ → Evaluation → Left
+leftByGuard m t old Unknown = leaves Disabled old
+leftByGuard m t old Failed = leaves GuardFailed old
+leftByGuard m t old (Value v) =
+    cond (eqZ v (boolean true)) (leftByActing m old (m .action t (take (length (m .declarations)) old))) (leaves Disabled old)
+
+-- guard, action, assertion; nothing happens where the values are too few
+unfoldable pub fired : Meaning → ℕ → List ℤ → Left
+fired m t old =
+    cond (ltb (length old) (length (m .declarations))) (leaves Disabled old)
+    (leftByGuard m t old (m .guard t (take (length (m .declarations)) old)))
+
+-- the states take these values, one for each, then the assertion
+unfoldable pub begun : Meaning → List ℤ → List ℤ → Left
+begun m ss old =
+    cond (ltb (length old) (length (m .declarations)) || not (eqb (length ss) (m .states))) (leaves Disabled old)
+    (leftBySettling old (m .propagate ss))
