@@ -1,0 +1,117 @@
+-- The calls by cases: each refusal with what it rests on, and the accepted call with what was found before it.
+use mathlib.Core.Path.{_≡_, refl}
+use mathlib.Core.Bool.{true, false, not}
+use mathlib.Core.List.{List, _++_}
+use mathlib.Core.Option.{Option, some, none}
+use Prim.Native.Nat.{ℕ, suc, _-_}
+use native.Mathlib.Omega.{arith}
+use borrow.Author.Tests.{not-true, not-false}
+use lib.Dec.{eqb, ltb}
+use lib.IntN.{ℤ, pos}
+use lib.ListN.{length, getD, take, drop, set}
+use Rattle.engine.specs.declared.Fault.{Fault}
+use Rattle.engine.specs.declared.Fault.the-variants.{Failure, Outside, Conflict}
+use Rattle.engine.specs.declared.Firing.{Firing}
+use Rattle.engine.specs.declared.Firing.the-variants.{Disabled, GuardFailed, ActionFault, AssertionFault, Fired}
+use Rattle.engine.specs.Instructions.{Place, numberOf}
+use Rattle.engine.specs.Instructions.Place.{guard, action, assertion}
+use Rattle.engine.specs.Meanings.{Meaning}
+use Rattle.engine.specs.Firing.{Left, fired, begun}
+use Rattle.run.specs.Runs.{Run, Answer, Done, run, answered}
+use Rattle.run.specs.Runs.Answer.{refused, rounds, done, number}
+use Rattle.run.specs.Calls.{tooShort, holds, answerOf, initial, startedBy, start, firedBy, fire, replay, undoneBy, undo, marksOf, marks, value}
+use Rattle.run.proofs.Tests.{by-test}
+
+-- the number of a refusal is neither 20 nor 31
+abbrev pub Other : ℕ → Type 0
+Other k = (k ≡ 20 → ⊥) × (k ≡ 31 → ⊥)
+
+other-number : (p : Place) (f : Fault) → Other (numberOf p f)
+unfolding numberOf
+other-number guard Failure = omega arith
+other-number guard Outside = omega arith
+other-number guard Conflict = omega arith
+other-number action Failure = omega arith
+other-number action Outside = omega arith
+other-number action Conflict = omega arith
+other-number assertion Failure = omega arith
+other-number assertion Outside = omega arith
+other-number assertion Conflict = omega arith
+
+module _ (m : Meaning) (r : Run) (P : Done Run → Type 0) (refusal : (k : ℕ) → Other k → P (answered (refused k) r)) where
+  started-cases : (l : Left) (a : Firing) → ((n : ℕ) → a ≡ Fired n → P (answered (rounds n) (run (l .values) (r .history) 0))) → P (startedBy r l a)
+  unfolding startedBy answerOf
+  started-cases l Disabled f = refusal 23 (omega arith)
+  started-cases l GuardFailed f = refusal _ (other-number guard Failure)
+  started-cases l (ActionFault x) f = refusal _ (other-number action x)
+  started-cases l (AssertionFault x) f = refusal _ (other-number assertion x)
+  started-cases l (Fired n) f = f n refl
+
+  pub start-cases : ((n : ℕ) → tooShort m (r .values) ≡ false → begun m (initial m) (r .values) .answer ≡ Fired n
+      → P (answered (rounds n) (run (begun m (initial m) (r .values) .values) (r .history) 0)))
+      → P (start m r)
+  unfolding start
+  start-cases f =
+      by-test P (tooShort m (r .values)) _ _ (λ e. refusal 9 (omega arith)) (λ long.
+      started-cases (begun m (initial m) (r .values)) (begun m (initial m) (r .values) .answer) (λ n. f n long))
+
+  -- 20 where the run does not hold
+  module _ (stale : holds m r ≡ false → P (answered (refused 20) r)) where
+    fired-cases : (t : ℕ) (l : Left) (a : Firing)
+        → ((n : ℕ) → a ≡ Fired n → P (answered (rounds n) (run (l .values) (set (r .history) (r .count) t) (suc (r .count)))))
+        → P (firedBy t r l a)
+    unfolding firedBy answerOf
+    fired-cases t l Disabled f = refusal 23 (omega arith)
+    fired-cases t l GuardFailed f = refusal _ (other-number guard Failure)
+    fired-cases t l (ActionFault x) f = refusal _ (other-number action x)
+    fired-cases t l (AssertionFault x) f = refusal _ (other-number assertion x)
+    fired-cases t l (Fired n) f = f n refl
+
+    pub fire-cases : (t : ℕ) → (ltb t (m .transitions) ≡ true → holds m r ≡ true → eqb (r .count) (length (r .history)) ≡ false
+        → (n : ℕ) → fired m t (r .values) .answer ≡ Fired n
+        → P (answered (rounds n) (run (fired m t (r .values) .values) (set (r .history) (r .count) t) (suc (r .count)))))
+        → P (fire m t r)
+    unfolding fire
+    fire-cases t f =
+        by-test P (tooShort m (r .values)) _ _ (λ e. refusal 9 (omega arith)) (λ long.
+        by-test P (not (ltb t (m .transitions))) _ _ (λ e. refusal 11 (omega arith)) (λ below.
+        by-test P (not (holds m r)) _ _ (λ e. stale (not-true (holds m r) e)) (λ held.
+        by-test P (eqb (r .count) (length (r .history))) _ _ (λ e. refusal 21 (omega arith)) (λ free.
+        fired-cases t (fired m t (r .values)) (fired m t (r .values) .answer) (f (not-false _ below) (not-false _ held) free)))))
+
+    undone-cases : (o : Option (List ℤ)) → (o ≡ none → P (answered (refused 31) r))
+        → ((values : List ℤ) → o ≡ some values → P (answered done (run values (r .history) (r .count - 1)))) → P (undoneBy r o)
+    unfolding undoneBy
+    undone-cases none f g = f refl
+    undone-cases (some values) f g = g values refl
+
+    pub undo-cases : (eqb (r .count) 0 ≡ false → replay m (initial m) (take (r .count - 1) (r .history)) (r .values) ≡ none
+        → P (answered (refused 31) r))
+        → (holds m r ≡ true → eqb (r .count) 0 ≡ false → (values : List ℤ)
+        → replay m (initial m) (take (r .count - 1) (r .history)) (r .values) ≡ some values
+        → P (answered done (run values (r .history) (r .count - 1))))
+        → P (undo m r)
+    unfolding undo
+    undo-cases f g =
+        by-test P (tooShort m (r .values)) _ _ (λ e. refusal 9 (omega arith)) (λ long.
+        by-test P (not (holds m r)) _ _ (λ e. stale (not-true (holds m r) e)) (λ held.
+        by-test P (eqb (r .count) 0) _ _ (λ e. refusal 22 (omega arith)) (λ some-step.
+        undone-cases (replay m (initial m) (take (r .count - 1) (r .history)) (r .values)) (f some-step) (g (not-false _ held) some-step))))
+
+module _ (m : Meaning) (r : Run) where
+  pub marks-cases : (old : List ℕ) (P : Done (List ℕ) → Type 0) → ((k : ℕ) → Other k → P (answered (refused k) old))
+      → (holds m r ≡ false → P (answered (refused 20) old)) → P (answered done (marksOf m (r .values) ++ drop (m .transitions) old))
+      → P (marks m r old)
+  unfolding marks
+  marks-cases old P refusal stale f =
+      by-test P (tooShort m (r .values)) _ _ (λ e. refusal 9 (omega arith)) (λ long.
+      by-test P (ltb (length old) (m .transitions)) _ _ (λ e. refusal 10 (omega arith)) (λ enough.
+      by-test P (not (holds m r)) _ _ (λ e. stale (not-true (holds m r) e)) (λ held. f)))
+
+  pub value-cases : (x : ℕ) (P : Answer → Type 0) → ((k : ℕ) → Other k → P (refused k)) → (holds m r ≡ false → P (refused 20))
+      → P (number (getD (r .values) x (pos 0))) → P (value m x r)
+  unfolding value
+  value-cases x P refusal stale f =
+      by-test P (tooShort m (r .values)) _ _ (λ e. refusal 9 (omega arith)) (λ long.
+      by-test P (not (ltb x (length (m .declarations)))) _ _ (λ e. refusal 12 (omega arith)) (λ below.
+      by-test P (not (holds m r)) _ _ (λ e. stale (not-true (holds m r) e)) (λ held. f)))

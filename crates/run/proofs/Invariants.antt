@@ -1,0 +1,140 @@
+-- A refusal that never comes after an accepted start, from what holds after a start and stays along a list of calls.
+use mathlib.Core.Path.{_≡_, refl, sym, ap, _∙_}
+use mathlib.Core.Bool.{Bool, true, false, cond, not}
+use mathlib.Core.List.{List, [], _∷_}
+use mathlib.Core.Option.{some, none}
+use Prim.Native.Nat.{ℕ, suc, _-_}
+use native.Mathlib.Omega.{arith}
+use lib.Dec.{eqb, ltb}
+use lib.IntN.{ℤ}
+use lib.ListN.{length, take, set}
+use Rattle.model.specs.declared.Sizes.{Sizes}
+use Rattle.model.specs.Trees.{System}
+use Rattle.model.specs.Check.{Verdict, verdict}
+use Rattle.model.specs.Check.Verdict.{refusal, accepted}
+use Rattle.model.specs.Theorems.{Bytes}
+use Rattle.engine.specs.declared.Firing.the-variants.{Fired}
+use Rattle.engine.specs.Meanings.{Meaning, meaningOf}
+use Rattle.engine.specs.Firing as firing
+use Rattle.run.specs.declared.Call.{Call}
+use Rattle.run.specs.declared.Call.the-variants.{Check, Start, Fire, Undo, Marks, Value}
+use Rattle.run.specs.Runs.{Run, Store, Answer, Done, run, answered}
+use Rattle.run.specs.Runs.Answer.{refused, rounds, done, number, sizes}
+use Rattle.run.specs.Calls.{tooShort, holds, initial, replay, start, PickedFrom, Fireable}
+use Rattle.run.specs.Lists.{callOn, callBy, call, Performed, PickedBy, lastLeft}
+use Rattle.run.specs.Lists.Performed.{nothing, next}
+use Rattle.run.specs.declared.Picked.{Picked}
+use Rattle.run.specs.declared.Picked.the-variants.{Refused, Transition, Nothing}
+use Rattle.run.specs.Theorems.{NoneIs, NeverAfterStart}
+use Rattle.run.proofs.Tests.{clash}
+use Rattle.run.proofs.Cases.{Other, start-cases, fire-cases, undo-cases, marks-cases, value-cases}
+
+-- the number of a refusal; 0 of any other answer
+abbrev refusalIn : Answer → ℕ
+refusalIn (refused n) = n
+refusalIn (rounds n) = 0
+refusalIn done = 0
+refusalIn (number v) = 0
+refusalIn (sizes z) = 0
+
+-- what holds of the run after an accepted start and stays with each accepted call; under it number n is not met
+pub record Invariant (n : ℕ) (m : Meaning) : Type 1 where
+  pub Holds : Run → Type 0
+  pub started : (r : Run) (k : ℕ) → tooShort m (r .values) ≡ false → firing.begun m (initial m) (r .values) .answer ≡ Fired k
+      → Holds (run (firing.begun m (initial m) (r .values) .values) (r .history) 0)
+  pub fired : (t : ℕ) (r : Run) → Holds r → ltb t (m .transitions) ≡ true → eqb (r .count) (length (r .history)) ≡ false → (k : ℕ)
+      → firing.fired m t (r .values) .answer ≡ Fired k
+      → Holds (run (firing.fired m t (r .values) .values) (set (r .history) (r .count) t) (suc (r .count)))
+  pub undone : (r : Run) → Holds r → eqb (r .count) 0 ≡ false → (values : List ℤ)
+      → replay m (initial m) (take (r .count - 1) (r .history)) (r .values) ≡ some values → Holds (run values (r .history) (r .count - 1))
+  pub stale : (r : Run) → Holds r → holds m r ≡ false → 20 ≡ n → ⊥
+  pub stuck : (r : Run) → Holds r → eqb (r .count) 0 ≡ false → replay m (initial m) (take (r .count - 1) (r .history)) (r .values) ≡ none → 31 ≡ n → ⊥
+
+module _ (n : ℕ) (other : (k : ℕ) → Other k → k ≡ n → ⊥) where
+  -- the answer is not the refusal n
+  abbrev Not : Answer → Type 0
+  Not a = a ≡ refused n → ⊥
+
+  not-refused : (k : ℕ) → (k ≡ n → ⊥) → Not (refused k)
+  not-refused k f e = f (ap refusalIn e)
+
+  accepted-by : (a : Answer) → refusalIn a ≡ 0 → Not a
+  accepted-by a z e = other 0 (omega arith) (let p : refusalIn a ≡ n = ap refusalIn e in omega arith)
+
+  module _ (m : Meaning) (i : Invariant n m) where
+    abbrev Step : Done Run → Type 0
+    Step d = Not (d .answer) × i .Holds (d .left)
+
+    refused-stays : (r : Run) → i .Holds r → (k : ℕ) → Other k → Step (answered (refused k) r)
+    refused-stays r h k o = (not-refused k (other k o), h)
+
+    stays : (z : Sizes) (c : Call) (s : Store) → i .Holds (s .run) → Not (callOn z m c s .answer) × i .Holds (callOn z m c s .left .run)
+    unfolding callOn
+    stays z Check s h = (accepted-by (sizes z) refl, h)
+    stays z Start s h =
+        start-cases m (s .run) Step (refused-stays (s .run) h)
+        (λ k long e. (accepted-by (rounds k) refl, i .started (s .run) k long e))
+    stays z (Fire t) s h =
+        fire-cases m (s .run) Step (refused-stays (s .run) h) (λ e. (not-refused 20 (i .stale (s .run) h e), h)) t
+        (λ below held free k e. (accepted-by (rounds k) refl, i .fired t (s .run) h below free k e))
+    stays z Undo s h =
+        undo-cases m (s .run) Step (refused-stays (s .run) h) (λ e. (not-refused 20 (i .stale (s .run) h e), h))
+        (λ f e. (not-refused 31 (i .stuck (s .run) h f e), h))
+        (λ held f values e. (accepted-by done refl, i .undone (s .run) h f values e))
+    stays z Marks s h = (
+      marks-cases m (s .run) (s .marks) (λ d. Not (d .answer)) (λ k o. not-refused k (other k o))
+          (λ e. not-refused 20 (i .stale (s .run) h e)) (accepted-by done refl),
+      h,
+    )
+    stays z (Value x) s h = (
+      value-cases m (s .run) x Not (λ k o. not-refused k (other k o)) (λ e. not-refused 20 (i .stale (s .run) h e))
+          (accepted-by (number _) refl),
+      h,
+    )
+
+    begins : (r : Run) (count : ℕ) → start m r .answer ≡ rounds count → i .Holds (start m r .left)
+    begins r count =
+        start-cases m r (λ d. d .answer ≡ rounds count → i .Holds (d .left))
+        (λ k o e. clash (cc))
+        (λ k long e p. i .started r k long e)
+
+    never : (file : List ℕ) (z : Sizes) → ((c : Call) (s : Store) → call file c s ≡ callOn z m c s) → {cs : List Call} {s : Store} {rs : List (Done Store)}
+        → Performed file cs s rs → i .Holds (s .run) → NoneIs n rs × i .Holds (lastLeft s rs .run)
+    unfolding NoneIs lastLeft
+    never file z e nothing h = (tt, h)
+    never file z e (next {c = c} {s = s} {d = d} p rest) h =
+        let k : Not (d .answer) × i .Holds (d .left .run) = rw (p ∙ e c s) (stays z c s h) in
+        let r = never file z e rest (k .1) in
+        ((k .0, r .0), r .1)
+
+    not-fireable : (values : List ℤ) (p : Picked) → Fireable m values p → p ≡ Refused n → ⊥
+    unfolding Fireable
+    not-fireable values (Refused k) f e = f
+    not-fireable values (Transition t) f e = clash (cc)
+    not-fireable values Nothing f e = clash (cc)
+
+    -- nor does pick answer it
+    picks : (r : Run) → i .Holds r → (p : Picked) → PickedFrom m r p → p ≡ Refused n → ⊥
+    unfolding PickedFrom
+    picks r h p q e = go (tooShort m (r .values)) (holds m r) refl refl q
+      where
+        go : (a b : Bool) → tooShort m (r .values) ≡ a → holds m r ≡ b
+            → cond a (p ≡ Refused 9) (cond (not b) (p ≡ Refused 20) (Fireable m (r .values) p)) → ⊥
+        go true b x y w = other 9 (omega arith) (let z : 9 ≡ n = cc in z)
+        go false false x y w = i .stale r h y (let z : 20 ≡ n = cc in z)
+        go false true x y w = not-fireable (r .values) p w e
+
+  pub never-after-start : ((file : List ℕ) → Bytes file → (z : Sizes) (t : System) → verdict file ≡ accepted z t → Invariant n (meaningOf t))
+      → NeverAfterStart n
+  unfolding callBy callOn PickedBy
+  never-after-start invariant file b s d count promised started cs rs performed = go (verdict file) refl
+    where
+      go : (v : Verdict) → verdict file ≡ v
+          → NoneIs n rs × ((p : Picked) → PickedBy (verdict file) (lastLeft (d .left) rs .run) p → p ≡ Refused n → ⊥)
+      go (refusal k) e = clash (let q : refused k ≡ rounds count = rw e at (ap (λ x. x .answer) (sym promised) ∙ started) in cc)
+      go (accepted z t) e =
+          let i : Invariant n (meaningOf t) = invariant file b z t e in
+          let h : i .Holds (d .left .run) =
+          rw (promised, e) (begins (meaningOf t) i (s .run) count (rw e at (ap (λ x. x .answer) (sym promised) ∙ started))) in
+          let k = never (meaningOf t) i file z (λ c x. rw e) performed h in
+          (k .0, λ p q. picks (meaningOf t) i (lastLeft (d .left) rs .run) (k .1) p (rw e at q))

@@ -1,0 +1,87 @@
+-- Lists of calls on one store. 01: "In a list of demand 3 each model has one set of all that is lent beside it [..], one thing for each
+-- use. Every call takes what it uses of this as the calls before, refused or not, left it".
+use mathlib.Core.Path.{_≡_}
+use mathlib.Core.List.{List, [], _∷_}
+use Prim.Native.Nat.{ℕ, suc, _≤_}
+use Rattle.model.specs.declared.Sizes.{Sizes}
+use Rattle.model.specs.Check.{Verdict, verdict}
+use Rattle.model.specs.Check.Verdict.{refusal, accepted}
+use Rattle.engine.specs.Meanings.{Meaning, meaningOf}
+use Rattle.run.specs.declared.Call.{Call}
+use Rattle.run.specs.declared.Call.the-variants.{Check, Start, Fire, Undo, Marks, Value}
+use Rattle.run.specs.Runs.{Run, Store, Answer, Done, answered, withRun, withMarks}
+use Rattle.run.specs.Runs.Answer.{refused, rounds, done, number, sizes}
+use Rattle.run.specs.declared.Answer as answer
+use Rattle.run.specs.declared.Picked.{Picked}
+use Rattle.run.specs.Calls as calls
+
+abbrev pub onRun : Store → Done Run → Done Store
+onRun s d = answered (d .answer) (withRun (d .left) s)
+
+abbrev pub onMarks : Store → Done (List ℕ) → Done Store
+onMarks s d = answered (d .answer) (withMarks (d .left) s)
+
+-- a call on an accepted model, placed into the store
+unfoldable pub callOn : Sizes → Meaning → Call → Store → Done Store
+callOn z m Check s = answered (sizes z) s
+callOn z m Start s = onRun s (calls.start m (s .run))
+callOn z m (Fire t) s = onRun s (calls.fire m t (s .run))
+callOn z m Undo s = onRun s (calls.undo m (s .run))
+callOn z m Marks s = onMarks s (calls.marks m (s .run) (s .marks))
+callOn z m (Value x) s = answered (calls.value m x (s .run)) s
+
+unfoldable pub callBy : Verdict → Call → Store → Done Store
+callBy (refusal n) c s = answered (refused n) s
+callBy (accepted z t) c s = callOn z (meaningOf t) c s
+
+-- a call on a model file
+abbrev pub call : List ℕ → Call → Store → Done Store
+call m c s = callBy (verdict m) c s
+
+-- the answer and the store after each call of a list
+unfoldable pub callsOf : List ℕ → List Call → Store → List (Done Store)
+callsOf m [] s = []
+callsOf m (c ∷ cs) s = call m c s ∷ callsOf m cs (call m c s .left)
+
+-- the code's answers, by 01's numbers and values
+unfoldable pub seen : answer.Answer → Answer
+seen (answer.the-variants.Refused n) = refused n
+seen (answer.the-variants.Rounds n) = rounds n
+seen answer.the-variants.Done = done
+seen (answer.the-variants.Number v) = number v
+seen (answer.the-variants.Sizes z) = sizes z
+
+-- a call over the meaning of a file's model and a thing that is lent; a refused file leaves it
+unfoldable pub onFile : {A : Type 0} → Verdict → (Meaning → Done A) → A → Done A
+onFile (refusal n) f a = answered (refused n) a
+onFile (accepted z t) f a = f (meaningOf t)
+
+-- the same where nothing that could change is lent
+unfoldable pub onFileAnswer : Verdict → (Meaning → Answer) → Answer
+onFileAnswer (refusal n) f = refused n
+onFileAnswer (accepted z t) f = f (meaningOf t)
+
+-- 01: "the round count is how many were made, that last one included, so it is at most F + 1"
+unfoldable pub CountBounded : Verdict → Answer → Type 0
+CountBounded (refusal n) a = Unit {0}
+CountBounded (accepted z t) a = (count : ℕ) → a ≡ rounds count → (1 ≤ count) × (count ≤ suc (z .flows))
+
+-- pick on a model file
+unfoldable pub PickedBy : Verdict → Run → Picked → Type 0
+PickedBy (refusal n) r p = p ≡ Picked.Refused n
+PickedBy (accepted z t) r p = calls.PickedFrom (meaningOf t) r p
+
+-- what `perform` promises of a call's answer and of all that it leaves
+abbrev pub Promise : List ℕ → Call → Store → Done Store → Type 0
+Promise m c s d = d ≡ call m c s
+
+-- as many results as calls, each one that the promise allows from what the result before left
+pub data Performed (m : List ℕ) : List Call → Store → List (Done Store) → Type 0 where
+  nothing : {s : Store} → Performed m [] s []
+  next : {c : Call} {cs : List Call} {s : Store} {d : Done Store} {ds : List (Done Store)}
+      → Promise m c s d → Performed m cs (d .left) ds → Performed m (c ∷ cs) s (d ∷ ds)
+
+-- the store that the last result left
+unfoldable pub lastLeft : Store → List (Done Store) → Store
+lastLeft s [] = s
+lastLeft s (d ∷ ds) = lastLeft (d .left) ds
