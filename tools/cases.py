@@ -1,8 +1,9 @@
 #!/usr/bin/env python3
 """cases.py VECTORS: writes the stored cases of the test programs, from the files of the folder VECTORS.
 
-check_cases: VECTORS/checks.txt and the edges below, to crates/check_cases/data/cases, and the expected output to
-crates/check_cases/stdout. The byte format is described in crates/check_cases/src/main.rt.
+check_cases: VECTORS/checks.txt and the edges below; call_cases: VECTORS/calls.txt and the extremes below; program_cases:
+VECTORS/programs.txt. The cases of NAME go to crates/NAME/data/cases and the expected output to crates/NAME/stdout. The byte format is
+described in crates/NAME/src/main.rt.
 """
 import os
 import sys
@@ -247,20 +248,222 @@ def edges():
     return cases
 
 
-def write(crate, cases):
+CALLS = {'check': 0, 'start': 1, 'fire': 2, 'back': 3, 'marks': 4, 'value': 5, 'pick': 6}
+FORMS = {'no': 0, 'ok': 1, 'done': 2, 'value': 3, 'sizes': 4, 'pick': 5, 'none': 6}
+
+
+def store_bytes(store):
+    values, history, _, marks = store
+    return b''.join(little(v, 4) for v in values) + bytes(history) + bytes(marks)
+
+
+def call_bytes(call, wanted, store):
+    """A call, as ('fire', 3), its wanted answer, as ('ok', 2), and the store afterwards."""
+    allowed = bytes(wanted[1:]) if wanted[0] == 'pick' else b''
+    if wanted[0] == 'sizes':
+        number = bytes(wanted[1:5]) + little(wanted[5], 2) + bytes(2)
+    elif wanted[0] in ('pick', 'done', 'none'):
+        number = bytes(8)
+    else:
+        number = little(wanted[1], 8)
+    argument = call[1] if len(call) == 2 else 0
+    header = bytes([CALLS[call[0]], FORMS[wanted[0]]]) + little(len(allowed), 2) + bytes(4)
+    return header + little(argument, 8) + number + little(store[2], 8) + allowed + store_bytes(store)
+
+
+def list_bytes(file, twin, store, calls):
+    """A list of calls on a model, its shuffled twin, from a store (values, history, n, marks)."""
+    lengths = [len(store[0]), len(store[1]), len(store[3]), len(calls)]
+    header = little(len(file), 4) + little(len(twin), 4) + b''.join(little(x, 2) for x in lengths) + bytes(8)
+    return header + little(store[2], 8) + file + twin + store_bytes(store) + b''.join(call_bytes(*c) for c in calls)
+
+
+def stored_calls(path):
+    """The lists of calls.txt, each with its number of calls."""
+    lists, part, calls = [], {}, []
+    with open(path) as lines:
+        for line in lines:
+            words = line.split()
+            if words[0] == 'call':
+                if not calls:
+                    begin = (part['values'], part['record'], part['n'], part['marks'])
+                calls.append([(words[1], *map(int, words[2:]))])
+            elif words[0] == 'want':
+                rest = [int(w) for w in words[2:]]
+                calls[-1].append((words[1], *(rest[1:] if words[1] == 'pick' else rest)))
+            elif words[0] == 'end':
+                lists.append((bytes(part['model']), bytes(part['twin']), begin, calls))
+                part, calls = {}, []
+            elif words[0] != 'same':
+                part[words[0]] = int(words[1]) if words[0] == 'n' else numbers(words)
+            if calls and words[0] in ('same', 'marks'):
+                calls[-1].append((part['values'], part['record'], part['n'], part['marks']))
+    return [(list_bytes(*each), len(each[3])) for each in lists]
+
+
+ASSIGN = [(17, 0), TRUE]
+TOGGLE = [(17, 0), (35, 0), (34, 0)]
+
+
+def block(branches):
+    return [(19, len(branches))] + [node for branch in branches for node in branch]
+
+
+def stepped(action, twin, rounds=1, assertion=[SKIP], other=[SKIP], flows=0, value=1):
+    """Start, marks, one step, another one, take back: the action, read as its twin, gives the state this value; every flow becomes 1."""
+    head, transition = (1 + flows) * [FLAG], [(5, 0), TRUE]
+    files = [model(1, flows, 1, 1, head + transition + a + b) for a, b in ((action, assertion), (twin, other))]
+    before, after, ones = [0], [value], flows * [1]
+    store = (3 * [7] if flows == 0 else (1 + flows) * [7], [9, 9], 77, [5, 6])
+    rest = store[0][1 + flows:]
+    calls = [
+        (('pick',), ('no', 20), store),
+        (('start',), ('ok', rounds), (before + ones + rest, [9, 9], 0, [5, 6])),
+        (('marks',), ('done',), (before + ones + rest, [9, 9], 0, [1, 6])),
+        (('fire', 0), ('ok', rounds), (after + ones + rest, [0, 9], 1, [1, 6])),
+        (('back',), ('done',), (before + ones + rest, [0, 9], 0, [1, 6])),
+        (('back',), ('no', 22), (before + ones + rest, [0, 9], 0, [1, 6])),
+    ]
+    return (list_bytes(files[0], files[1], store, calls), len(calls))
+
+
+def refused_step(number, action, twin):
+    """A step whose action is refused."""
+    nodes = [FLAG, (5, 0), TRUE]
+    files = [model(1, 0, 1, 1, nodes + each + [SKIP]) for each in (action, twin)]
+    store = ([0], [3], 0, [])
+    calls = [(('fire', 0), ('no', number), store), (('marks',), ('no', 10), store), (('pick',), ('pick', 0), store)]
+    return (list_bytes(files[0], files[1], store, calls), len(calls))
+
+
+def refused_start(number, assertion, twin):
+    """A start whose assertion over one flow is refused."""
+    files = [model(0, 1, 0, 0, [FLAG] + each) for each in (assertion, twin)]
+    store = ([5], [], 3, [])
+    calls = [(('start',), ('no', number), store), (('value', 0), ('no', 20), store)]
+    return (list_bytes(files[0], files[1], store, calls), len(calls))
+
+
+def guard_nest(guard, twin, mark):
+    """Marks, pick and a step of a transition with this guard; the state is toggled."""
+    files = [model(1, 0, 1, 1, [FLAG, (5, 0)] + each + TOGGLE + [SKIP]) for each in (guard, twin)]
+    store = ([1], [0], 0, [9])
+    marked = ([1], [0], 0, [mark])
+    answers = {0: ('no', 23), 1: ('ok', 1), 2: ('no', 24)}
+    after = ([0], [0], 1, [mark]) if mark == 1 else marked
+    calls = [
+        (('marks',), ('done',), marked),
+        (('pick',), ('pick', 0) if mark == 1 else ('none',), marked),
+        (('fire', 0), answers[mark], after),
+    ]
+    return (list_bytes(files[0], files[1], store, calls), len(calls))
+
+
+def long_history(places):
+    """Take back at the end of a history of so many steps, each of which toggles the state; and at two places before."""
+    file = model(1, 0, 1, 2, [FLAG] + [(5, 0), TRUE] + TOGGLE + [(5, 0), TRUE, SKIP] + [SKIP])
+    history = [0 if i % 3 else 1 for i in range(places)]
+    value = [sum(1 for t in history[:n] if t == 0) % 2 for n in range(places + 1)]
+    calls = [(('fire', 0), ('no', 21), ([1], history, places, [1, 0])), (('fire', 2), ('no', 11), ([1], history, places, [1, 0]))]
+    for n in (places - 1, places - 2, places - 3):
+        calls.append((('back',), ('done',), ([value[n]], history, n, [1, 0])))
+    return (list_bytes(file, file, ([1], history, places, [1, 0]), calls), len(calls))
+
+
+def largest_sizes():
+    """255 states, flows and transitions; each transition raises its state if the one before it is raised."""
+    states, flows = 255 * [FLAG], 255 * [FLAG]
+    actions = []
+    for t in range(255):
+        actions += [(5, 254), (34, t - 1) if t else TRUE, (17, t), TRUE]
+    nodes = states + flows + actions + block([[(17, 255 + i), (34, i)] for i in range(255)])
+    twin = states + flows + actions + block([[(17, 255 + i), (34, i)] for i in reversed(range(255))])
+    values, history, marks = 510 * [0] + [-7, 8], 300 * [254], [1] + 254 * [0] + [3, 4]
+    raised = lambda k: k * [1] + (255 - k) * [0]
+    after = lambda k: raised(k) + raised(k) + [-7, 8]
+    store = (510 * [-1] + [-7, 8], history, 2 ** 64 - 1, 255 * [9] + [3, 4])
+    calls = [(('start',), ('ok', 2), (values, history, 0, store[3])), (('marks',), ('done',), (values, history, 0, marks))]
+    for k in range(3):
+        history = history[:k] + [k] + history[k + 1:]
+        calls.append((('fire', k), ('ok', 2), (after(k + 1), history, k + 1, marks)))
+    calls.append((('fire', 254), ('no', 23), (after(3), history, 3, marks)))
+    marks = 4 * [1] + 251 * [0] + [3, 4]
+    calls.append((('marks',), ('done',), (after(3), history, 3, marks)))
+    calls.append((('pick',), ('pick', 0, 1, 2, 3), (after(3), history, 3, marks)))
+    calls.append((('value', 257), ('value', 1), (after(3), history, 3, marks)))
+    calls.append((('value', 510), ('no', 12), (after(3), history, 3, marks)))
+    calls.append((('back',), ('done',), (after(2), history, 2, marks)))
+    calls.append((('check',), ('sizes', 255, 255, 255, 255, len(nodes)), (after(2), history, 2, marks)))
+    return (list_bytes(model(255, 255, 255, 255, nodes), model(255, 255, 255, 255, twin), store, calls), len(calls))
+
+
+def extremes():
+    """Lists on models at the limits: one block of nearly 4,000 branches, nestings of depth 32, 256 rounds, the largest sizes."""
+    skips = [[SKIP]]
+    chain = [[(17, 1 + i)] + 10 * [(35, 0)] + ([(34, 2 + i)] if i < 254 else [TRUE]) for i in range(255)]
+    blocks, conditions = 30 * [(19, 1)], 30 * [(18, 0), TRUE]
+    minus = 30 * [(42, 0), (32, 1)] + [(32, 1)]
+    choice = 30 * [(46, 0), (34, 0), TRUE] + [(34, 0)]
+    both = 30 * [(36, 0), (34, 0)] + [TRUE]
+    crossed = 30 * [(36, 0)] + [TRUE] + 30 * [(34, 0)]
+    failed = [(38, 0), (32, 0), (44, 0), (32, 1), (32, 0)]
+    return [
+        stepped(block(3989 * skips + [ASSIGN]), block([ASSIGN] + 3989 * skips)),
+        stepped(block(1990 * [ASSIGN]), block(1990 * [ASSIGN])),
+        stepped(block(700 * [ASSIGN] + 800 * [[(19, 1)] + ASSIGN]), block(800 * [[(19, 1)] + ASSIGN] + 700 * [ASSIGN])),
+        stepped(ASSIGN, ASSIGN, 2, block(3985 * skips + [[(17, 1), TRUE]]), block([[(17, 1), TRUE]] + 3985 * skips), 1),
+        stepped(ASSIGN, ASSIGN, 2, block(1985 * [[(17, 1), TRUE]]), block(1985 * [[(17, 1), TRUE]]), 1),
+        refused_step(27, block(1989 * [ASSIGN] + [[(17, 0), (33, 0)]]), block([[(17, 0), (33, 0)]] + 1989 * [ASSIGN])),
+        refused_start(30, block(1989 * [ASSIGN] + [[(17, 0), (33, 0)]]), block([[(17, 0), (33, 0)]] + 1989 * [ASSIGN])),
+        stepped(ASSIGN, ASSIGN, 256, block(chain), block(chain[::-1]), 255),
+        stepped(blocks + ASSIGN, blocks + ASSIGN),
+        stepped(conditions + ASSIGN, conditions + ASSIGN),
+        stepped(ASSIGN, ASSIGN, 2, blocks + [(17, 1), TRUE], blocks + [(17, 1), TRUE], 1),
+        stepped(ASSIGN, ASSIGN, 2, conditions + [(17, 1), TRUE], conditions + [(17, 1), TRUE], 1),
+        stepped([(17, 0)] + 29 * [(35, 0)] + [(34, 0)], [(17, 0)] + 29 * [(35, 0)] + [(34, 0)]),
+        guard_nest([(38, 0)] + minus + [(32, 1)], [(38, 0), (32, 1)] + minus, 1),
+        guard_nest([(38, 0)] + minus + [(32, 0)], [(38, 0), (32, 0)] + minus, 0),
+        guard_nest(choice, choice, 1),
+        guard_nest(both, crossed, 1),
+        guard_nest(29 * [(37, 0), (33, 0)] + failed, 29 * [(37, 0)] + failed + 29 * [(33, 0)], 2),
+        long_history(512),
+        largest_sizes(),
+    ]
+
+
+def stored_programs(path):
+    """The cases of programs.txt: three lengths of four bytes, the model file, the input, the output."""
+    parts, cases = [], []
+    with open(path) as lines:
+        for line in lines:
+            parts.append(bytes(numbers(line.split())))
+            if len(parts) == 3:
+                cases.append(b''.join(little(len(part), 4) for part in parts) + b''.join(parts))
+                parts = []
+    return cases
+
+
+def write(crate, cases, output):
     folder = os.path.join(ROOT, 'crates', crate)
     os.makedirs(os.path.join(folder, 'data'), exist_ok=True)
     with open(os.path.join(folder, 'data', 'cases'), 'wb') as file:
         file.write(b''.join(cases))
     with open(os.path.join(folder, 'stdout'), 'w') as file:
-        file.write(f'{len(cases)} cases, 0 differ\n')
-    print(f'{crate}: {len(cases)} cases, {sum(map(len, cases))} bytes')
+        file.write(output + '\n')
+    print(f'{crate}: {output}, {sum(map(len, cases))} bytes')
 
 
 def main():
     if len(sys.argv) != 2:
         sys.exit(__doc__)
-    write('check_cases', stored_checks(os.path.join(sys.argv[1], 'checks.txt')) + edges())
+    vectors = lambda name: os.path.join(sys.argv[1], name)
+    checks = stored_checks(vectors('checks.txt')) + edges()
+    write('check_cases', checks, f'{len(checks)} cases, 0 differ')
+    lists = stored_calls(vectors('calls.txt')) + extremes()
+    calls = sum(number for _, number in lists)
+    write('call_cases', [each for each, _ in lists], f'{len(lists)} lists, {2 * calls} calls, 0 differ')
+    programs = stored_programs(vectors('programs.txt'))
+    write('program_cases', programs, f'{len(programs)} programs, 0 differ')
 
 
 main()

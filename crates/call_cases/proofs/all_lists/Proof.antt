@@ -1,0 +1,79 @@
+-- The turns fall, and the buffers keep their lengths.
+use borrow.Author.Needs.{needs}
+use mathlib.Core.Path.{_≡_}
+use lib.ListN.{length}
+use Rattle.call_cases.proofs.all_lists.Statement.{statement}
+use Rattle.call_cases.proofs.all_lists.Tie as tie
+
+abbrev Inv-loop : tie.InvT-loop
+Inv-loop fd of-twin model₀ twin₀ body₀ tally₀ turns₀ model twin body tally turns = (length model ≡ length model₀) × (length twin ≡ length twin₀) × (length body ≡ length body₀)
+
+abbrev μ-loop : tie.MeasureT-loop
+μ-loop fd of-twin model₀ twin₀ body₀ tally₀ turns₀ model twin body tally turns = turns
+
+loop-holds : tie.Need-loop-holds Inv-loop μ-loop
+loop-holds c = search needs
+
+sub-turns : tie.Need-sub-turns Inv-loop μ-loop
+sub-turns c = search needs
+
+next-list-requires : tie.Need-next-list-requires Inv-loop μ-loop
+next-list-requires c κs = search needs
+
+enum-told : tie.Need-enum-told Inv-loop μ-loop
+enum-told c = search needs
+
+same-length : tie.Need-same-length Inv-loop μ-loop
+same-length c = search needs
+
+same-length-2 : tie.Need-same-length-2 Inv-loop μ-loop
+same-length-2 c = search needs
+
+same-length-3 : tie.Need-same-length-3 Inv-loop μ-loop
+same-length-3 c = search needs
+
+returns : tie.Need-returns Inv-loop μ-loop
+returns c = search needs
+
+enum-known-next : tie.Need-enum-known-next Inv-loop μ-loop
+enum-known-next c = search needs
+
+loop-less : tie.Need-loop-less Inv-loop μ-loop
+loop-less c = search needs
+
+loop-again : tie.Need-loop-again Inv-loop μ-loop
+loop-again c = search needs
+
+same-length-4 : tie.Need-same-length-4 Inv-loop μ-loop
+same-length-4 c = search needs
+
+same-length-5 : tie.Need-same-length-5 Inv-loop μ-loop
+same-length-5 c = search needs
+
+same-length-6 : tie.Need-same-length-6 Inv-loop μ-loop
+same-length-6 c = search needs
+
+returns-2 : tie.Need-returns-2 Inv-loop μ-loop
+returns-2 c = search needs
+
+pub all-lists-spec : {M : Type 1} → statement M
+all-lists-spec =
+    tie.close
+    (tie.spec
+    Inv-loop
+    μ-loop
+    loop-holds
+    sub-turns
+    next-list-requires
+    enum-told
+    same-length
+    same-length-2
+    same-length-3
+    returns
+    enum-known-next
+    loop-less
+    loop-again
+    same-length-4
+    same-length-5
+    same-length-6
+    returns-2)

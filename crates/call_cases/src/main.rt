@@ -1,0 +1,550 @@
+// Carries out the stored lists of calls of data/cases on runs, and compares every answer and every cell lent after every call with those
+// stored: once with the model of each list, once with its shuffled twin, each from the stored beginning.
+//
+// A list is a header of 32 bytes, the model file, the twin, the store at the beginning, and then its calls. Numbers stand low byte
+// first. The header: the lengths of the model and of the twin (four bytes each), of the values, the history and the marks, and the
+// number of calls (two bytes each), eight bytes of 0, and n (eight bytes). A store: the values (four bytes each), the history, the marks.
+//
+// A call is a header of 32 bytes, the transitions that pick may answer (a byte each), and the store afterwards. The header: the call (0
+// check, 1 start, 2 fire, 3 undo, 4 marks, 5 value, 6 pick), the form of its answer (0 refused, 1 a round count, 2 done, 3 a value, 4 the
+// five sizes, 5 one of the transitions, 6 nothing), how many transitions pick may answer (two bytes), four bytes of 0, then eight bytes
+// each: the transition or variable, the answer's number (the sizes are S, F, E, T in a byte each and N in two), and n afterwards.
+ghost use Prim.Native.Nat.{_+_, _*_, _≤_, _<_};
+ghost use mathlib.Core.Path.{_≡_};
+ghost use lib.ListN.{length};
+use libc::STDOUT_FILENO;
+use model::Sizes;
+use run::Answer;
+use run::Call;
+use run::Picked;
+
+// How many lists and calls were carried out, and how many calls differed.
+struct Tally {
+    lists: u64,
+    calls: u64,
+    differing: u64,
+}
+
+// What a list comes to: the end of the file, or the tally with it.
+enum Outcome {
+    End,
+    Counted(Tally),
+}
+
+// What a call comes to: the end of the file, or whether all is as stored.
+enum Compared {
+    End,
+    Equal(bool),
+}
+
+fn wide(byte: u8) -> usize
+    ensures { λ r. ⌜ r < 256 ⌝ }
+{
+    byte as usize
+}
+
+// The number in two bytes of a header.
+fn two(head: &[u8; 32], at: usize) -> usize
+    requires { ⌜ at < 31 ⌝ }
+    ensures { λ r. ⌜ r < 65536 ⌝ }
+{
+    wide(head[at]) + 256 * wide(head[at + 1])
+}
+
+// The number in four bytes of a header.
+fn four(head: &[u8; 32], at: usize) -> usize
+    requires { ⌜ at < 29 ⌝ }
+    ensures { λ r. ⌜ r < 4294967296 ⌝ }
+{
+    two(head, at) + 65536 * two(head, at + 2)
+}
+
+// The number in eight bytes of a header.
+fn eight(head: &[u8; 32], at: usize) -> usize
+    requires { ⌜ at < 25 ⌝ }
+{
+    four(head, at) + 4294967296 * four(head, at + 4)
+}
+
+// The signed number of four bytes.
+fn signed(number: usize) -> i32
+    requires { ⌜ number < 4294967296 ⌝ }
+{
+    if number < 2147483648 {
+        number as i32
+    } else {
+        !((4294967295 - number) as i32)
+    }
+}
+
+// The signed number in four bytes of a store.
+fn value_at(b: &[u8], at: usize) -> i32
+    requires { ⌜ at + 4 ≤ length (now b) ⌝ }
+{
+    let low = wide(b[at]) + 256 * wide(b[at + 1]);
+    let high = wide(b[at + 2]) + 256 * wide(b[at + 3]);
+    signed(low + 65536 * high)
+}
+
+fn load_values(b: &[u8], values: &mut [i32])
+    requires { ⌜ 4 * length (now values) ≤ length (now b) ⌝ }
+{
+    let mut i = 0;
+    while i < values.len() {
+        values[i] = value_at(b, 4 * i);
+        i += 1;
+    }
+}
+
+fn load_bytes(b: &[u8], bytes: &mut [u8])
+    requires { ⌜ length (now bytes) ≤ length (now b) ⌝ }
+{
+    let mut i = 0;
+    while i < bytes.len() {
+        bytes[i] = b[i];
+        i += 1;
+    }
+}
+
+// Are the values those of a store?
+fn is_same_values(b: &[u8], values: &[i32]) -> bool
+    requires { ⌜ 4 * length (now values) ≤ length (now b) ⌝ }
+{
+    let mut i = 0;
+    while i < values.len() {
+        if value_at(b, 4 * i) != values[i] {
+            return false;
+        }
+        i += 1;
+    }
+    true
+}
+
+// Are these bytes those at the beginning of b?
+fn is_same_bytes(b: &[u8], bytes: &[u8]) -> bool
+    requires { ⌜ length (now bytes) ≤ length (now b) ⌝ }
+{
+    let mut i = 0;
+    while i < bytes.len() {
+        if b[i] != bytes[i] {
+            return false;
+        }
+        i += 1;
+    }
+    true
+}
+
+// Is the transition one of these?
+fn is_among(transition: usize, allowed: &[u8]) -> bool {
+    let mut i = 0;
+    while i < allowed.len() {
+        if wide(allowed[i]) == transition {
+            return true;
+        }
+        i += 1;
+    }
+    false
+}
+
+// How many bytes a store has.
+fn store_length(values: usize, history: usize, marks: usize) -> usize
+    requires { ⌜ (values < 65536) × ((history < 65536) × (marks < 65536)) ⌝ }
+    ensures { λ r. ⌜ r ≡ 4 * values + history + marks ⌝ }
+{
+    4 * values + history + marks
+}
+
+// Is everything lent as in a store? A store of another length is another.
+fn is_same_store(b: &[u8], values: &[i32], history: &[u8], marks: &[u8]) -> bool {
+    if 65535 < values.len() {
+        return false;
+    }
+    let first = 4 * values.len();
+    if b.len() < first {
+        return false;
+    }
+    let rest = b.len() - first;
+    if rest < history.len() {
+        return false;
+    }
+    if rest - history.len() != marks.len() {
+        return false;
+    }
+    let second = first + history.len();
+    if !is_same_values(&b[0..first], values) {
+        return false;
+    }
+    if !is_same_bytes(&b[first..second], history) {
+        return false;
+    }
+    is_same_bytes(&b[second..], marks)
+}
+
+// Is the wanted answer of this form, with this number?
+fn is_number(head: &[u8; 32], form: u8, number: usize) -> bool {
+    if head[1] != form {
+        return false;
+    }
+    eight(head, 16) == number
+}
+
+fn is_value(head: &[u8; 32], value: i32) -> bool {
+    if head[1] != 3 {
+        return false;
+    }
+    signed(four(head, 16)) == value
+}
+
+fn is_sizes(head: &[u8; 32], sizes: Sizes) -> bool {
+    if head[1] != 4 {
+        return false;
+    }
+    if sizes.states != wide(head[16]) {
+        return false;
+    }
+    if sizes.flows != wide(head[17]) {
+        return false;
+    }
+    if sizes.events != wide(head[18]) {
+        return false;
+    }
+    if sizes.transitions != wide(head[19]) {
+        return false;
+    }
+    sizes.nodes == two(head, 20)
+}
+
+fn is_answer(head: &[u8; 32], answer: Answer) -> bool {
+    match answer {
+        Answer::Refused(number) => is_number(head, 0, wide(number)),
+        Answer::Rounds(count) => is_number(head, 1, count),
+        Answer::Done => is_number(head, 2, 0),
+        Answer::Number(value) => is_value(head, value),
+        Answer::Sizes(sizes) => is_sizes(head, sizes),
+    }
+}
+
+fn is_picked(head: &[u8; 32], allowed: &[u8], picked: Picked) -> bool {
+    match picked {
+        Picked::Refused(number) => is_number(head, 0, wide(number)),
+        Picked::Transition(transition) => {
+            if head[1] == 5 {
+                is_among(transition, allowed)
+            } else {
+                false
+            }
+        }
+        Picked::Nothing => is_number(head, 6, 0),
+    }
+}
+
+// The stored call, pick excepted.
+fn call_of(head: &[u8; 32]) -> Call {
+    let call = head[0];
+    let number = eight(head, 8);
+    match call {
+        1 => Call::Start,
+        2 => Call::Fire(number),
+        3 => Call::Undo,
+        4 => Call::Marks,
+        5 => Call::Value(number),
+        _ => Call::Check,
+    }
+}
+
+// Carries out a call; is its answer the stored one?
+fn is_answered(
+    head: &[u8; 32],
+    allowed: &[u8],
+    model: &[u8],
+    values: &mut [i32],
+    history: &mut [u8],
+    n: &mut usize,
+    marks: &mut [u8],
+) -> bool {
+    if head[0] == 6 {
+        let count = *n;
+        return is_picked(head, allowed, run::pick(model, values, history, count));
+    }
+    is_answer(
+        head,
+        run::perform(call_of(head), model, values, history, n, marks),
+    )
+}
+
+// Carries out a call; are its answer and everything lent as stored?
+fn is_equal(
+    head: &[u8; 32],
+    body: &[u8],
+    model: &[u8],
+    values: &mut [i32],
+    history: &mut [u8],
+    n: &mut usize,
+    marks: &mut [u8],
+) -> bool {
+    let past = two(head, 2);
+    if body.len() < past {
+        return false;
+    }
+    let answered = is_answered(head, &body[0..past], model, values, history, n, marks);
+    let count = *n;
+    if count != eight(head, 24) {
+        return false;
+    }
+    if !is_same_store(&body[past..], values, history, marks) {
+        return false;
+    }
+    answered
+}
+
+// Reads a call and carries it out.
+fn next_call(
+    fd: i32,
+    store: usize,
+    body: &mut [u8],
+    model: &[u8],
+    values: &mut [i32],
+    history: &mut [u8],
+    n: &mut usize,
+    marks: &mut [u8],
+) -> Compared
+    requires { ⌜ store < 1000000 ⌝ }
+{
+    let mut head = [0u8; 32];
+    let read = io::read_full(fd, &mut head);
+    if read < 32 {
+        return Compared::End;
+    }
+    let bytes = two(&head, 2) + store;
+    if body.len() < bytes {
+        return Compared::End;
+    }
+    let filled = io::read_full(fd, &mut body[0..bytes]);
+    if filled < bytes {
+        return Compared::End;
+    }
+    Compared::Equal(is_equal(&head, &body[0..bytes], model, values, history, n, marks))
+}
+
+// The tally with one call more; a call that differs is told.
+fn counted(tally: Tally, is_same: bool) -> Tally {
+    let calls = std::num::wrapping_add_u64(tally.calls, 1);
+    if is_same {
+        return Tally {
+            lists: tally.lists,
+            calls,
+            differing: tally.differing,
+        };
+    }
+    io::write_all(STDOUT_FILENO, b"list ");
+    io::print_decimal(STDOUT_FILENO, tally.lists);
+    io::write_all(STDOUT_FILENO, b", call ");
+    io::print_decimal(STDOUT_FILENO, calls);
+    io::write_all(STDOUT_FILENO, b" differs\n");
+    Tally {
+        lists: tally.lists,
+        calls,
+        differing: std::num::wrapping_add_u64(tally.differing, 1),
+    }
+}
+
+// All calls of a list, on one run.
+fn all_calls(
+    fd: i32,
+    count: usize,
+    first: usize,
+    store: usize,
+    body: &mut [u8],
+    model: &[u8],
+    values: &mut [i32],
+    history: &mut [u8],
+    marks: &mut [u8],
+    before: Tally,
+) -> Outcome
+    requires { ⌜ store < 1000000 ⌝ }
+{
+    let mut n = first;
+    let mut tally = before;
+    let mut left = count;
+    while 0 < left {
+        left -= 1;
+        match next_call(fd, store, body, model, values, history, &mut n, marks) {
+            Compared::End => return Outcome::End,
+            Compared::Equal(is_same) => tally = counted(tally, is_same),
+        }
+    }
+    Outcome::Counted(tally)
+}
+
+// The values, the history and the marks of a store.
+fn load(b: &[u8], values: &mut [i32], history: &mut [u8], marks: &mut [u8])
+    requires { ⌜ 4 * length (now values) + length (now history) + length (now marks) ≤ length (now b) ⌝ }
+{
+    let first = 4 * values.len();
+    let second = first + history.len();
+    load_values(&b[0..first], values);
+    load_bytes(&b[first..second], history);
+    load_bytes(&b[second..], marks);
+}
+
+// A list: reads the store at the beginning into what is lent, and carries out the calls.
+fn from_beginning(
+    fd: i32,
+    count: usize,
+    n: usize,
+    body: &mut [u8],
+    model: &[u8],
+    values: &mut [i32],
+    history: &mut [u8],
+    marks: &mut [u8],
+    tally: Tally,
+) -> Outcome
+    requires { ⌜ (length (now values) ≤ 512) × ((length (now history) ≤ 512) × (length (now marks) ≤ 512)) ⌝ }
+{
+    let store = store_length(values.len(), history.len(), marks.len());
+    if body.len() < store {
+        return Outcome::End;
+    }
+    let filled = io::read_full(fd, &mut body[0..store]);
+    if filled < store {
+        return Outcome::End;
+    }
+    load(body, values, history, marks);
+    all_calls(
+        fd,
+        count,
+        n,
+        store,
+        body,
+        model,
+        values,
+        history,
+        marks,
+        tally,
+    )
+}
+
+// A list on a run that is made of parts of local arrays, with the stored lengths.
+fn one_list(fd: i32, head: &[u8; 32], model: &[u8], body: &mut [u8], tally: Tally) -> Outcome {
+    let variables = two(head, 8);
+    let places = two(head, 10);
+    let transitions = two(head, 12);
+    if 512 < variables {
+        return Outcome::End;
+    }
+    if 512 < places {
+        return Outcome::End;
+    }
+    if 512 < transitions {
+        return Outcome::End;
+    }
+    let mut values = [0i32; 512];
+    let mut history = [0u8; 512];
+    let mut marks = [0u8; 512];
+    from_beginning(
+        fd,
+        two(head, 14),
+        eight(head, 24),
+        body,
+        model,
+        &mut values[0..variables],
+        &mut history[0..places],
+        &mut marks[0..transitions],
+        tally,
+    )
+}
+
+// The tally with one list more.
+fn begun(tally: Tally) -> Tally {
+    Tally {
+        lists: std::num::wrapping_add_u64(tally.lists, 1),
+        calls: tally.calls,
+        differing: tally.differing,
+    }
+}
+
+// Reads a list and carries it out on its model, or on its twin.
+fn next_list(
+    fd: i32,
+    of_twin: bool,
+    model: &mut [u8],
+    twin: &mut [u8],
+    body: &mut [u8],
+    tally: Tally,
+) -> Outcome {
+    let mut head = [0u8; 32];
+    let read = io::read_full(fd, &mut head);
+    if read < 32 {
+        return Outcome::End;
+    }
+    let first = four(&head, 0);
+    let second = four(&head, 4);
+    if model.len() < first {
+        return Outcome::End;
+    }
+    if twin.len() < second {
+        return Outcome::End;
+    }
+    let filled = io::read_full(fd, &mut model[0..first]);
+    if filled < first {
+        return Outcome::End;
+    }
+    let filled = io::read_full(fd, &mut twin[0..second]);
+    if filled < second {
+        return Outcome::End;
+    }
+    if of_twin {
+        one_list(fd, &head, &twin[0..second], body, begun(tally))
+    } else {
+        one_list(fd, &head, &model[0..first], body, begun(tally))
+    }
+}
+
+// All lists of the file. The turns fall, so the loop ends whatever the file holds.
+fn all_lists(fd: i32, of_twin: bool, model: &mut [u8], twin: &mut [u8], body: &mut [u8]) -> Tally {
+    let mut tally = Tally {
+        lists: 0,
+        calls: 0,
+        differing: 0,
+    };
+    let mut turns: u64 = 1000000;
+    while 0 < turns {
+        turns -= 1;
+        match next_list(fd, of_twin, model, twin, body, tally) {
+            Outcome::End => return tally,
+            Outcome::Counted(next) => tally = next,
+        }
+    }
+    tally
+}
+
+// All lists of data/cases, on the models or on their twins.
+fn carried_out(of_twin: bool) -> Tally {
+    let fd = os::open_read(b"cases");
+    if fd < 0 {
+        os::fail(b"cases");
+    }
+    let mut model = [0u8; 24576];
+    let mut twin = [0u8; 24576];
+    let mut body = [0u8; 4096];
+    let tally = all_lists(fd, of_twin, &mut model, &mut twin, &mut body);
+    libc::close(fd);
+    tally
+}
+
+fn main() {
+    let models = carried_out(false);
+    let twins = carried_out(true);
+    io::print_decimal(STDOUT_FILENO, models.lists);
+    io::write_all(STDOUT_FILENO, b" lists, ");
+    io::print_decimal(
+        STDOUT_FILENO,
+        std::num::wrapping_add_u64(models.calls, twins.calls),
+    );
+    io::write_all(STDOUT_FILENO, b" calls, ");
+    io::print_decimal(
+        STDOUT_FILENO,
+        std::num::wrapping_add_u64(models.differing, twins.differing),
+    );
+    io::write_all(STDOUT_FILENO, b" differ\n");
+}

@@ -1,0 +1,113 @@
+-- The turns fall, and the buffer and everything lent keep their lengths.
+use borrow.Author.Needs.{needs}
+use native.Mathlib.Omega.{arith}
+use mathlib.Core.Path.{_≡_}
+use lib.ListN.{length}
+use Rattle.gtsrun.proofs.answer_all.Statement.{statement}
+use Rattle.gtsrun.proofs.answer_all.Tie as tie
+
+abbrev Inv-loop : tie.InvT-loop
+Inv-loop model values₀ history₀ n₀ marks₀ out₀ part₀ line₀ turns₀ values history n marks out part line turns =
+    (length values ≡ length values₀) × (length history ≡ length history₀) × (length marks ≡ length marks₀) × (length out ≡ length out₀) × (4096 ≡ length part)
+
+abbrev μ-loop : tie.MeasureT-loop
+μ-loop model values₀ history₀ n₀ marks₀ out₀ part₀ line₀ turns₀ values history n marks out part line turns = turns
+
+empty-requires : tie.Need-empty-requires Inv-loop μ-loop
+empty-requires c κs = search needs
+
+loop-holds : tie.Need-loop-holds Inv-loop μ-loop
+loop-holds c = search needs
+
+sub-turns : tie.Need-sub-turns Inv-loop μ-loop
+sub-turns c = search needs
+
+slice-aggregate-read : tie.Need-slice-aggregate-read Inv-loop μ-loop
+slice-aggregate-read c = search needs
+
+read-requires : tie.Need-read-requires Inv-loop μ-loop
+read-requires c κs = search needs
+
+slice-aggregate-count : tie.Need-slice-aggregate-count Inv-loop μ-loop
+slice-aggregate-count c = search needs
+
+count-requires : tie.Need-count-requires Inv-loop μ-loop
+count-requires c κs = search needs
+
+sub-answer-part : tie.Need-sub-answer-part Inv-loop μ-loop
+sub-answer-part c = search needs
+
+part-answer-part-start : tie.Need-part-answer-part-start Inv-loop μ-loop
+part-answer-part-start c = search needs
+
+part-answer-part-end : tie.Need-part-answer-part-end Inv-loop μ-loop
+part-answer-part-end c = search needs
+
+answer-part-requires : tie.Need-answer-part-requires Inv-loop μ-loop
+answer-part-requires c κs = (omega arith, omega arith)
+
+loop-less : tie.Need-loop-less Inv-loop μ-loop
+loop-less c = search needs
+
+loop-again : tie.Need-loop-again Inv-loop μ-loop
+loop-again c = search needs
+
+close-requires : tie.Need-close-requires Inv-loop μ-loop
+close-requires c κs = (omega arith, omega arith)
+
+sub-write-all : tie.Need-sub-write-all Inv-loop μ-loop
+sub-write-all c = search needs
+
+part-write-all-start : tie.Need-part-write-all-start Inv-loop μ-loop
+part-write-all-start c = search needs
+
+part-write-all-end : tie.Need-part-write-all-end Inv-loop μ-loop
+part-write-all-end c = search needs
+
+write-all-requires : tie.Need-write-all-requires Inv-loop μ-loop
+write-all-requires c κs = search needs
+
+same-length : tie.Need-same-length Inv-loop μ-loop
+same-length c = search needs
+
+same-length-2 : tie.Need-same-length-2 Inv-loop μ-loop
+same-length-2 c = search needs
+
+same-length-3 : tie.Need-same-length-3 Inv-loop μ-loop
+same-length-3 c = search needs
+
+same-length-4 : tie.Need-same-length-4 Inv-loop μ-loop
+same-length-4 c = search needs
+
+returns : tie.Need-returns Inv-loop μ-loop
+returns c = search needs
+
+pub answer-all-spec : {M : Type 1} → statement M
+answer-all-spec =
+    tie.close
+    (tie.spec
+    Inv-loop
+    μ-loop
+    empty-requires
+    loop-holds
+    sub-turns
+    slice-aggregate-read
+    read-requires
+    slice-aggregate-count
+    count-requires
+    sub-answer-part
+    part-answer-part-start
+    part-answer-part-end
+    answer-part-requires
+    loop-less
+    loop-again
+    close-requires
+    sub-write-all
+    part-write-all-start
+    part-write-all-end
+    write-all-requires
+    same-length
+    same-length-2
+    same-length-3
+    same-length-4
+    returns)
