@@ -14,9 +14,9 @@ ghost use mathlib.Core.Path.{_≡_};
 ghost use lib.ListN.{length};
 use libc::STDOUT_FILENO;
 use model::Sizes;
-use run::Answer;
 use run::Call;
 use run::Picked;
+use steps::Answer;
 
 // How many lists and calls were carried out, and how many calls differed.
 struct Tally {

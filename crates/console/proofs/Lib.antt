@@ -2,10 +2,7 @@
 pub mod Decimal
 pub mod Room
 pub mod Commands
-pub mod Files
 pub mod Placing
 pub mod Signed
 pub mod Fields
 pub mod Lines
-pub mod Sessions
-pub mod Bytewise

@@ -76,6 +76,9 @@ module _ (size width number : ℕ) where
   pub short-of-header : size < 24 → true ≡ ltb size (room width number)
   short-of-header h = sym (lt-ltb size (room width number) (omega arith))
 
+  pub enough-for-none : 24 ≤ size → width ≡ 0 → false ≡ ltb size (room width number)
+  enough-for-none h w = sym (le-ltb size (room width number) (rw w (omega arith)))
+
   pub short-of-numbers : 24 ≤ size → 0 < width → ltb ((size - 24) / width) number ≡ ltb size (room width number)
   short-of-numbers h w = by (ltb ((size - 24) / width) number) refl
     where

@@ -6,15 +6,9 @@ use Prim.Native.Nat.{ℕ, _≤_, _<_, _^_}
 use lib.IntN.{ℤ, pos}
 use lib.ListN.{length, take, getD}
 use Rattle.evaluation.specs.Numbers.{representable}
-use Rattle.model.specs.declared.Sizes.{Sizes}
-use Rattle.model.specs.Trees.{System}
-use Rattle.model.specs.Check.{verdict}
-use Rattle.model.specs.Check.Verdict.{accepted}
 use Rattle.model.specs.Theorems.{Bytes}
 use Rattle.console.specs.declared.Command.the-variants.{Unknown}
 use Rattle.console.specs.Commands.{commandOf, areDigits, valueOf}
-use Rattle.run.specs.Runs.{Store}
-use Rattle.console.specs.Sessions.{turns, replies, linesOf}
 use Rattle.console.specs.Lines.{decimal, okText, backText, marksText, refusalText, room, valueWidth, markWidth}
 
 -- a line of 6 or more bytes is no command, so the first 6 bytes tell a line's command
@@ -23,13 +17,6 @@ LongLineUnknown = (l : List ℕ) → 6 ≤ length l → commandOf l ≡ Unknown
 
 abbrev pub CommandOfFirst : Type 0
 CommandOfFirst = (l : List ℕ) → commandOf l ≡ commandOf (take 6 l)
-
--- no accepted file is longer than 6 + 5 * 4,000 bytes, so the first 20,007 bytes tell a file's check
-abbrev pub LongFileRefused : Type 0
-LongFileRefused = (m : List ℕ) → 20006 < length m → (s : Sizes) (t : System) → verdict m ≡ accepted s t → ⊥
-
-abbrev pub VerdictOfFirst : Type 0
-VerdictOfFirst = (m : List ℕ) → verdict m ≡ verdict (take 20007 m)
 
 -- `decimal` is right: digits that read as the number, with no zero in front but for 0 itself
 pub record IsDecimal (n : ℕ) (text : List ℕ) : Type 0 where
@@ -52,7 +39,3 @@ pub record LinesFit : Type 0 where
   pub back : (values : List ℤ) → Numbers values → length (backText values) ≤ room valueWidth (length values)
   pub marks : (marks : List ℕ) → Bytes marks → length (marksText marks) ≤ room markWidth (length marks)
   pub refusal : (number : ℕ) → number < 256 → length (refusalText number) ≤ room markWidth 0
-
--- taken byte by byte, six bytes of each line kept, an input is answered as its lines are
-abbrev pub AnsweredByLines : Type 0
-AnsweredByLines = (m input : List ℕ) (s : Store) → turns m input [] s ≡ replies m (linesOf input) s

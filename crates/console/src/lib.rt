@@ -1,7 +1,5 @@
 // The program's lines: a command read from a line of input, a line of output written, over lent slices.
 
-pub mod session; // session.rt: lines taken byte by byte, each answered
-
 ghost use mathlib.Core.Path.{_≡_};
 ghost use mathlib.Core.Bool.{cond};
 ghost use mathlib.Core.List.{[], _∷_, map};
@@ -25,30 +23,6 @@ pub enum Command {
 pub enum Written {
     Length(usize),
     TooShort,
-}
-
-// The first bytes of a line, as many as tell its command.
-pub struct Line {
-    pub bytes: [u8; 6],
-    pub length: usize,
-}
-
-// What a byte of input comes to: the line so far, and how many bytes are to be printed.
-pub struct Step {
-    pub line: Line,
-    pub length: usize,
-}
-
-// The start's line: is the run started, and how many bytes are to be printed.
-pub struct Opening {
-    pub is_started: bool,
-    pub length: usize,
-}
-
-// How many values and marks a model's run has, or the refusal of the model.
-pub enum Dimensions {
-    Refused(u8),
-    Known(usize, usize),
 }
 
 // The command of the digits after `f` and a space.
@@ -193,13 +167,15 @@ fn finish(out: &mut [u8], end: usize) -> Written
     Written::Length(end + 1)
 }
 
-// Is a slice of this length too short for a line with so many numbers?
-fn is_short(length: usize, width: usize, number: usize) -> bool
-    requires { ⌜ 0 < width ⌝ }
+// Is a slice of this length too short for a line with so many numbers of this width?
+pub fn is_short(length: usize, width: usize, number: usize) -> bool
     ensures { λ r. ⌜ r ≡ ltb length (room width number) ⌝ }
 {
     if length < 24 {
         return true;
+    }
+    if width == 0 {
+        return false;
     }
     (length - 24) / width < number
 }

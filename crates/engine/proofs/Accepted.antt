@@ -4,7 +4,7 @@ use native.Mathlib.Omega.{arith}
 use lib.ListN.{length}
 use Rattle.model.specs.Trees.{variables}
 use Rattle.model.proofs.CheckExact.{check-exact}
-use Rattle.engine.specs.Expressions.{knownFrom}
+use Rattle.interpreter.specs.Expressions.{knownFrom}
 use Rattle.engine.specs.Theorems.{RoundsBounded, RoundsEnd, SequentialAgrees}
 use Rattle.engine.proofs.Rounds.{rounds-bounded-tree, fuel-not-met, assertion-targets}
 use Rattle.engine.proofs.Sequential.{sequential-tree}

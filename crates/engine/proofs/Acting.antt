@@ -10,15 +10,16 @@ use Rattle.model.specs.Trees.{Instruction, variables}
 use Rattle.model.specs.WellFormed.{sizesOf}
 use Rattle.model.specs.Check.{actionScope}
 use Rattle.model.specs.Decoding.{InstructionAt}
-use Rattle.engine.specs.declared.Fault.{Fault}
+use Rattle.interpreter.specs.declared.Fault.{Fault}
 use Rattle.engine.specs.declared.Finding.{Finding}
 use Rattle.engine.specs.declared.Finding.the-variants.{Clear, Faulty}
-use Rattle.engine.specs.declared.Gathered.{Gathered}
-use Rattle.engine.specs.Expressions.{knownFrom, nothingKnown}
-use Rattle.engine.specs.Instructions.{effects, faultOf, givenTo, firstOf}
+use Rattle.interpreter.specs.declared.Gathered.{Gathered}
+use Rattle.interpreter.specs.Expressions.{knownFrom, nothingKnown}
+use Rattle.interpreter.specs.Instructions.{effects, faultOf, givenTo, firstOf}
 use Rattle.engine.specs.Actions.{cells, changed, actedBy, act}
-use Rattle.engine.specs.Gathering.{gathering, gatherAll, nothingFound, faultIn}
-use Rattle.engine.specs.Cells.{valuationOf, findingOf, leavesStates, statesByActing, ActionStands, InstructionStands, TargetsBelow}
+use Rattle.interpreter.specs.Gathering.{gathering, gatherAll, nothingFound, faultIn}
+use Rattle.interpreter.specs.Cells.{valuationOf, InstructionStands, TargetsBelow}
+use Rattle.engine.specs.Cells.{findingOf, leavesStates, statesByActing, ActionStands}
 use Rattle.engine.proofs.Overwriting.{replacedBy}
 use Rattle.engine.proofs.Valuations.{unknownCell, nothing-held, known-values, filled-cells}
 use Rattle.engine.proofs.Scoping.{targets-below}

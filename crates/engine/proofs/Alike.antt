@@ -11,10 +11,10 @@ use lib.IntN.{ℤ}
 use Rattle.evaluation.specs.Numbers.{eqZ}
 use Rattle.evaluation.proofs.Laws.{eqZ-refl, eqZ-true}
 use Rattle.model.specs.Trees.{Variable}
-use Rattle.engine.specs.Expressions.{Valuation}
-use Rattle.engine.specs.Instructions.{Effect, any, isFailure, isOutside, differs, givenBy, conflictsWith, faultOf, firstOf, givenTo}
-use Rattle.engine.specs.Instructions.Effect.{fails, gives}
-use Rattle.engine.specs.declared.Fault.the-variants.{Failure as failure, Outside as outside, Conflict as conflict}
+use Rattle.interpreter.specs.Expressions.{Valuation}
+use Rattle.interpreter.specs.Instructions.{Effect, any, isFailure, isOutside, differs, givenBy, conflictsWith, faultOf, firstOf, givenTo}
+use Rattle.interpreter.specs.Instructions.Effect.{fails, gives}
+use Rattle.interpreter.specs.declared.Fault.the-variants.{Failure as failure, Outside as outside, Conflict as conflict}
 use Rattle.engine.specs.Propagation.{isKnown}
 
 -- ---- tests

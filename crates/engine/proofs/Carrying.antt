@@ -9,7 +9,7 @@ use lib.IntN.{ℤ, pos}
 use lib.ListN.{length, take, drop, replicate, length-append, length-take, length-map}
 use lib.Seq.{take-at, take-take}
 use Rattle.model.specs.Trees.{System, variables}
-use Rattle.engine.specs.declared.Fault.{Fault}
+use Rattle.interpreter.specs.declared.Fault.{Fault}
 use Rattle.engine.specs.declared.Finding.{Finding}
 use Rattle.engine.specs.declared.Finding.the-variants.{Clear, Faulty}
 use Rattle.engine.specs.declared.Firing.the-variants.{ActionFault}

@@ -7,7 +7,7 @@ use Prim.Native.Nat.{ℕ, zero, suc, _+_, _≤_, _<_}
 use native.Mathlib.Nat.{eq-or-lt-of-le}
 use native.Mathlib.Omega.{arith}
 use lib.IntN.{ℤ}
-use Rattle.engine.specs.Expressions.{Valuation}
+use Rattle.interpreter.specs.Expressions.{Valuation}
 use Rattle.engine.specs.Theorems.{Extends}
 
 abbrev unknownOne : Option ℤ → ℕ

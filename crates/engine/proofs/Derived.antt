@@ -9,9 +9,9 @@ use mathlib.Core.Option.{Option, some, none}
 use Prim.Native.Nat.{ℕ}
 use lib.IntN.{ℤ}
 use Rattle.model.specs.Trees.{Instruction, Variable}
-use Rattle.engine.specs.Expressions.{Valuation}
-use Rattle.engine.specs.Instructions.{Effect, any, effects, faultOf}
-use Rattle.engine.specs.Instructions.Effect.{fails, gives}
+use Rattle.interpreter.specs.Expressions.{Valuation}
+use Rattle.interpreter.specs.Instructions.{Effect, any, effects, faultOf}
+use Rattle.interpreter.specs.Instructions.Effect.{fails, gives}
 use Rattle.engine.specs.Propagation.{isNew, isKnown}
 use Rattle.engine.specs.Theorems.{Extends}
 use Rattle.engine.proofs.Growth.{effects-grow}

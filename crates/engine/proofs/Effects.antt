@@ -18,11 +18,11 @@ use Rattle.model.specs.Trees.Instruction.{skip, assign, ifThen, block}
 use Rattle.model.specs.Trees.Instructions.{none as noBranch, more}
 use Rattle.model.specs.Walk.{Scope}
 use Rattle.model.specs.WellFormed.{Scoped, AllScoped}
-use Rattle.engine.specs.Expressions.{Valuation, evaluate}
-use Rattle.engine.specs.Instructions.{Effect, assigned, under, effects, effectsOfAll, any, isFailure, isOutside, differs, givenBy, conflictsWith, faultOf, givenTo, firstOf}
-use Rattle.engine.specs.Instructions.Effect.{fails, gives}
-use Rattle.engine.specs.declared.Fault.{Fault}
-use Rattle.engine.specs.declared.Fault.the-variants.{Failure as failure, Outside as outside, Conflict as conflict}
+use Rattle.interpreter.specs.Expressions.{Valuation, evaluate}
+use Rattle.interpreter.specs.Instructions.{Effect, assigned, under, effects, effectsOfAll, any, isFailure, isOutside, differs, givenBy, conflictsWith, faultOf, givenTo, firstOf}
+use Rattle.interpreter.specs.Instructions.Effect.{fails, gives}
+use Rattle.interpreter.specs.declared.Fault.{Fault}
+use Rattle.interpreter.specs.declared.Fault.the-variants.{Failure as failure, Outside as outside, Conflict as conflict}
 use Rattle.engine.specs.Propagation.{isNew, isKnown}
 use Rattle.engine.specs.Theorems.{Extends}
 use Rattle.engine.proofs.Growth.{Includes}

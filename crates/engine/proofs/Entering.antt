@@ -12,12 +12,12 @@ use lib.ListN.{length, take, drop, getElem?, length-append, length-take, length-
 use lib.Seq.{drop-at, drop-drop}
 use Rattle.model.specs.Trees.{Instruction, Variable, System, variables}
 use Rattle.model.specs.WellFormed.{WellFormed}
-use Rattle.engine.specs.declared.Fault.{Fault}
+use Rattle.interpreter.specs.declared.Fault.{Fault}
 use Rattle.engine.specs.declared.Propagated.{Propagated}
 use Rattle.engine.specs.declared.Propagated.the-variants.{Refused, Settled}
 use Rattle.engine.specs.declared.Firing.the-variants.{AssertionFault, Fired}
-use Rattle.engine.specs.Expressions.{Valuation, knownFrom}
-use Rattle.engine.specs.Instructions.{firstOf}
+use Rattle.interpreter.specs.Expressions.{Valuation, knownFrom}
+use Rattle.interpreter.specs.Instructions.{firstOf}
 use Rattle.engine.specs.Actions.{cells, valueOr0}
 use Rattle.engine.specs.Propagation.{Reached, Settled as Settling, resetBy, finishedBy, finish, settledFrom, settle}
 use Rattle.engine.specs.Propagation.Settled.{refused, settled}

@@ -1,5 +1,5 @@
 -- Guards, firing and starting on a loaded model: what the code answers and leaves is as the definitions `fired` and `begun` have it.
-use mathlib.Core.Path.{_≡_, refl, sym, ap, _∙_}
+use mathlib.Core.Path.{_≡_, refl, sym, ap, subst, _∙_}
 use mathlib.Core.Bool.{Bool, true, false, true≢false}
 use mathlib.Core.List.{List}
 use mathlib.Core.Option.{some}
@@ -18,17 +18,18 @@ use Rattle.evaluation.specs.declared.Evaluation.the-variants.{Unknown, Failed, 
 use Rattle.evaluation.proofs.Signed.{one-fits, equal-bits, other-bits}
 use Rattle.model.specs.declared.Model.{Model}
 use Rattle.model.specs.Trees.{Expression, Transition, variables}
-use Rattle.model.specs.Decoding.{ExpressionAt, sizeOfExpression}
-use Rattle.engine.specs.declared.Evaluated.{Evaluated}
+use Rattle.model.specs.Decoding.{ExpressionAt, InstructionAt, sizeOfExpression}
+use Rattle.interpreter.specs.declared.Evaluated.{Evaluated}
 use Rattle.engine.specs.declared.Firing.the-variants.{Disabled, GuardFailed}
-use Rattle.engine.specs.Expressions.{evaluate}
+use Rattle.interpreter.specs.Expressions.{evaluate}
 use Rattle.engine.specs.Actions.{act}
 use Rattle.engine.specs.Propagation.{settle}
 use Rattle.engine.specs.Meanings.{meaningOf, guardIn, actionIn}
 use Rattle.engine.specs.Firing.{Left, leaves, written, leftBySettling, leftByActing, leftByGuard, fired, begun}
-use Rattle.engine.specs.Cells.{Loaded, AllRepresentable, valuationOf, evaluatedAs, ExpressionStands, PropagationStands, TransitionStands}
-use Rattle.engine.proofs.Cells.{no-element}
-use Rattle.engine.proofs.Evaluating.{expression-within}
+use Rattle.engine.specs.Cells.{Loaded, AllRepresentable, PropagationStands, TransitionStands}
+use Rattle.interpreter.specs.Cells.{valuationOf, evaluatedAs, ExpressionStands}
+use Rattle.interpreter.proofs.Cells.{no-element}
+use Rattle.interpreter.proofs.Evaluating.{expression-within}
 use Rattle.engine.proofs.Valuations.{known-values}
 use Rattle.engine.proofs.Loading.{element-below, loaded-well-formed, loaded-states, loaded-flows, loaded-places, loaded-guards, loaded-guard, loaded-action, loaded-scoped, loaded-assertion, assertion-stands}
 
@@ -43,9 +44,6 @@ module _ {model : Model} {kinds : List ℕ} {parameters : List ℤ} {sorts : Lis
 
   pub few-variables : model .sizes .states + model .sizes .flows ≤ 510
   few-variables = omega (arith, loaded-states d, loaded-flows d, loaded-well-formed d .states, loaded-well-formed d .flows)
-
-  pub few-guards : length guards < 256
-  few-guards = omega (arith, loaded-guards d, loaded-well-formed d .transitions)
 
   -- ---- guards
 
@@ -176,15 +174,16 @@ module _ {model : Model} {kinds : List ℕ} {parameters : List ℤ} {sorts : Lis
             guard-within =
                 rw (loaded-places d .long) (expression-within kinds parameters (transition .0 .guard) (getD guards k 0) (loaded-guard d k (transition .0) (transition .1)) .0)
 
-            abbrev pub fire-stands : TransitionStands kinds parameters nexts lows highs firsts (take (model .sizes .states + model .sizes .flows) array) old
-                (model .assertion) (getD nexts (getD guards k 0) 0) (model .sizes .states)
-            fire-stands =
+            abbrev pub fire-stands : {place : ℕ} → place ≡ getD nexts (getD guards k 0) 0
+                → TransitionStands kinds parameters nexts lows highs firsts (take (model .sizes .states + model .sizes .flows) array) old
+                (model .assertion) place (model .sizes .states)
+            fire-stands p =
                 record {
                   system = d .decoded .system;
                   action = transition .0 .action;
                   wellFormed = loaded-well-formed d;
                   scoped = loaded-scoped d k (transition .0) (transition .1);
-                  actionStands = loaded-action d k (transition .0) (transition .1);
+                  actionStands = subst (λ m. InstructionAt kinds parameters (transition .0 .action) m) (sym p) (loaded-action d k (transition .0) (transition .1));
                   assertionStands = loaded-assertion d;
                   places = loaded-places d;
                   lowEnds = d .decoded .lowsDecoded;

@@ -8,18 +8,19 @@ use native.Mathlib.Nat.{not-suc-le-zero, le-of-suc-le-suc}
 use borrow.Author.Tests.{eq-eqb, ne-eqb, eqb-true, eqb-false}
 use lib.Dec.{T, eqb}
 use lib.IntN.{ℤ, pos}
-use lib.ListN.{length, getD, set, getElem?, length-set}
+use lib.ListN.{length, getD, set, getElem?, drop, length-set}
+use lib.Seq.{drop-set-lt}
 use Rattle.evaluation.specs.Numbers.{representable, eqZ}
 use Rattle.evaluation.proofs.Laws.{eqZ-refl, eqZ-true, eqZ-comm}
 use Rattle.model.specs.Trees.{Variable}
 use Rattle.model.specs.WellFormed.{All}
-use Rattle.engine.specs.Expressions.{Valuation}
-use Rattle.engine.specs.Instructions.{Effect, any, isFailure, isWithin, isOutside, differs, givenBy, conflictsWith, faultOf, firstOf, givenTo}
-use Rattle.engine.specs.Instructions.Effect.{fails, gives}
+use Rattle.interpreter.specs.Expressions.{Valuation}
+use Rattle.interpreter.specs.Instructions.{Effect, any, isFailure, isWithin, isOutside, differs, givenBy, conflictsWith, faultOf, firstOf, givenTo}
+use Rattle.interpreter.specs.Instructions.Effect.{fails, gives}
 use Rattle.engine.specs.Propagation.{isKnown, isNew, extended}
-use Rattle.engine.specs.Cells.{cellValue, valuationOf}
-use Rattle.engine.specs.Gathering.{Gathering, gathering, nothingFound, withinEnds, gather, gatherAll, faultIn}
-use Rattle.engine.proofs.Cells.{known-cell, element-set, element-set-other}
+use Rattle.interpreter.specs.Cells.{cellValue, valuationOf}
+use Rattle.interpreter.specs.Gathering.{Gathering, gathering, nothingFound, withinEnds, gather, gatherAll, faultIn}
+use Rattle.interpreter.proofs.Cells.{known-cell, element-set, element-set-other}
 
 -- a number of 32 bits, to a variable that has a cell and ends
 unfoldable pub Admissible : ℕ → ℕ → Effect → Type 0
@@ -106,6 +107,14 @@ module _ (lows highs : List ℤ) (g : Gathering) where
         by : (t : Bool) → representable held ≡ t → length (gather lows highs (gives x v) g .given) ≡ length (g .given)
         by true e = ap (λ a. length (a .given)) (gather-held e)
         by false e = ap (λ a. length (a .given)) (gather-new e) ∙ length-set (g .given) x v
+
+    -- the cells from m on, above the variable, stay
+    rest-after : (m : ℕ) → x < m → drop m (gather lows highs (gives x v) g .given) ≡ drop m (g .given)
+    rest-after m h = by (representable held) refl
+      where
+        by : (t : Bool) → representable held ≡ t → drop m (gather lows highs (gives x v) g .given) ≡ drop m (g .given)
+        by true e = ap (λ a. drop m (a .given)) (gather-held e)
+        by false e = ap (λ a. drop m (a .given)) (gather-new e) ∙ drop-set-lt m (g .given) x v h
 
     failed-after : gather lows highs (gives x v) g .found .failed ≡ g .found .failed
     failed-after = by (representable held) refl
@@ -248,6 +257,12 @@ module _ (lows highs : List ℤ) where
       failed-all es (gather lows highs (gives x v) g) ∙ ap (λ t. t || any isFailure es) (failed-after lows highs g x v)
 
   module _ (n m : ℕ) where
+    rest-all : (es : List Effect) (g : Gathering) → All (Admissible n m) es → drop m (gatherAll lows highs es g .given) ≡ drop m (g .given)
+    unfolding gatherAll gather All Admissible
+    rest-all [] g a = refl
+    rest-all (fails ∷ es) g a = rest-all es (gather lows highs fails g) (a .1)
+    rest-all (gives x v ∷ es) g a = rest-all es (gather lows highs (gives x v) g) (a .1) ∙ rest-after lows highs g x v m (a .0 .2)
+
     given-all : (es : List Effect) (g : Gathering) → length (g .given) ≡ n → All (Admissible n m) es
         → (y : ℕ) → valuationOf (gatherAll lows highs es g .given) y ≡ firstOf (valuationOf (g .given) y) (givenTo y es)
     unfolding gatherAll gather All Admissible givenTo givenBy firstOf
@@ -318,3 +333,7 @@ module _ (vs : List Variable) {lows highs : List ℤ} (l : lows ≡ map (λ d. d
 
   pub length-folded : length (folded lows highs given es .given) ≡ length given
   length-folded = length-all lows highs es (gathering nothingFound given)
+
+  -- the cells past those of the variables stay
+  pub rest-folded : drop (length vs) (folded lows highs given es .given) ≡ drop (length vs) given
+  rest-folded = rest-all lows highs (length given) (length vs) es (gathering nothingFound given) a

@@ -16,8 +16,8 @@ use Rattle.model.specs.Trees.{Instruction, Instructions}
 use Rattle.model.specs.Trees.Expression.{numeral, truth, variable, negation, binary, ifThenElse}
 use Rattle.model.specs.Trees.Instruction.{skip, assign, ifThen, block}
 use Rattle.model.specs.Trees.Instructions.{none as noBranch, more}
-use Rattle.engine.specs.Expressions.{Valuation, evaluationOf, evaluate}
-use Rattle.engine.specs.Instructions.{Effect, assigned, under, effects, effectsOfAll}
+use Rattle.interpreter.specs.Expressions.{Valuation, evaluationOf, evaluate}
+use Rattle.interpreter.specs.Instructions.{Effect, assigned, under, effects, effectsOfAll}
 use Rattle.engine.specs.Theorems.{Extends, EvaluationGrows}
 
 variable-grows : (a b : Option ℤ) → ((v : ℤ) → a ≡ some v → b ≡ some v) → Grows (evaluationOf a) (evaluationOf b)

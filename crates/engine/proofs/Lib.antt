@@ -7,12 +7,7 @@ pub mod Sequential
 pub mod Rows
 pub mod Alike
 pub mod Shuffling
-pub mod Cells
-pub mod Due
-pub mod Evaluating
 pub mod Gathering
-pub mod Giving
-pub mod Stepping
 pub mod Scoping
 pub mod Accepted
 pub mod Overwriting

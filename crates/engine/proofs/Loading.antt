@@ -15,7 +15,8 @@ use Rattle.model.specs.Check.{actionScope}
 use Rattle.model.specs.Decoding.{ExpressionAt, InstructionAt, sizeOfExpression}
 use Rattle.model.proofs.CheckExact.{check-exact}
 use Rattle.model.proofs.Decoded.{decoded-nexts, decoded-expression-next, decoded-instruction-next, decoded-assertion, decoded-guards, decoded-transition}
-use Rattle.engine.specs.Cells.{Loaded, NextPlaces, AssertionStands}
+use Rattle.engine.specs.Cells.{Loaded, AssertionStands}
+use Rattle.interpreter.specs.Cells.{NextPlaces}
 
 -- ---- lists
 

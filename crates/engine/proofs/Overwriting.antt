@@ -20,7 +20,7 @@ use Rattle.evaluation.specs.Numbers.{representable}
 use Rattle.evaluation.proofs.Signed.{wide-fits}
 use Rattle.engine.specs.Firing.{written}
 use Rattle.engine.specs.Cells.{filled}
-use Rattle.engine.proofs.Cells.{fits-representable}
+use Rattle.interpreter.proofs.Cells.{fits-representable}
 
 module _ {A : Type 0} (new old : List A) where
   abbrev pub partly : ℕ → List A
@@ -146,6 +146,9 @@ module _ (values cells₀ cells : List ℤ) (i : ℕ) (fits : length values ≤ 
         is ∙ partly-keep (filled values cells₀) cells₀ (length-filled values cells₀) i (pos 0) (omega arith)
         (sym (getD-filled values cells₀ i h (omega arith) ∙ rw (← filled-here, n)))
 
+pub read-cell : (cells : List ℤ) (i : ℕ) → mag (getD cells i (pos 0)) < 2 ^ 63 → toZ w64 (ofZ w64 (getD cells i (pos 0))) ≡ getD cells i (pos 0)
+read-cell cells i f = toZ-ofZ w64 (getD cells i (pos 0)) (record { sfits = f })
+
 -- what the test on a cell tells
 representable-fits : (z : ℤ) → representable z ≡ true → SFits w32 z
 representable-fits (pos n) e = record { sfits = omega (arith, leb-true n 2147483647 e) }
@@ -156,18 +159,15 @@ representable-fits (negsuc n) e = record { sfits = omega (arith, leb-true n 2147
     and-true false = refl
 
 module _ (cells : List ℤ) (i : ℕ) (f : mag (getD cells i (pos 0)) < 2 ^ 63) {r : Bool} (e : r ≡ representable (toZ w64 (ofZ w64 (getD cells i (pos 0))))) where
-  read-cell : toZ w64 (ofZ w64 (getD cells i (pos 0))) ≡ getD cells i (pos 0)
-  read-cell = toZ-ofZ w64 (getD cells i (pos 0)) (record { sfits = f })
-
   pub cell-tested : (t : Bool) → r ≡ t → representable (getD cells i (pos 0)) ≡ t
-  cell-tested t h = ap representable (sym read-cell) ∙ sym e ∙ h
+  cell-tested t h = ap representable (sym (read-cell cells i f)) ∙ sym e ∙ h
 
   module _ (h : r ≡ true) where
     pub cell-fits : SFits w32 (toZ w64 (ofZ w64 (getD cells i (pos 0))))
     cell-fits = representable-fits _ (sym e ∙ h)
 
     pub cell-same : toZ w32 (ofZ w32 (toZ w64 (ofZ w64 (getD cells i (pos 0))))) ≡ getD cells i (pos 0)
-    cell-same = toZ-ofZ w32 _ cell-fits ∙ read-cell
+    cell-same = toZ-ofZ w32 _ cell-fits ∙ read-cell cells i f
 
 -- the loop that replaces values: the values are the first of the filled cells
 abbrev pub replacedBy : List ℤ → List ℤ → List ℤ

@@ -1,6 +1,6 @@
 -- The rounds as the code makes them: each turn reads the assertion over the cells, and the rounds from there are those from the
 -- beginning. A turn that gives a new value leaves fewer cells without a number.
-use mathlib.Core.Path.{_≡_, refl, sym, ap, _∙_}
+use mathlib.Core.Path.{_≡_, refl, sym, ap, subst, _∙_}
 use mathlib.Core.Bool.{true, false, true≢false, not}
 use mathlib.Core.List.{List}
 use mathlib.Core.Option.{Option, some, none}
@@ -9,24 +9,28 @@ use borrow.Author.Tests.{not-true, not-false}
 use native.Mathlib.Numerals.{add-one}
 use native.Mathlib.Omega.{arith}
 use lib.IntN.{ℤ}
-use lib.ListN.{length, length-append, length-map}
+use lib.ListN.{length, take, drop, take-append-drop, length-append, length-map}
+use lib.Seq.{length-take-le}
 use Rattle.model.specs.Trees.{Instruction, System, variables}
 use Rattle.model.specs.WellFormed.{WellFormed, sizesOf}
 use Rattle.model.specs.Decoding.{InstructionAt}
 use Rattle.model.specs.Check.{assertionScope}
-use Rattle.engine.specs.declared.Fault.{Fault}
+use Rattle.interpreter.specs.declared.Fault.{Fault}
 use Rattle.engine.specs.declared.Finding.{Finding}
 use Rattle.engine.specs.declared.Finding.the-variants.{Clear, Faulty}
-use Rattle.engine.specs.declared.Gathered.{Gathered}
+use Rattle.interpreter.specs.declared.Gathered.{Gathered}
 use Rattle.engine.specs.declared.Propagated.the-variants.{Refused, Settled}
-use Rattle.engine.specs.Instructions.{effects, faultOf}
+use Rattle.interpreter.specs.Instructions.{effects, faultOf}
 use Rattle.engine.specs.Propagation.{rounds, roundBy}
 use Rattle.engine.specs.Propagation.Reached.{stopped, reached}
-use Rattle.engine.specs.Gathering.{gathering, gatherAll, nothingFound, faultIn}
-use Rattle.engine.specs.Cells.{valuationOf, findingOf, reachedIn, AssertionStands, InstructionStands, TargetsBelow}
+use Rattle.interpreter.specs.Gathering.{gathering, gatherAll, nothingFound, faultIn}
+use Rattle.interpreter.specs.Cells.{valuationOf, InstructionStands, TargetsBelow}
+use Rattle.engine.specs.Firing.{written}
+use Rattle.engine.specs.Cells.{findingOf, reachedIn, AssertionStands}
 use Rattle.engine.proofs.Counting.{unknowns, unknowns-bounded}
 use Rattle.engine.proofs.Rounds.{round-falls, assertion-targets}
-use Rattle.engine.proofs.Scoping.{targets-below}
+use Rattle.engine.proofs.Gathering.{rest-folded}
+use Rattle.engine.proofs.Scoping.{targets-below, scoped-effects}
 use Rattle.engine.proofs.Reading.{Gathers, gathers}
 
 -- ---- what the fault found tells
@@ -121,15 +125,40 @@ module _ {ks : List ℕ} {ps : List ℤ} {nexts : List ℕ} {lows highs : List �
       (gathers (variables (a .system)) (a .system .assertion) (assertionScope (sizesOf (a .system)) (variables (a .system))) (a .wellFormed .assertion)
       (omega (arith, length-variables (a .system))) cells given (omega (arith, a .wellFormed .states, a .wellFormed .flows)))
 
+  length-lows : length lows ≡ length (variables (a .system))
+  length-lows = ap length (a .lowEnds) ∙ length-map (variables (a .system)) (λ v. v .low)
+
+  pub lows-within : length lows ≤ 510
+  lows-within = omega (arith, length-lows, length-variables (a .system), a .wellFormed .states, a .wellFormed .flows)
+
+  -- the cells past those of the variables stay
+  assertion-keeps : (cells given : List ℤ) → length given ≡ 510 → (r : Gathered) (given′ : List ℤ)
+      → gathering r given′ ≡ gatherAll lows highs (effects (a .system .assertion) (valuationOf cells)) (gathering nothingFound given)
+      → drop (length lows) given′ ≡ drop (length lows) given
+  assertion-keeps cells given h r given′ e =
+      rw length-lows
+      (ap (λ g. drop (length (variables (a .system))) (g .given)) e
+      ∙ rest-folded (variables (a .system)) (a .lowEnds) (a .highEnds) given (effects (a .system .assertion) (valuationOf cells))
+      (scoped-effects cells (a .system .assertion) (assertionScope (sizesOf (a .system)) (variables (a .system))) (a .wellFormed .assertion)
+      (omega (arith, a .wellFormed .states, a .wellFormed .flows)) (omega (arith, length-variables (a .system)))))
+
 -- ---- one reading: the cells given start as the cells, and are gathered over
 module _ {ks : List ℕ} {ps : List ℤ} {nexts : List ℕ} {lows highs : List ℤ} {at : ℕ} (a : AssertionStands ks ps nexts lows highs at)
     (cells given given′ : List ℤ) (r : Gathered) (long : length cells ≡ 510) (same : given ≡ cells)
     (gathered : (i : Instruction) → InstructionAt ks ps i at
     → gathering r given′ ≡ gatherAll lows highs (effects i (valuationOf cells)) (gathering nothingFound given)) where
+  gathered-over-cells : gathering r given′ ≡ gatherAll lows highs (effects (a .system .assertion) (valuationOf cells)) (gathering nothingFound cells)
+  gathered-over-cells =
+      gathered (a .system .assertion) (a .stands) ∙ ap (λ g. gatherAll lows highs (effects (a .system .assertion) (valuationOf cells)) (gathering nothingFound g)) same
+
   turned : Gathers (variables (a .system)) (a .system .assertion) (valuationOf cells) (valuationOf cells) (gathering r given′)
-  turned =
-      assertion-gathers a cells cells long r given′
-      (gathered (a .system .assertion) (a .stands) ∙ ap (λ g. gatherAll lows highs (effects (a .system .assertion) (valuationOf cells)) (gathering nothingFound g)) same)
+  turned = assertion-gathers a cells cells long r given′ gathered-over-cells
+
+  -- the cells given, as far as there are variables, over the cells: all cells given
+  pub turn-copies : length given′ ≡ 510 → {cells′ : List ℤ} → cells′ ≡ written (take (length lows) given′) cells → cells′ ≡ given′
+  turn-copies h e =
+      let rest = assertion-keeps a cells cells long r given′ gathered-over-cells in
+      e ∙ rw (length-take-le (length lows) given′ (omega (arith, lows-within a)), ← rest) (take-append-drop (length lows) given′)
 
   pub reading-finds : {x : Finding} → x ≡ findingOf (faultIn r)
       → x ≡ findingOf (faultOf (variables (a .system)) (valuationOf cells) (effects (a .system .assertion) (valuationOf cells)))
@@ -148,14 +177,18 @@ module _ {ks : List ℕ} {ps : List ℤ} {nexts : List ℕ} {lows highs : List �
     turn-rests e k n =
         round-rests (a .system) (a .wellFormed) cells₀ cells count (going a) r given′ turned (finding-clear (faultIn r) (sym e ∙ k)) (not-true (r .fresh) n)
 
-    pub turn-goes : {x : Finding} → x ≡ findingOf (faultIn r) → x ≡ Clear → not (r .fresh) ≡ false → Going (a .system) cells₀ given′ (count + 1)
-    turn-goes e k n =
-        round-goes (a .system) (a .wellFormed) cells₀ cells count (going a) r given′ turned (finding-clear (faultIn r) (sym e ∙ k)) (not-false (r .fresh) n)
+    pub turn-goes : {x : Finding} → x ≡ findingOf (faultIn r) → x ≡ Clear → not (r .fresh) ≡ false → {cells′ : List ℤ} → cells′ ≡ given′
+        → Going (a .system) cells₀ cells′ (count + 1)
+    turn-goes e k n c =
+        subst (λ l. Going (a .system) cells₀ l (count + 1)) (sym c)
+        (round-goes (a .system) (a .wellFormed) cells₀ cells count (going a) r given′ turned (finding-clear (faultIn r) (sym e ∙ k)) (not-false (r .fresh) n))
 
-    pub turn-falls : not (r .fresh) ≡ false → unknowns (valuationOf given′) 510 0 < unknowns (valuationOf cells) 510 0
-    turn-falls n =
-        falls (a .system) (a .wellFormed) cells₀ cells count (going a) r given′ turned (not-false (r .fresh) n) 510 0 (omega arith)
-        (omega (arith, a .wellFormed .states, a .wellFormed .flows))
+    pub turn-falls : not (r .fresh) ≡ false → {cells′ : List ℤ} → cells′ ≡ given′
+        → unknowns (valuationOf cells′) 510 0 < unknowns (valuationOf cells) 510 0
+    turn-falls n c =
+        rw c
+        (falls (a .system) (a .wellFormed) cells₀ cells count (going a) r given′ turned (not-false (r .fresh) n) 510 0 (omega arith)
+        (omega (arith, a .wellFormed .states, a .wellFormed .flows)))
 
     pub count-fits : count + 1 < 2 ^ 64
     count-fits = let b = going a .bound in omega (arith, a .wellFormed .flows)

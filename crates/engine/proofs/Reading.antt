@@ -8,11 +8,11 @@ use lib.ListN.{length}
 use Rattle.model.specs.Trees.{Instruction, Variable}
 use Rattle.model.specs.Walk.{Scope}
 use Rattle.model.specs.WellFormed.{Scoped}
-use Rattle.engine.specs.Expressions.{Valuation}
-use Rattle.engine.specs.Instructions.{any, effects, faultOf}
+use Rattle.interpreter.specs.Expressions.{Valuation}
+use Rattle.interpreter.specs.Instructions.{any, effects, faultOf}
 use Rattle.engine.specs.Propagation.{isNew, extended}
-use Rattle.engine.specs.Gathering.{Gathering, gathering, gatherAll, nothingFound, faultIn}
-use Rattle.engine.specs.Cells.{valuationOf}
+use Rattle.interpreter.specs.Gathering.{Gathering, gathering, gatherAll, nothingFound, faultIn}
+use Rattle.interpreter.specs.Cells.{valuationOf}
 use Rattle.engine.proofs.Gathering.{fault-folded, fresh-folded, given-folded}
 use Rattle.engine.proofs.Scoping.{scoped-effects}
 

@@ -11,10 +11,10 @@ use lib.IntN.{ℤ}
 use lib.ListN.{length}
 use Rattle.model.specs.Trees.{Instruction, Variable, System, variables}
 use Rattle.model.specs.WellFormed.{WellFormed}
-use Rattle.engine.specs.Expressions.{Valuation, knownFrom}
-use Rattle.engine.specs.Instructions.{Effect, any, effects, faultOf, givenTo, firstOf}
-use Rattle.engine.specs.declared.Fault.{Fault}
-use Rattle.engine.specs.Instructions.Effect.{gives}
+use Rattle.interpreter.specs.Expressions.{Valuation, knownFrom}
+use Rattle.interpreter.specs.Instructions.{Effect, any, effects, faultOf, givenTo, firstOf}
+use Rattle.interpreter.specs.declared.Fault.{Fault}
+use Rattle.interpreter.specs.Instructions.Effect.{gives}
 use Rattle.engine.specs.Actions.{cells}
 use Rattle.engine.specs.Propagation.{Reached, isNew, extended, rounds, roundBy, resetBy, finishedBy, finish, settledFrom, settle}
 use Rattle.engine.specs.Propagation.Reached.{stopped, reached}

@@ -7,8 +7,8 @@ use Rattle.evaluation.specs.Numbers.{eqZ}
 use Rattle.evaluation.specs.Meaning.{operated, negated, decides, decisive, decision, isUnknown, isFailed, number, calculated, divided}
 use Rattle.evaluation.proofs.Laws.{eqZ-refl}
 use Rattle.evaluation.proofs.Rows.{row-a, row-b, row-c, row-d, row-e, row-f, row-g}
-use Rattle.engine.specs.Expressions.{evaluate, evaluationOf}
-use Rattle.engine.specs.Instructions.{assigned, effects, effectsOfAll, any, isFailure, isWithin, isOutside, differs, givenBy, conflictsWith, faultOf, firstOf, givenTo, numberOf}
+use Rattle.interpreter.specs.Expressions.{evaluate, evaluationOf}
+use Rattle.interpreter.specs.Instructions.{assigned, effects, effectsOfAll, any, isFailure, isWithin, isOutside, differs, givenBy, conflictsWith, faultOf, firstOf, givenTo, numberOf}
 use Rattle.engine.specs.Actions.{valueOr0, cells, actedBy, act}
 use Rattle.engine.specs.Propagation.{isKnown, isNew, roundBy, rounds, finishedBy, finish, settledFrom, settle, firstValue}
 use Rattle.engine.specs.Rows.{RowH, RowI, RowJ, RowK, RowL, Rows}

@@ -20,12 +20,13 @@ use Rattle.model.specs.Trees.{Expression, Instruction, Instructions}
 use Rattle.model.specs.Trees.Expression.{numeral, truth, variable, negation, binary, ifThenElse}
 use Rattle.model.specs.Trees.Instruction.{skip, assign, ifThen, block}
 use Rattle.model.specs.Trees.Instructions.{none as noBranch, more}
-use Rattle.model.specs.Walk.{Scope, isTruth}
+use Rattle.model.specs.Walk.{Scope}
+use Rattle.syntax.specs.Readings.{isTruth}
 use Rattle.model.specs.WellFormed.{Sorted, Scoped, AllScoped, All}
-use Rattle.engine.specs.Expressions.{Valuation, evaluationOf, evaluate}
-use Rattle.engine.specs.Instructions.{Effect, assigned, under, effects, effectsOfAll}
-use Rattle.engine.specs.Instructions.Effect.{fails, gives}
-use Rattle.engine.specs.Cells.{cellValue, valuationOf, TargetsBelow, AllTargetsBelow}
+use Rattle.interpreter.specs.Expressions.{Valuation, evaluationOf, evaluate}
+use Rattle.interpreter.specs.Instructions.{Effect, assigned, under, effects, effectsOfAll}
+use Rattle.interpreter.specs.Instructions.Effect.{fails, gives}
+use Rattle.interpreter.specs.Cells.{cellValue, valuationOf, TargetsBelow, AllTargetsBelow}
 use Rattle.engine.proofs.Gathering.{Admissible}
 
 -- ---- evaluations

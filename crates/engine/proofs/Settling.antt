@@ -12,17 +12,18 @@ use lib.ListN.{length, take, drop, getD, getElem?, replicate, length-map, length
 use lib.Seq.{take-all, take-nil, getD-drop, getD-take}
 use Rattle.evaluation.specs.Numbers.{representable}
 use Rattle.model.specs.Trees.{variables}
-use Rattle.engine.specs.declared.Fault.{Fault}
+use Rattle.interpreter.specs.declared.Fault.{Fault}
 use Rattle.engine.specs.declared.Finding.{Finding}
 use Rattle.engine.specs.declared.Finding.the-variants.{Clear, Faulty}
 use Rattle.engine.specs.declared.Propagated.{Propagated}
 use Rattle.engine.specs.declared.Propagated.the-variants.{Refused, Settled}
-use Rattle.engine.specs.Instructions.{effects, faultOf, firstOf}
+use Rattle.interpreter.specs.Instructions.{effects, faultOf, firstOf}
 use Rattle.engine.specs.Actions.{cells}
 use Rattle.engine.specs.Propagation.{rounds, resetBy, finishedBy, finish, settledFrom, settle}
 use Rattle.engine.specs.Propagation.Settled.{settled}
 use Rattle.engine.specs.Firing.{written}
-use Rattle.engine.specs.Cells.{valuationOf, AllRepresentable, findingOf, filled, reachedIn, leavesFlows, flowsBySettling, PropagationStands}
+use Rattle.interpreter.specs.Cells.{valuationOf}
+use Rattle.engine.specs.Cells.{AllRepresentable, findingOf, filled, reachedIn, leavesFlows, flowsBySettling, PropagationStands}
 use Rattle.engine.proofs.Rounds.{rounds-bounded-tree}
 use Rattle.engine.proofs.Overwriting.{length-filled, getD-filled, replacedBy}
 use Rattle.engine.proofs.Valuations.{unknownCell, written-known, filled-known, reset-first, filled-cells}

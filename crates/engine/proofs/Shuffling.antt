@@ -21,9 +21,9 @@ use Rattle.model.specs.Shuffle.TransitionExchanged.{inGuard, inAction}
 use Rattle.model.specs.Shuffle.OneExchanged.{inFirst, inLater}
 use Rattle.model.specs.Shuffle.SystemExchanged.{inTransitions, inAssertion}
 use Rattle.model.specs.Shuffle.Shuffled.{same, step}
-use Rattle.engine.specs.Expressions.{Valuation, evaluate, knownFrom, nothingKnown}
-use Rattle.engine.specs.Instructions.{Effect, any, assigned, under, effects, effectsOfAll, faultOf, firstOf}
-use Rattle.engine.specs.declared.Fault.{Fault}
+use Rattle.interpreter.specs.Expressions.{Valuation, evaluate, knownFrom, nothingKnown}
+use Rattle.interpreter.specs.Instructions.{Effect, any, assigned, under, effects, effectsOfAll, faultOf, firstOf}
+use Rattle.interpreter.specs.declared.Fault.{Fault}
 use Rattle.engine.specs.Actions.{cells, actedBy, act}
 use Rattle.engine.specs.Actions.Acted.{states}
 use Rattle.engine.specs.Propagation.{Reached, isNew, extended, roundBy, rounds, resetBy, finishedBy, finish, settledFrom, settle}

@@ -11,12 +11,13 @@ use lib.IntN.{ℤ, pos}
 use lib.ListN.{length, take, drop, getElem?, replicate}
 use Rattle.evaluation.specs.Numbers.{representable}
 use Rattle.model.specs.Trees.{Variable}
-use Rattle.engine.specs.Expressions.{Valuation, knownFrom}
-use Rattle.engine.specs.Instructions.{firstOf}
+use Rattle.interpreter.specs.Expressions.{Valuation, knownFrom}
+use Rattle.interpreter.specs.Instructions.{firstOf}
 use Rattle.engine.specs.Actions.{cells, valueOr0}
 use Rattle.engine.specs.Propagation.{firstValue, resetBy}
 use Rattle.engine.specs.Firing.{written}
-use Rattle.engine.specs.Cells.{cellValue, valuationOf, AllRepresentable, filled}
+use Rattle.interpreter.specs.Cells.{cellValue, valuationOf}
+use Rattle.engine.specs.Cells.{AllRepresentable, filled}
 
 is-true : (t : Bool) → T t → t ≡ true
 is-true true h = refl

@@ -1,19 +1,20 @@
 -- 01: "An action is read over the old values, all known. [..] Otherwise the assigned states change together."
 use mathlib.Core.List.{List, [], _∷_}
 use mathlib.Core.Option.{Option, some, none}
-use Prim.Native.Nat.{ℕ, zero, suc, _+_}
+use Prim.Native.Nat.{ℕ, zero, suc}
 use lib.IntN.{ℤ, pos}
 use lib.ListN.{length}
 use Rattle.model.specs.Trees.{Instruction, System, variables}
-use Rattle.engine.specs.Expressions.{Valuation, knownFrom, nothingKnown}
-use Rattle.engine.specs.declared.Fault.{Fault}
-use Rattle.engine.specs.Instructions.{Effect, effects, faultOf, givenTo, firstOf}
+use Rattle.interpreter.specs.Expressions.{Valuation, knownFrom, nothingKnown}
+use Rattle.interpreter.specs.declared.Fault.{Fault}
+use Rattle.interpreter.specs.Instructions.{Effect, effects, faultOf, givenTo, firstOf}
 
--- the first so many variables of a valuation from variable x on; 0 for one that is unknown
+-- 0 for a variable that is unknown
 unfoldable pub valueOr0 : Option ℤ → ℤ
 valueOr0 none = pos 0
 valueOr0 (some v) = v
 
+-- the values of so many variables, from variable x on
 unfoldable pub cells : Valuation → ℕ → ℕ → List ℤ
 cells σ zero x = []
 cells σ (suc n) x = valueOr0 (σ x) ∷ cells σ n (suc x)

@@ -1,42 +1,30 @@
--- How the code holds valuations and faults, and what it may ask of the nodes lent to it.
+-- How the code holds the states and flows of actions and of the assertion, and what it may ask of the nodes lent to it.
 use mathlib.Core.Path.{_≡_}
 use mathlib.Core.Bool.{cond}
 use mathlib.Core.List.{List, [], _∷_, _++_, map}
 use mathlib.Core.Option.{Option, some, none}
-use Prim.Native.Nat.{ℕ, _+_, _≤_, _<_, min}
+use Prim.Native.Nat.{ℕ, _≤_, _<_, min}
 use lib.IntN.{ℤ, pos}
 use lib.Dec.{T}
-use lib.ListN.{length, getD, getElem?, take, drop}
+use lib.ListN.{length, getD, take, drop}
 use Rattle.evaluation.specs.Numbers.{representable}
-use Rattle.evaluation.specs.declared.Evaluation.{Evaluation}
 use Rattle.model.specs.declared.Model.{Model}
-use Rattle.model.specs.Trees.{Expression, Instruction, Instructions, System, variables}
-use Rattle.model.specs.Trees.Instruction.{skip, assign, ifThen, block}
-use Rattle.model.specs.Trees.Instructions.{none as noBranch, more}
-use Rattle.model.specs.Decoding.{Decoded, ExpressionAt, InstructionAt, sizeOfExpression, sizeOf}
+use Rattle.model.specs.Trees.{Instruction, System, variables}
+use Rattle.model.specs.Decoding.{Decoded, InstructionAt}
 use Rattle.model.specs.Theorems.{Bytes}
 use Rattle.model.specs.WellFormed.{WellFormed, Scoped, sizesOf}
 use Rattle.model.specs.Check.{actionScope}
-use Rattle.engine.specs.declared.Evaluated.{Evaluated}
-use Rattle.engine.specs.declared.Fault.{Fault}
+use Rattle.interpreter.specs.declared.Fault.{Fault}
+use Rattle.interpreter.specs.Cells.{NextPlaces, valuationOf}
 use Rattle.engine.specs.declared.Finding.{Finding}
 use Rattle.engine.specs.declared.Finding.the-variants.{Clear, Faulty}
 use Rattle.engine.specs.declared.Propagated.{Propagated}
 use Rattle.engine.specs.declared.Propagated.the-variants.{Refused, Settled}
-use Rattle.engine.specs.Expressions.{Valuation}
 use Rattle.engine.specs.Actions.{Acted}
 use Rattle.engine.specs.Actions.Acted.{faulty, states as acted}
 use Rattle.engine.specs.Propagation.{Reached, Settled as Settling}
 use Rattle.engine.specs.Propagation.Settled.{refused, settled}
 use Rattle.engine.specs.Propagation.Reached.{stopped, reached}
-
--- a cell of 64 bits holds a number of 32 bits; any other number there stands for unknown
-unfoldable pub cellValue : Option ℤ → Option ℤ
-cellValue none = none
-cellValue (some v) = cond (representable v) (some v) none
-
-abbrev pub valuationOf : List ℤ → Valuation
-valuationOf cells x = cellValue (getElem? cells x)
 
 -- every cell holds a number of 32 bits
 abbrev pub AllRepresentable : List ℤ → Type 0
@@ -45,72 +33,6 @@ AllRepresentable cells = (x : ℕ) → x < length cells → T (representable (ge
 -- the first so many values, and the cells from there on as they were
 unfoldable pub cellsOver : List ℤ → ℕ → List ℤ → List ℤ
 cellsOver values n cells = take (min n (length cells)) values ++ drop (length (take (min n (length cells)) values)) cells
-
--- an evaluation with the cursor after the expression
-abbrev pub evaluatedAs : Evaluation → ℕ → Evaluated
-evaluatedAs e next = record { evaluation = e; next = record { at = next } }
-
-module _ (ks : List ℕ) (ps : List ℤ) where
-  -- the entry of `nexts` at the place of a tree is the place after that tree
-  pub record NextPlaces (nexts : List ℕ) : Type 0 where
-    pub long : length nexts ≡ length ks
-    pub expression : (e : Expression) (at : ℕ) → ExpressionAt ks ps e at → getD nexts at 0 ≡ at + sizeOfExpression e
-    pub instruction : (i : Instruction) (at : ℕ) → InstructionAt ks ps i at → getD nexts at 0 ≡ at + sizeOf i
-
-  -- some expression stands at the place
-  pub record ExpressionStands (nexts : List ℕ) (at : ℕ) : Type 0 where
-    pub expression : Expression
-    pub stands : ExpressionAt ks ps expression at
-    pub places : NextPlaces nexts
-
-  -- two expressions stand one after the other from the place on
-  pub record BranchesStand (nexts : List ℕ) (at : ℕ) : Type 0 where
-    pub first : Expression
-    pub second : Expression
-    pub firstStands : ExpressionAt ks ps first at
-    pub secondStands : ExpressionAt ks ps second (at + sizeOfExpression first)
-    pub places : NextPlaces nexts
-
-unfoldable mutual
-  -- every assigned variable is below n
-  pub TargetsBelow : Instruction → ℕ → Type 0
-  TargetsBelow skip n = Unit {0}
-  TargetsBelow (assign x e) n = x < n
-  TargetsBelow (ifThen c i) n = TargetsBelow i n
-  TargetsBelow (block is) n = AllTargetsBelow is n
-
-  pub AllTargetsBelow : Instructions → ℕ → Type 0
-  AllTargetsBelow noBranch n = Unit {0}
-  AllTargetsBelow (more i is) n = TargetsBelow i n × AllTargetsBelow is n
-
-module _ (ks : List ℕ) (ps : List ℤ) where
-  -- some instruction stands at the place, and its targets have ends and cells
-  pub record InstructionStands (nexts : List ℕ) (lows highs given : ℕ) (at : ℕ) : Type 0 where
-    pub instruction : Instruction
-    pub stands : InstructionAt ks ps instruction at
-    pub targetLows : TargetsBelow instruction lows
-    pub targetHighs : TargetsBelow instruction highs
-    pub targetGiven : TargetsBelow instruction given
-    pub places : NextPlaces ks ps nexts
-
-  -- an assignment stands at the place, and its target has ends and a cell
-  pub record AssignmentStands (nexts : List ℕ) (lows highs given : ℕ) (at : ℕ) : Type 0 where
-    pub target : ℕ
-    pub expression : Expression
-    pub stands : InstructionAt ks ps (assign target expression) at
-    pub targetLow : target < lows
-    pub targetHigh : target < highs
-    pub targetGiven : target < given
-    pub places : NextPlaces ks ps nexts
-
-  -- an if-then stands at the place
-  pub record TestStands (nexts : List ℕ) (at : ℕ) : Type 0 where
-    pub condition : Expression
-    pub body : Instruction
-    pub stands : InstructionAt ks ps (ifThen condition body) at
-    pub places : NextPlaces ks ps nexts
-
--- ---- the assertion and actions
 
 -- as many cells as a model can have variables: 255 states and 255 flows
 abbrev pub maxVariables : ℕ

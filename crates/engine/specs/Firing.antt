@@ -2,15 +2,13 @@
 -- 01: "Fire t: guard, action, assertion". No record is kept here.
 use mathlib.Core.Bool.{true, cond, not, _||_}
 use mathlib.Core.List.{List, _++_}
-use mathlib.Core.Option.{Option, some, none}
-use Prim.Native.Nat.{ℕ, _+_}
+use Prim.Native.Nat.{ℕ}
 use lib.Dec.{eqb, ltb}
-use lib.IntN.{ℤ, pos}
+use lib.IntN.{ℤ}
 use lib.ListN.{length, take, drop}
 use Rattle.evaluation.specs.declared.Evaluation.{Evaluation}
 use Rattle.evaluation.specs.declared.Evaluation.the-variants.{Unknown, Failed, Value}
 use Rattle.evaluation.specs.Numbers.{eqZ, boolean}
-use Rattle.engine.specs.declared.Fault.{Fault}
 use Rattle.engine.specs.declared.Firing.{Firing}
 use Rattle.engine.specs.declared.Firing.the-variants.{Disabled, GuardFailed, ActionFault, AssertionFault, Fired}
 use Rattle.engine.specs.Actions.{Acted}

@@ -1,12 +1,9 @@
 -- Definitions and statements of crate `engine`, in document 01's order.
-pub mod Expressions
-pub mod Instructions
 pub mod Actions
 pub mod Propagation
 pub mod Sequential
 pub mod Meanings
 pub mod Firing
 pub mod Cells
-pub mod Gathering
 pub mod Theorems
 pub mod Rows

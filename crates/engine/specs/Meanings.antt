@@ -7,7 +7,7 @@ use lib.ListN.{length, getElem?}
 use Rattle.evaluation.specs.declared.Evaluation.{Evaluation}
 use Rattle.evaluation.specs.declared.Evaluation.the-variants.{Unknown}
 use Rattle.model.specs.Trees.{Transition, Variable, System, variables}
-use Rattle.engine.specs.Expressions.{evaluate, knownFrom}
+use Rattle.interpreter.specs.Expressions.{evaluate, knownFrom}
 use Rattle.engine.specs.Actions.{Acted, act}
 use Rattle.engine.specs.Propagation.{Settled, settle}
 

@@ -3,16 +3,16 @@
 -- were made, that last one included [..]. Then flows still unknown take their reset values and one more, uncounted reading of
 -- all instructions must find no fault."
 use mathlib.Core.Bool.{Bool, true, false, cond, not}
-use mathlib.Core.List.{List, _++_}
+use mathlib.Core.List.{List}
 use mathlib.Core.Option.{Option, some, none}
-use Prim.Native.Nat.{ℕ, zero, suc, _+_}
+use Prim.Native.Nat.{ℕ, zero, suc}
 use lib.IntN.{ℤ}
 use lib.ListN.{length, getElem?}
 use Rattle.model.specs.Trees.{Instruction, Variable, System, variables}
-use Rattle.engine.specs.Expressions.{Valuation, knownFrom}
-use Rattle.engine.specs.declared.Fault.{Fault}
-use Rattle.engine.specs.Instructions.{Effect, any, effects, faultOf, givenTo, firstOf}
-use Rattle.engine.specs.Instructions.Effect.{fails, gives}
+use Rattle.interpreter.specs.Expressions.{Valuation, knownFrom}
+use Rattle.interpreter.specs.declared.Fault.{Fault}
+use Rattle.interpreter.specs.Instructions.{Effect, any, effects, faultOf, givenTo, firstOf}
+use Rattle.interpreter.specs.Instructions.Effect.{fails, gives}
 use Rattle.engine.specs.Actions.{cells}
 
 -- a fault, or the round count with the valuation reached
@@ -50,11 +50,11 @@ pub data Settled : Type 0 where
   refused : Fault → Settled
   settled : ℕ → List ℤ → Settled
 
--- flows still unknown take their reset values
 unfoldable pub firstValue : Option Variable → Option ℤ
 firstValue none = none
 firstValue (some d) = some (d .first)
 
+-- 01: "flows still unknown take their reset values"
 abbrev pub resetBy : List Variable → Valuation → Valuation
 resetBy vs σ x = firstOf (σ x) (firstValue (getElem? vs x))
 

@@ -1,20 +1,19 @@
 -- 01, "Rows to prove": "These twelve are shown to hold for the definitions as one collected list".
 use mathlib.Core.Path.{_≡_}
 use mathlib.Core.List.{List, [], _∷_}
-use Prim.Native.Nat.{ℕ}
 use lib.Dec.{T}
 use lib.IntN.{ℤ, pos}
 use lib.Signed.{leZ}
 use Rattle.evaluation.specs.declared.Operator.the-variants.{Quotient}
 use Rattle.evaluation.specs.Rows.{RowA, RowB, RowC, RowD, RowE, RowF, RowG}
-use Rattle.model.specs.Kinds.{booleanSort, numberSort}
+use Rattle.syntax.specs.Kinds.{booleanSort, numberSort}
 use Rattle.model.specs.Trees.{Expression, Instruction, Instructions, Variable, System}
 use Rattle.model.specs.Trees.Expression.{numeral, variable, negation, binary}
 use Rattle.model.specs.Trees.Instruction.{skip, assign, block}
 use Rattle.model.specs.Trees.Instructions.{none, more}
-use Rattle.engine.specs.declared.Fault.the-variants.{Failure, Conflict}
-use Rattle.engine.specs.Instructions.{numberOf}
-use Rattle.engine.specs.Instructions.Place.{action, assertion}
+use Rattle.interpreter.specs.declared.Fault.the-variants.{Failure, Conflict}
+use Rattle.interpreter.specs.Instructions.{numberOf}
+use Rattle.interpreter.specs.Instructions.Place.{action, assertion}
 use Rattle.engine.specs.Actions.{act}
 use Rattle.engine.specs.Actions.Acted.{faulty, states}
 use Rattle.engine.specs.Propagation.{settle}

@@ -4,15 +4,15 @@
 use mathlib.Core.Path.{_≡_}
 use mathlib.Core.Bool.{false, cond}
 use mathlib.Core.List.{List, List·Memᴰ}
-use mathlib.Core.Option.{Option, some, none}
+use mathlib.Core.Option.{some, none}
 use Prim.Native.Nat.{ℕ, zero, suc}
 use lib.Dec.{eqb}
 use lib.IntN.{ℤ}
-use Rattle.model.specs.Trees.{Instruction, Variable, System, variables}
-use Rattle.engine.specs.Expressions.{Valuation}
-use Rattle.engine.specs.declared.Fault.{Fault}
-use Rattle.engine.specs.Instructions.{Effect, any, effects, faultOf}
-use Rattle.engine.specs.Instructions.Effect.{gives}
+use Rattle.model.specs.Trees.{Instruction, Variable, variables}
+use Rattle.interpreter.specs.Expressions.{Valuation}
+use Rattle.interpreter.specs.declared.Fault.{Fault}
+use Rattle.interpreter.specs.Instructions.{Effect, any, effects, faultOf}
+use Rattle.interpreter.specs.Instructions.Effect.{gives}
 use Rattle.engine.specs.Propagation.{Settled, isNew, finish}
 use Rattle.engine.specs.Propagation.Settled.{refused, settled}
 

@@ -1,8 +1,7 @@
 -- The laws of order. Proved in proofs/.
 use mathlib.Core.Path.{_≡_}
-use mathlib.Core.Bool.{true}
 use mathlib.Core.List.{List}
-use mathlib.Core.Option.{Option, some, none}
+use mathlib.Core.Option.{some}
 use Prim.Native.Nat.{ℕ, suc, _≤_, _<_}
 use lib.Dec.{T}
 use lib.IntN.{ℤ, pos}
@@ -14,11 +13,11 @@ use Rattle.model.specs.Check.{verdict}
 use Rattle.model.specs.Check.Verdict.{accepted}
 use Rattle.model.specs.Shuffle.{Shuffled}
 use Rattle.model.specs.Theorems.{Bytes}
-use Rattle.engine.specs.Expressions.{Valuation, evaluate, knownFrom}
-use Rattle.engine.specs.Instructions.{isWithin}
+use Rattle.interpreter.specs.Expressions.{Valuation, evaluate, knownFrom}
+use Rattle.interpreter.specs.Instructions.{isWithin}
 use Rattle.engine.specs.Propagation.{Settled, rounds, settle}
 use Rattle.engine.specs.Propagation.Settled.{settled}
-use Rattle.engine.specs.Sequential.{Ended, endOf, Steps, Ends, Sequence}
+use Rattle.engine.specs.Sequential.{Ended, endOf, Steps, Sequence}
 use Rattle.engine.specs.Meanings.{meaningOf}
 
 -- more is known: a variable that is known keeps its value

@@ -4,19 +4,20 @@ ghost use mathlib.Core.Path.{_≡_};
 ghost use Prim.Native.Nat.{ℕ, suc, _+_, _≤_};
 ghost use lib.ListN.{length, take, drop};
 ghost use Rattle.model.specs.Trees.{variables};
-ghost use Rattle.engine.specs.Gathering.{faultIn};
-ghost use Rattle.engine.specs.Instructions.{effects, faultOf};
+ghost use Rattle.interpreter.specs.Gathering.{faultIn};
+ghost use Rattle.interpreter.specs.Instructions.{effects, faultOf};
 ghost use Rattle.engine.specs.Actions as actions;
 ghost use Rattle.engine.specs.Propagation as propagation;
 ghost use Rattle.engine.specs.Propagation.{settle};
 ghost use Rattle.engine.specs.Firing.{written};
-ghost use Rattle.engine.specs.Cells.{AllRepresentable, maxVariables, valuationOf, findingOf, filled, reachedIn, leavesFlows, flowsBySettling, leavesStates, statesByActing, AssertionStands, PropagationStands, ActionStands};
-use super::Fault;
+ghost use Rattle.engine.specs.Cells.{AllRepresentable, maxVariables, findingOf, filled, reachedIn, leavesFlows, flowsBySettling, leavesStates, statesByActing, AssertionStands, PropagationStands, ActionStands};
+ghost use Rattle.interpreter.specs.Cells.{valuationOf};
 use super::Finding;
-use super::Gathered;
 use super::Propagated;
-use super::expressions;
-use super::instructions;
+use interpreter::Fault;
+use interpreter::Gathered;
+use interpreter::expressions;
+use interpreter::instructions;
 use model::Model;
 
 // A cell that holds no number of 32 bits.
@@ -46,6 +47,18 @@ pub fn overwrite(values: &[i32], cells: &mut [i64])
     let mut i = 0;
     while i < values.len() {
         cells[i] = values[i] as i64;
+        i += 1;
+    }
+}
+
+// The first cells become these.
+fn update(new: &[i64], cells: &mut [i64])
+    requires { ⌜ length (now new) ≤ length (now cells) ⌝ }
+    ensures { λ _. ⌜ now (cells .exit) ≡ written (now (new .entry)) (now (cells .entry)) ⌝ }
+{
+    let mut i = 0;
+    while i < new.len() {
+        cells[i] = new[i];
         i += 1;
     }
 }
@@ -115,7 +128,8 @@ fn rounds(
         if !found.fresh {
             break Propagated::Settled(count);
         }
-        *cells = given;
+        let n = lows.len();
+        update(&given[..n], cells);
     }
 }
 

@@ -1,8 +1,8 @@
 // Guards, firing and starting, on the slices of a decoded model and lent values.
 
 ghost use mathlib.Core.Path.{_≡_};
-ghost use Prim.Native.Nat.{_-_, _≤_, min};
-ghost use lib.ListN.{length};
+ghost use Prim.Native.Nat.{_-_, _≤_, _<_, min};
+ghost use lib.ListN.{length, getD};
 ghost use Rattle.engine.specs.Actions.{act};
 ghost use Rattle.engine.specs.Propagation.{settle};
 ghost use Rattle.engine.specs.Cells.{Loaded, AllRepresentable, PropagationStands, TransitionStands, cellsOver};
@@ -11,11 +11,11 @@ ghost use Rattle.engine.specs.Meanings.{meaningOf};
 use super::Finding;
 use super::Firing;
 use super::Propagated;
-use super::expressions;
 use super::propagation;
 use evaluation::Evaluation;
-use model::Cursor;
+use interpreter::expressions;
 use model::Model;
+use syntax::Cursor;
 
 fn least(a: usize, b: usize) -> usize
     ensures { λ r. ⌜ r ≡ min a b ⌝ }
@@ -152,6 +152,15 @@ fn carry_out(
     }
 }
 
+// The place of the action of a transition: right after its guard.
+fn action_place(nexts: &[u16], guards: &[u16], transition: usize) -> usize
+    requires { ⌜ (transition < length (now guards)) × (getD (now guards) transition 0 < length (now nexts)) ⌝ }
+    ensures { λ r. ⌜ r ≡ getD (now (nexts .entry)) (getD (now (guards .entry)) transition 0) 0 ⌝ }
+{
+    let at = guards[transition] as usize;
+    nexts[at] as usize
+}
+
 // Guard, action, assertion; nothing is recorded.
 pub fn fire(
     model: Model,
@@ -170,8 +179,7 @@ pub fn fire(
     ensures { λ r. ⌜ ((d : Loaded model (now (kinds .entry)) (now (parameters .entry)) (now (sorts .entry)) (now (lows .entry)) (now (highs .entry)) (now (firsts .entry)) (now (nexts .entry)) (now (guards .entry)))
         → leaves r (now (values .exit)) ≡ fired (meaningOf (d .decoded .system)) transition (now (values .entry))) ⌝ }
 {
-    let s = model.sizes.states;
-    let n = s + model.sizes.flows;
+    let n = model.sizes.states + model.sizes.flows;
     if values.len() < n {
         return Firing::Disabled;
     }
@@ -196,8 +204,6 @@ pub fn fire(
             if v != 1 {
                 return Firing::Disabled;
             }
-            let at = guards[transition] as usize;
-            let action = nexts[at] as usize;
             carry_out(
                 kinds,
                 parameters,
@@ -207,8 +213,8 @@ pub fn fire(
                 firsts,
                 model.assertion,
                 &cells[..n],
-                action,
-                s,
+                action_place(nexts, guards, transition),
+                model.sizes.states,
                 values,
             )
         }

@@ -2,10 +2,10 @@
 
 ghost use Prim.Native.Nat.{_≤_};
 ghost use lib.ListN.{length};
-ghost use Rattle.console.specs.Sessions.{Room};
-use console::Dimensions;
-use console::Line;
-use console::session;
+use console::Written;
+use dialogue::Dimensions;
+use dialogue::Line;
+use dialogue::replies;
 use libc::STDIN_FILENO;
 use libc::STDOUT_FILENO;
 use model::Model;
@@ -23,6 +23,16 @@ fn read_model(buffer: &mut [u8]) -> usize
     length
 }
 
+// Prints the line that was written at the beginning of the slice.
+fn print(written: Written, out: &[u8]) {
+    let Written::Length(length) = written else {
+        return;
+    };
+    if length <= out.len() {
+        io::write_all(STDOUT_FILENO, &out[0..length]);
+    }
+}
+
 // Answers each line that a part of the input ends; the line that it begins.
 fn answer_part(
     part: &[u8],
@@ -33,15 +43,13 @@ fn answer_part(
     n: &mut usize,
     marks: &mut [u8],
     out: &mut [u8],
-) -> Line
-    requires { ⌜ Room (length (now values)) (length (now marks)) (length (now out)) ⌝ }
-{
+) -> Line {
     let mut line = begun;
     let mut i = 0;
     while i < part.len() {
-        let step = session::step(line, part[i], model, values, history, n, marks, out);
-        let length = step.length;
-        io::write_all(STDOUT_FILENO, &out[0..length]);
+        let step = replies::step(line, part[i], model, values, history, n, marks, out);
+        let written = step.written;
+        print(written, out);
         line = step.line;
         i += 1;
     }
@@ -56,9 +64,7 @@ fn answer_all(
     n: &mut usize,
     marks: &mut [u8],
     out: &mut [u8],
-)
-    requires { ⌜ Room (length (now values)) (length (now marks)) (length (now out)) ⌝ }
-{
+) {
     let mut part = [0u8; 4096];
     let mut line = Line::empty();
     let mut turns = u64::MAX;
@@ -71,20 +77,18 @@ fn answer_all(
         let count = io::count(got, &part);
         line = answer_part(&part[0..count], line, model, values, history, n, marks, out);
     }
-    let length = session::close(line, model, values, history, n, marks, out);
-    io::write_all(STDOUT_FILENO, &out[0..length]);
+    let written = replies::close(line, model, values, history, n, marks, out);
+    print(written, out);
 }
 
-// Starts the run and, unless that is refused, answers the input.
-fn serve(model: &[u8], values: &mut [i32], marks: &mut [u8])
-    requires { ⌜ (length (now values) ≤ 510) × (length (now marks) ≤ 255) ⌝ }
-{
+// Starts the run and, unless that is refused, answers the input. 6,144 bytes are room for every line of a run.
+fn serve(model: &[u8], values: &mut [i32], marks: &mut [u8]) {
     let mut history = [0u8; 200];
     let mut n: usize = 0;
     let mut out = [0u8; 6144];
-    let opening = session::open(model, values, &mut history, &mut n, marks, &mut out);
-    let length = opening.length;
-    io::write_all(STDOUT_FILENO, &out[0..length]);
+    let opening = replies::open(model, values, &mut history, &mut n, marks, &mut out);
+    let written = opening.written;
+    print(written, &out);
     if opening.is_started {
         answer_all(model, values, &mut history, &mut n, marks, &mut out);
     }
@@ -93,8 +97,8 @@ fn serve(model: &[u8], values: &mut [i32], marks: &mut [u8])
 // Prints the refusal of the model.
 fn refuse(number: u8) {
     let mut out = [0u8; 32];
-    let length = session::refuse(number, &mut out);
-    io::write_all(STDOUT_FILENO, &out[0..length]);
+    let written = console::refusal_line(number, &mut out);
+    print(written, &out);
 }
 
 // Runs the model on parts of the arrays, as long as its run is.
@@ -105,7 +109,6 @@ fn serve_parts(
     values: &mut [i32],
     marks: &mut [u8],
 )
-    requires { ⌜ (variables ≤ 510) × (transitions ≤ 255) ⌝ }
     requires { ⌜ (variables ≤ length (now values)) × (transitions ≤ length (now marks)) ⌝ }
 {
     serve(model, &mut values[0..variables], &mut marks[0..transitions]);
@@ -115,7 +118,7 @@ fn serve_parts(
 fn run_model(model: &[u8]) {
     let mut values = [0i32; Model::MAX_VARIABLES];
     let mut marks = [0u8; Model::MAX_TRANSITIONS];
-    match session::dimensions(model) {
+    match replies::dimensions(model) {
         Dimensions::Refused(number) => refuse(number),
         Dimensions::Known(variables, transitions) => {
             serve_parts(model, variables, transitions, &mut values, &mut marks);

@@ -15,6 +15,7 @@ use lib.Signed.{mag}
 use mir.Syntax.{w8, w32, w64}
 use mir.Val.{toZ, ofZ, SFits, Fits}
 use mir.ValLaws.{toZ-ofZ, toZ-pos}
+use Rattle.model.specs.declared.Walked.{Walked}
 use Rattle.model.specs.declared.Layout.{Layout}
 use Rattle.model.specs.declared.Sizes.{Sizes}
 use Rattle.model.specs.declared.Sized.the-variants.{Refused, Read}
@@ -189,6 +190,6 @@ unfolding sizesIn
 few-variables {m} {s} w b = rw (w .sizes) (omega (arith, one-small m 0 b, one-small m 1 b))
 
 -- the walk over the parts of a file that are handed on
-pub walked-parts : (m : List ℕ) (s : Sizes) {ps : List ℤ} → ps ≡ parametersAt m (6 + s .nodes) (s .nodes)
-    → outcome (complete (s .nodes) (systemAt (take (6 + s .nodes - 6) (drop 6 m)) ps s)) ≡ outcome (walkedIn byteLayout m s)
-walked-parts m s e = let q : 6 + s .nodes - 6 ≡ s .nodes = omega arith in rw (q, e)
+pub walked-parts : (m : List ℕ) (s : Sizes) {ps : List ℤ} {r : Walked} → ps ≡ parametersAt m (6 + s .nodes) (s .nodes)
+    → r ≡ outcome (complete (s .nodes) (systemAt (take (6 + s .nodes - 6) (drop 6 m)) ps s)) → r ≡ outcome (walkedIn byteLayout m s)
+walked-parts m s e h = let q : 6 + s .nodes - 6 ≡ s .nodes = omega arith in rw (h, q, e)

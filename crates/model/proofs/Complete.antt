@@ -9,12 +9,13 @@ use lib.Dec.{T, eqb}
 use lib.IntN.{ℤ, pos, natAbs}
 use lib.ListN.{length, getD}
 use Rattle.evaluation.specs.Numbers.{eqZ}
-use Rattle.model.specs.Kinds.{placeOf, childrenOf, resultOf, operandSort, kindOf, operatorOf}
+use Rattle.syntax.specs.Kinds.{placeOf, childrenOf, resultOf, operandSort, kindOf, operatorOf}
 use Rattle.model.specs.Trees.{Expression, Instruction, Instructions, count, depthOfExpression, depthOf, depthOfAll}
 use Rattle.model.specs.Trees.Expression.{numeral, truth, variable, negation, binary, ifThenElse}
 use Rattle.model.specs.Trees.Instruction.{skip, assign, ifThen, block}
 use Rattle.model.specs.Trees.Instructions.{none, more}
-use Rattle.model.specs.Walk.{Walk, Scope, andThen, unlessRefused, isTruth, isOfSort, isTarget, leaf, operandsAt, expressionAt, expressionRefusal, expressionAllowed, expressionFits, branchesAt, partsAt, instructionAt, instructionRefusal, instructionFits, kindAt, parameterAt}
+use Rattle.model.specs.Walk.{Walk, Scope, andThen, unlessRefused, leaf, operandsAt, expressionAt, branchesAt, partsAt, instructionAt}
+use Rattle.syntax.specs.Readings.{isTruth, isOfSort, isTarget, expressionRefusal, expressionAllowed, expressionFits, instructionRefusal, instructionFits, kindAt, parameterAt}
 use Rattle.model.specs.Walk.Walk.{found}
 use Rattle.model.specs.WellFormed.{Sorted, Scoped, AllScoped}
 use Rattle.model.specs.Decoding.{NodeAt, ExpressionAt, InstructionAt, InstructionsAt, sizeOfExpression, sizeOf, sizeOfAll}

@@ -12,15 +12,16 @@ use mir.Syntax.{w32}
 use mir.Val.{toZ, ofZ, SFits}
 use mir.ValLaws.{toZ-ofZ}
 use Rattle.evaluation.specs.Numbers.{greatest}
-use Rattle.model.specs.declared.Cursor.{Cursor}
-use Rattle.model.specs.declared.Reading.{Reading}
-use Rattle.model.specs.declared.Reading.the-variants as reading
+use Rattle.syntax.specs.declared.Cursor.{Cursor}
+use Rattle.syntax.specs.declared.Reading.{Reading}
+use Rattle.syntax.specs.declared.Reading.the-variants as reading
 use Rattle.model.specs.declared.Walked.{Walked}
 use Rattle.model.specs.declared.Walked.the-variants as walked
 use Rattle.model.specs.declared.Declaration.{Declaration}
 use Rattle.model.specs.declared.Declaration.the-variants as declaration
 use Rattle.model.specs.Trees.{Variable, sortsOf}
-use Rattle.model.specs.Walk.{Walk, andThen, outcome, declarationOf, parameterAt, variableReading, variableRefusal, endReading, endRefusal, rangeAt, variableAt, rowAt}
+use Rattle.model.specs.Walk.{Walk, andThen, outcome, declarationOf, rangeAt, variableAt, rowAt}
+use Rattle.syntax.specs.Readings.{parameterAt, variableReading, variableRefusal, endReading, endRefusal}
 use Rattle.model.specs.Walk.Walk.{refused, found}
 use Rattle.model.proofs.Walking.{split, unless-refused, unless-none, Due, node-due, one-less, list-row, row-refused, row-next, row-done}
 

@@ -6,15 +6,16 @@ use Prim.Native.Nat.{ℕ, zero, suc, _+_, _-_, _≤_}
 use native.Mathlib.Omega.{arith}
 use lib.Dec.{eqb}
 use lib.IntN.{ℤ}
-use Rattle.model.specs.declared.Cursor.{Cursor}
-use Rattle.model.specs.declared.Row.{Row}
-use Rattle.model.specs.declared.Reading.{Reading}
-use Rattle.model.specs.declared.Reading.the-variants as reading
+use Rattle.syntax.specs.declared.Cursor.{Cursor}
+use Rattle.syntax.specs.declared.Row.{Row}
+use Rattle.syntax.specs.declared.Reading.{Reading}
+use Rattle.syntax.specs.declared.Reading.the-variants as reading
 use Rattle.model.specs.declared.Walked.{Walked}
 use Rattle.model.specs.declared.Walked.the-variants as walked
-use Rattle.model.specs.Kinds.{between, childrenOf, rowOf, operandSort}
+use Rattle.syntax.specs.Kinds.{between, childrenOf, rowOf, operandSort}
 use Rattle.model.specs.Trees.{Expression}
-use Rattle.model.specs.Walk.{Walk, unlessRefused, outcome, kindAt, parameterAt, expressionRefusal, expressionReading, operandsAt, expressionAt}
+use Rattle.model.specs.Walk.{Walk, unlessRefused, outcome, operandsAt, expressionAt}
+use Rattle.syntax.specs.Readings.{kindAt, parameterAt, expressionRefusal, expressionReading}
 use Rattle.model.proofs.Walking.{then-refused, then-next, then-found, refused-number, unless-refused, unless-none, Due, node-due, depth-left, one-less, children-of}
 
 module _ (ks : List ℕ) (ps : List ℤ) (sorts : List ℕ) (wanted at : ℕ) where
@@ -37,7 +38,7 @@ module _ (ks : List ℕ) (ps : List ℤ) (sorts : List ℕ) (wanted at : ℕ) wh
     due : Due ks ps (number left) at k p next
     due = node-due ks ps (number left) at e h
 
-    pub expression-depth : 1 ≤ left
+    expression-depth : 1 ≤ left
     unfolding expressionRefusal
     expression-depth = depth-left ks ps _ _ left at (due .allowed)
 

@@ -11,7 +11,7 @@ use lib.Dec.{ltb}
 use lib.IntN.{ℤ, pos, natAbs}
 use lib.ListN.{length, getD, set, drop, length-set}
 use lib.Seq.{getD-set-same, getD-set-other, drop-set-lt}
-use Rattle.model.specs.Kinds.{childrenOf}
+use Rattle.syntax.specs.Kinds.{childrenOf}
 use Rattle.model.specs.NextPlaces.{childrenBy, following, filled}
 
 pub following-step : (nexts : List ℕ) (nodes n at : ℕ) → at < nodes

@@ -11,16 +11,17 @@ use lib.ListN.{length, getD, List·getD-eq-default}
 use mir.Syntax.{w32}
 use mir.Val.{toZ, ofZ, SFits}
 use Rattle.evaluation.proofs.Signed.{read-one}
-use Rattle.model.specs.declared.Cursor.{Cursor}
-use Rattle.model.specs.declared.Row.{Row}
-use Rattle.model.specs.declared.Reading.{Reading}
-use Rattle.model.specs.declared.Reading.the-variants as reading
+use Rattle.syntax.specs.declared.Cursor.{Cursor}
+use Rattle.syntax.specs.declared.Row.{Row}
+use Rattle.syntax.specs.declared.Reading.{Reading}
+use Rattle.syntax.specs.declared.Reading.the-variants as reading
 use Rattle.model.specs.declared.Walked.{Walked}
 use Rattle.model.specs.declared.Walked.the-variants as walked
-use Rattle.model.specs.Kinds.{childrenOf, rowOf}
+use Rattle.syntax.specs.Kinds.{childrenOf, rowOf}
 use Rattle.model.specs.Trees.{Expression, Instruction}
 use Rattle.model.specs.Trees.Instruction.{block}
-use Rattle.model.specs.Walk.{Walk, Scope, andThen, unlessRefused, outcome, kindAt, parameterAt, instructionRefusal, instructionReading, expressionAt, branchesAt, partsAt, instructionAt}
+use Rattle.model.specs.Walk.{Walk, Scope, andThen, unlessRefused, outcome, expressionAt, branchesAt, partsAt, instructionAt}
+use Rattle.syntax.specs.Readings.{kindAt, parameterAt, instructionRefusal, instructionReading}
 use Rattle.model.specs.Walk.Walk.{found}
 use Rattle.model.proofs.Walking.{then-refused, then-next, then-found, refused-number, unless-refused, unless-none, Due, node-due, depth-left, one-less, children-of}
 
@@ -54,7 +55,7 @@ module _ (ks : List ℕ) (ps : List ℤ) (s : Scope) (at : ℕ) where
     due : Due ks ps (number left) at k p next
     due = node-due ks ps (number left) at e h
 
-    pub instruction-depth : 1 ≤ left
+    instruction-depth : 1 ≤ left
     unfolding instructionRefusal
     instruction-depth = depth-left ks ps _ _ left at (due .allowed)
 

@@ -7,7 +7,7 @@ use borrow.Author.Tests.{eqb-true, leb-true}
 use lib.Dec.{eqb, leb}
 use Rattle.evaluation.specs.declared.Operator.{Operator}
 use Rattle.evaluation.specs.declared.Operator.the-variants.{Conjunction, Disjunction, Equality, Less, LessOrEqual, Sum, Difference, Product, Quotient, Remainder, Equivalence}
-use Rattle.model.specs.Kinds.{between, placeOf, childrenOf, kindOf, operatorOf}
+use Rattle.syntax.specs.Kinds.{between, placeOf, childrenOf, kindOf, operatorOf}
 
 -- ---- tests joined by `&&` and `||`
 

@@ -13,10 +13,8 @@ pub mod KindCases
 pub mod LittleBytes
 pub mod NodeLists
 pub mod NodeTrees
-pub mod Parameters
 pub mod Places
 pub mod Preparing
-pub mod Refusals
 pub mod Representable
 pub mod Shuffling
 pub mod Standing
@@ -25,7 +23,6 @@ pub mod StoredGuards
 pub mod StoredVariables
 pub mod SystemWalks
 pub mod Systems
-pub mod Table
 pub mod Verdicts
 pub mod WalkClaims
 pub mod Walking

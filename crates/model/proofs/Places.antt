@@ -11,7 +11,7 @@ use lib.ListN.{length, getD, take, drop, replicate, length-replicate, length-app
 use lib.Seq.{drop-cons, drop-drop, take-add, length-take-le}
 use Rattle.evaluation.specs.declared.Operator.{Operator}
 use Rattle.evaluation.specs.declared.Operator.the-variants.{Conjunction, Disjunction, Equality, Less, LessOrEqual, Sum, Difference, Product, Quotient, Remainder, Equivalence}
-use Rattle.model.specs.Kinds.{childrenOf, kindOf}
+use Rattle.syntax.specs.Kinds.{childrenOf, kindOf}
 use Rattle.model.specs.Trees.{Expression, Instruction, Instructions, Variable, Transition, System, count, variables}
 use Rattle.model.specs.Trees.Expression.{numeral, truth, variable, negation, binary, ifThenElse}
 use Rattle.model.specs.Trees.Instruction.{skip, assign, ifThen, block}

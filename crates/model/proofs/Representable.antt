@@ -16,7 +16,8 @@ use Rattle.model.specs.Trees.Expression.{numeral, truth, variable, negat
 use Rattle.model.specs.Trees.Instruction.{skip, assign, ifThen, block}
 use Rattle.model.specs.Trees.Instructions.{none, more}
 use Rattle.model.specs.Nodes.{Node, nodesOfExpression, nodesOf, nodesOfAll, nodesOfVariable, nodesOfTransition, nodesOfSystem}
-use Rattle.model.specs.Walk.{Scope, isTruth}
+use Rattle.model.specs.Walk.{Scope}
+use Rattle.syntax.specs.Readings.{isTruth}
 use Rattle.model.specs.Check.{actionScope, assertionScope}
 use Rattle.model.specs.WellFormed.{Sorted, Scoped, AllScoped, Declared, GuardedBy, All, WellFormed, sizesOf}
 use Rattle.model.specs.Decoding.{sizeOf, sizeOfAll, sizeOfTransition, sizeOfTransitions}

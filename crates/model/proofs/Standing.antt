@@ -12,10 +12,11 @@ use lib.ListN.{length, getD}
 use Rattle.evaluation.specs.declared.Operator.{Operator}
 use Rattle.evaluation.specs.Numbers.{eqZ, representable}
 use Rattle.evaluation.proofs.Laws.{eqZ-true}
-use Rattle.model.specs.Kinds.{placeOf, childrenOf, resultOf, operandSort, kindOf}
+use Rattle.syntax.specs.Kinds.{placeOf, childrenOf, resultOf, operandSort, kindOf}
 use Rattle.model.specs.Trees.{Expression, Instruction, Instructions, count, depthOfExpression, depthOf, depthOfAll}
 use Rattle.model.specs.Trees.Instruction.{block}
-use Rattle.model.specs.Walk.{Walk, Scope, isTarget, branchesAt, partsAt, instructionAt, instructionRefusal, instructionFits, andThen, isOfSort, leaf, operandsAt, expressionAt, expressionRefusal, expressionAllowed, expressionFits, kindAt, parameterAt}
+use Rattle.model.specs.Walk.{Walk, Scope, branchesAt, partsAt, instructionAt, andThen, leaf, operandsAt, expressionAt}
+use Rattle.syntax.specs.Readings.{isTarget, instructionRefusal, instructionFits, isOfSort, expressionRefusal, expressionAllowed, expressionFits, kindAt, parameterAt}
 use Rattle.model.specs.Walk.Walk.{found}
 use Rattle.model.specs.WellFormed.{Sorted, Scoped, AllScoped}
 use Rattle.model.specs.Decoding.{NodeAt, ExpressionAt, InstructionAt, InstructionsAt, sizeOfExpression, sizeOf, sizeOfAll}

@@ -11,10 +11,11 @@ use lib.IntN.{ℤ, pos}
 use lib.Signed.{leZ}
 use lib.ListN.{length, length-append}
 use Rattle.evaluation.specs.Numbers.{greatest}
-use Rattle.model.specs.Kinds.{placeOf}
+use Rattle.syntax.specs.Kinds.{placeOf}
 use Rattle.model.specs.Trees.{Variable, Transition}
 use Rattle.model.specs.Nodes.{nodesOfVariable}
-use Rattle.model.specs.Walk.{Walk, Scope, isTruth, isTarget, expressionAt, instructionAt, variableAt, variableRefusal, rangeAt, endRefusal, transitionAt, transitionRefusal, rowAt, kindAt, parameterAt}
+use Rattle.model.specs.Walk.{Walk, Scope, expressionAt, instructionAt, variableAt, rangeAt, transitionAt, rowAt}
+use Rattle.syntax.specs.Readings.{isTruth, isTarget, variableRefusal, endRefusal, transitionRefusal, kindAt, parameterAt}
 use Rattle.model.specs.Walk.Walk.{found}
 use Rattle.model.specs.Check.{maxDepth}
 use Rattle.model.specs.WellFormed.{Declared, GuardedBy, All}

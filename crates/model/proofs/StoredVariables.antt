@@ -12,7 +12,7 @@ use lib.ListN.{length, set, drop, length-set, length-map}
 use lib.Seq.{sets, sets-eq}
 use mir.Syntax.{w32}
 use Rattle.evaluation.proofs.Signed.{read-back}
-use Rattle.model.specs.declared.Cursor.{Cursor}
+use Rattle.syntax.specs.declared.Cursor.{Cursor}
 use Rattle.model.specs.declared.Declaration.{Declaration}
 use Rattle.model.specs.declared.Declaration.the-variants as declaration
 use Rattle.model.specs.Trees.{Variable, sortsOf}

@@ -7,14 +7,15 @@ use Prim.Native.Nat.{ℕ, _+_, _≤_, _<_}
 use borrow.Author.Tests.{lt-ltb, le-ltb}
 use lib.Dec.{ltb}
 use lib.IntN.{ℤ}
-use Rattle.model.specs.declared.Cursor.{Cursor}
+use Rattle.syntax.specs.declared.Cursor.{Cursor}
 use Rattle.model.specs.declared.Sizes.{Sizes}
-use Rattle.model.specs.declared.Reading.{Reading}
-use Rattle.model.specs.declared.Reading.the-variants as reading
+use Rattle.syntax.specs.declared.Reading.{Reading}
+use Rattle.syntax.specs.declared.Reading.the-variants as reading
 use Rattle.model.specs.declared.Walked.{Walked}
 use Rattle.model.specs.declared.Walked.the-variants as walked
 use Rattle.model.specs.Trees.{Variable, sortsOf}
-use Rattle.model.specs.Walk.{Walk, Scope, scopeOf, andThen, outcome, transitionReading, transitionRefusal, expressionAt, instructionAt, variableAt, transitionAt, rowAt}
+use Rattle.model.specs.Walk.{Walk, Scope, scopeOf, andThen, outcome, expressionAt, instructionAt, variableAt, transitionAt, rowAt}
+use Rattle.syntax.specs.Readings.{transitionReading, transitionRefusal}
 use Rattle.model.specs.Walk.Walk.{refused, found}
 use Rattle.model.specs.Check.{maxDepth, complete, restAt, systemAt}
 use Rattle.model.proofs.Walking.{split, same-place, then-refused, then-next, then-found, unless-refused, unless-none, Due, node-due}

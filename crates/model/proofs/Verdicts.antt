@@ -6,7 +6,7 @@ use native.Mathlib.Omega.{arith}
 use borrow.Author.Tests.{lt-ltb, le-ltb, eq-eqb, ne-eqb}
 use lib.IntN.{ℤ}
 use lib.ListN.{length}
-use Rattle.model.specs.declared.Cursor.{Cursor}
+use Rattle.syntax.specs.declared.Cursor.{Cursor}
 use Rattle.model.specs.declared.Sizes.{Sizes}
 use Rattle.model.specs.declared.Sized.the-variants.{Refused, Read}
 use Rattle.model.specs.declared.Walked.the-variants as walked

@@ -8,7 +8,8 @@ use borrow.Author.Tests.{leb-false, eqb-false, lt-leb, ne-eqb}
 use lib.Dec.{eqb, leb}
 use lib.IntN.{ℤ}
 use lib.ListN.{length}
-use Rattle.model.specs.Walk.{Walk, andThen, unlessRefused, refusalAt, kindAt, parameterAt}
+use Rattle.model.specs.Walk.{Walk, andThen, unlessRefused}
+use Rattle.syntax.specs.Readings.{refusalAt, kindAt, parameterAt}
 use Rattle.model.specs.Walk.Walk.{refused, found}
 use Rattle.model.specs.Decoding.{NodeAt}
 

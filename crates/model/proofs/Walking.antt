@@ -1,5 +1,5 @@
 -- The laws that the functions of the walk share: one walk after another, the node that is due, walks in a row.
-use mathlib.Core.Path.{_≡_, refl, sym, ap, _∙_}
+use mathlib.Core.Path.{_≡_, refl, sym, ap, subst, _∙_}
 use mathlib.Core.Bool.{Bool, true, false, cond}
 use mathlib.Core.List.{List, _∷_}
 use Prim.Native.Nat.{ℕ, zero, suc, _+_, _-_, _≤_, _<_}
@@ -7,16 +7,17 @@ use native.Mathlib.Omega.{arith}
 use lib.Dec.{leb}
 use lib.IntN.{ℤ}
 use lib.ListN.{length}
-use Rattle.model.specs.declared.Cursor.{Cursor}
-use Rattle.model.specs.declared.Row.{Row}
-use Rattle.model.specs.declared.Reading.{Reading}
-use Rattle.model.specs.declared.Reading.the-variants as reading
+use Rattle.syntax.specs.declared.Cursor.{Cursor}
+use Rattle.syntax.specs.declared.Row.{Row}
+use Rattle.syntax.specs.declared.Reading.{Reading}
+use Rattle.syntax.specs.declared.Reading.the-variants as reading
 use Rattle.model.specs.declared.Walked.{Walked}
 use Rattle.model.specs.declared.Walked.the-variants as walked
-use Rattle.model.specs.Kinds.{childrenOf, rowOf}
+use Rattle.syntax.specs.Kinds.{childrenOf, rowOf}
 use Rattle.model.specs.Trees.{Instruction}
 use Rattle.model.specs.Trees.Instructions.{more}
-use Rattle.model.specs.Walk.{Walk, andThen, unlessRefused, outcome, readingAt, kindAt, parameterAt, refusalAt, branchesAt, rowAt}
+use Rattle.model.specs.Walk.{Walk, andThen, unlessRefused, outcome, branchesAt, rowAt}
+use Rattle.syntax.specs.Readings.{readingAt, kindAt, parameterAt, refusalAt, DepthLeft}
 use Rattle.model.specs.Walk.Walk.{refused, found}
 
 -- ---- one walk after another
@@ -94,6 +95,11 @@ depth-left ks ps allowed fits zero at e = absurd (by (leb (length ks) at) e)
     by true e = omega arith
     by false e = omega arith
 depth-left ks ps allowed fits (suc left) at e = omega arith
+
+-- no node is read with no depth left, whatever the table that is lent
+pub node-depth : (left : ℕ) {r : Reading} {k : ℕ} {p : ℤ} {next : Cursor} → DepthLeft left r → r ≡ reading.Node k p next → 1 ≤ left
+unfolding DepthLeft
+node-depth left d e = subst (DepthLeft left) e d
 
 -- the depth of a child
 pub one-less : (left : ℕ) → suc left - 1 ≡ left

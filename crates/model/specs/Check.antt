@@ -2,7 +2,7 @@
 -- 01: "Orders: 1, 2, 3, then the walk, where the first offending node ends it and 4 to 7 are tried in that order; 8 last."
 use mathlib.Core.Bool.{cond, not}
 use mathlib.Core.List.{List, [], _∷_}
-use Prim.Native.Nat.{ℕ, zero, suc, _+_, _*_, _-_}
+use Prim.Native.Nat.{ℕ, zero, suc, _+_, _-_}
 use lib.Dec.{eqb, ltb}
 use lib.IntN.{ℤ, pos, negℤ}
 use lib.ListN.{length, take, drop}
@@ -16,7 +16,7 @@ use Rattle.model.specs.declared.Sort.{Sort}
 use Rattle.model.specs.declared.Sort.the-variants.{Boolean, Number}
 use Rattle.model.specs.declared.Given.{Given}
 use Rattle.model.specs.declared.Given.the-variants as given
-use Rattle.model.specs.Kinds.{booleanSort, numberSort}
+use Rattle.syntax.specs.Kinds.{booleanSort, numberSort}
 use Rattle.model.specs.Trees.{Expression, Variable, Transition, Instruction, System, sortsOf}
 use Rattle.model.specs.Sizes.{byteLayout, headerOf, littleAt, sized}
 use Rattle.model.specs.Walk.{Walk, Scope, scopeOf, andThen, expressionAt, instructionAt, variableAt, transitionAt, rowAt}

@@ -7,7 +7,7 @@ use Prim.Native.Nat.{ℕ, suc, _+_, _<_}
 use lib.IntN.{ℤ, pos}
 use lib.ListN.{length, getD, drop}
 use Rattle.model.specs.declared.Sizes.{Sizes}
-use Rattle.model.specs.Kinds.{kindOf, booleanSort}
+use Rattle.syntax.specs.Kinds.{kindOf, booleanSort}
 use Rattle.model.specs.Trees.{Expression, Instruction, Instructions, Variable, Transition, System, count, variables, sortsOf}
 use Rattle.model.specs.Trees.Expression.{numeral, truth, variable, negation, binary, ifThenElse}
 use Rattle.model.specs.Trees.Instruction.{skip, assign, ifThen, block}

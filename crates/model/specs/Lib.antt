@@ -1,5 +1,4 @@
 -- Definitions and statements of crate `model`, in document 01's order.
-pub mod Kinds
 pub mod Trees
 pub mod Nodes
 pub mod Sizes

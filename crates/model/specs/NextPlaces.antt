@@ -5,7 +5,7 @@ use Prim.Native.Nat.{ℕ, zero, suc, _+_}
 use lib.Dec.{eqb, ltb}
 use lib.IntN.{ℤ, pos, natAbs}
 use lib.ListN.{length, getD, set}
-use Rattle.model.specs.Kinds.{childrenOf}
+use Rattle.syntax.specs.Kinds.{childrenOf}
 
 -- the number of children of a node
 unfoldable pub childrenBy : ℕ → ℤ → ℕ

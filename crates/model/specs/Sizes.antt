@@ -1,7 +1,7 @@
 -- 01: "Sizes first: S (state variables), F (flow variables), E (events), T (transitions), one byte each, then N (nodes),
 -- two bytes, low byte first." Refusals 1, 2, 3 over a layout, so that the header is read in one place.
 use mathlib.Core.Bool.{cond, not}
-use mathlib.Core.List.{List, [], _∷_, _++_}
+use mathlib.Core.List.{List, _++_}
 use Prim.Native.Nat.{ℕ, zero, suc, _+_, _*_}
 use lib.Dec.{eqb, ltb}
 use lib.ListN.{length, getD}

@@ -1,8 +1,7 @@
 -- Models as trees. A variable is its number, states first. No bound is asked here: WellFormed.antt has those.
 use mathlib.Core.List.{List, _++_, map}
-use Prim.Native.Nat.{ℕ, suc, _+_, max}
+use Prim.Native.Nat.{ℕ, suc, max}
 use lib.IntN.{ℤ}
-use lib.ListN.{length}
 use Rattle.evaluation.specs.declared.Operator.{Operator}
 
 -- 01: "Expression"

@@ -1,24 +1,23 @@
 -- What 01's list asks of a model, said of its tree: sorts, parameters, depths, sizes.
 use mathlib.Core.Path.{_≡_}
 use mathlib.Core.Logic.{_⊎_}
-use mathlib.Core.Bool.{true}
 use mathlib.Core.List.{List, [], _∷_, _++_, map, flatMap}
-use Prim.Native.Nat.{ℕ, _+_, _<_, _≤_}
+use Prim.Native.Nat.{ℕ, _<_, _≤_}
 use lib.Dec.{T}
-use lib.IntN.{ℤ, pos}
+use lib.IntN.{pos}
 use lib.Signed.{leZ}
 use lib.ListN.{length, getD}
-use Rattle.evaluation.specs.declared.Operator.{Operator}
 use Rattle.evaluation.specs.Numbers.{representable}
 use Rattle.model.specs.declared.Sizes.{Sizes}
-use Rattle.model.specs.Kinds.{booleanSort, numberSort, kindOf, resultOf, operandSort}
+use Rattle.syntax.specs.Kinds.{booleanSort, numberSort, kindOf, resultOf, operandSort}
 use Rattle.model.specs.Trees.{Expression, Instruction, Instructions, Variable, Transition, System, variables, depthOf, depthOfExpression}
 use Rattle.model.specs.Trees.Expression.{numeral, truth, variable, negation, binary, ifThenElse}
 use Rattle.model.specs.Trees.Instruction.{skip, assign, ifThen, block}
 use Rattle.model.specs.Trees.Instructions.{none, more}
-use Rattle.model.specs.Nodes.{Node, nodesOfSystem, parameterBytes}
+use Rattle.model.specs.Nodes.{nodesOfSystem, parameterBytes}
 use Rattle.model.specs.Sizes.{byteLayout, headerBytes, maxNodes}
-use Rattle.model.specs.Walk.{Scope, isTruth}
+use Rattle.model.specs.Walk.{Scope}
+use Rattle.syntax.specs.Readings.{isTruth}
 use Rattle.model.specs.Check.{actionScope, assertionScope, maxDepth}
 
 -- the expression has the wanted sort over variables of these sorts

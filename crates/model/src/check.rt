@@ -6,7 +6,6 @@ ghost use Rattle.model.specs.declared.Sized.the-variants.{Read};
 ghost use Rattle.model.specs.Walk.{outcome};
 ghost use Rattle.model.specs.Check.{walkedIn, verdict, answerOf, sortOf, expressionGiven, givenAnswer};
 use super::Checked;
-use super::Cursor;
 use super::Given;
 use super::Layout;
 use super::Model;
@@ -16,6 +15,8 @@ use super::Sort;
 use super::Walked;
 use super::header;
 use super::walk;
+use syntax::Cursor;
+use syntax::kinds;
 
 // The nodes of a file whose sizes have been read.
 fn nodes_of(model: &[u8], sizes: Sizes) -> Walked
@@ -26,7 +27,8 @@ fn nodes_of(model: &[u8], sizes: Sizes) -> Walked
     let nodes = sizes.nodes;
     let past = 6 + nodes;
     header::parameters_in(model, past, nodes, &mut parameters);
-    walk::system(&model[6..past], &parameters[..nodes], sizes)
+    let rows = kinds::rows();
+    walk::system(&rows, &model[6..past], &parameters[..nodes], sizes)
 }
 
 // The check of a model file: its five sizes, or the refusal's number.
@@ -63,7 +65,9 @@ pub fn check_expression(kinds: &[u8], parameters: &[i32], sorts: &[u8], wanted: 
         return Given::Refused(3);
     }
     let sort = sort_code(wanted);
+    let rows = kinds::rows();
     match walk::expression(
+        &rows,
         kinds,
         parameters,
         sorts,

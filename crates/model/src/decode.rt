@@ -4,6 +4,7 @@ ghost use mathlib.Core.Path.{_≡_};
 ghost use mathlib.Core.List.{List, _++_, map};
 ghost use Prim.Native.Nat.{ℕ, _+_, _<_, _≤_};
 ghost use lib.ListN.{length, drop};
+ghost use Rattle.syntax.specs.Kinds.{table};
 ghost use Rattle.model.specs.declared.Checked.the-variants.{Accepted};
 ghost use Rattle.model.specs.Trees.{Variable, Transition, System, sortsOf};
 ghost use Rattle.model.specs.Walk.{variableAt, rowAt};
@@ -14,16 +15,16 @@ ghost use Rattle.model.specs.Check.Verdict.{accepted};
 ghost use Rattle.model.specs.NextPlaces.{childrenBy, following, filled};
 ghost use Rattle.model.specs.Decoding.{arrays, assertionPlace, decodedOver, guardPlaces, nextsOfTransitions, over, preparation, preparedBy, sizeOfTransitions};
 use super::Checked;
-use super::Cursor;
 use super::Declaration;
 use super::Model;
 use super::Prepared;
 use super::Sizes;
 use super::check;
 use super::header;
-use super::kinds;
-use super::nodes;
 use super::walk;
+use syntax::Cursor;
+use syntax::kinds;
+use syntax::nodes;
 
 // So many variables from the first node on: their sorts, ends and first values, and the place after them.
 fn variables(
@@ -43,11 +44,12 @@ fn variables(
         × (now (highs .exit) ≡ over (map (λ v. v .high) vs) (now (highs .entry)))
         × (now (firsts .exit) ≡ over (map (λ v. v .first) vs) (now (firsts .entry)))) ⌝ }
 {
+    let rows = kinds::rows();
     let mut i = 0;
     let mut at = 0;
     while i < count {
         let here = Cursor { at };
-        match walk::variable(kinds, parameters, here) {
+        match walk::variable(&rows, kinds, parameters, here) {
             Declaration::Refused(_) => return at,
             Declaration::Variable(sort, low, high, first, next) => {
                 sorts[i] = sort;
@@ -63,13 +65,13 @@ fn variables(
 }
 
 // The number of children of a node.
-fn children_of(kind: u8, parameter: i32) -> usize
-    ensures { λ r. ⌜ r ≡ childrenBy kind parameter ⌝ }
+fn children_of(rows: &[u8; 256], kind: u8, parameter: i32) -> usize
+    ensures { λ r. ⌜ (now (rows .entry) ≡ table → r ≡ childrenBy kind parameter) ⌝ }
 {
     if kind == 19 {
         return nodes::magnitude(parameter);
     }
-    let row = kinds::row_of(kind);
+    let row = kinds::row_of(rows, kind);
     row.children as usize
 }
 
@@ -95,11 +97,12 @@ fn next_places(kinds: &[u8], parameters: &[i32], nexts: &mut [u16])
     requires { ⌜ (length (now kinds) < 65536) × (length (now kinds) ≤ length (now nexts)) × (length (now parameters) ≡ length (now kinds)) ⌝ }
     ensures { λ _. ⌜ now (nexts .exit) ≡ filled (now (kinds .entry)) (now (parameters .entry)) (length (now (kinds .entry))) (now (nexts .entry)) ⌝ }
 {
+    let rows = kinds::rows();
     let nodes = kinds.len();
     let mut left = nodes;
     while 0 < left {
         left -= 1;
-        let children = children_of(kinds[left], parameters[left]);
+        let children = children_of(&rows, kinds[left], parameters[left]);
         let after = follow(nexts, nodes, children, left + 1);
         nexts[left] = after as u16;
     }

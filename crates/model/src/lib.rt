@@ -1,18 +1,11 @@
-// The model file: kinds, nodes, the check and the decoding.
+// The model file: the check and the decoding.
 
 pub mod check; // check.rt: the check of a file, and of an expression handed outside a model
 pub mod decode; // decode.rt: an accepted file, decoded for the layers above
 mod header; // header.rt: the sizes
-pub mod kinds; // kinds.rt: the table of kinds
-pub mod nodes; // nodes.rt: the node that is due, with the moved cursor
 mod walk; // walk.rt: expressions, instructions, variables, transitions
 
-// A row of the table of kinds.
-pub struct Row {
-    pub place: u8,
-    pub children: u8,
-    pub result: u8,
-}
+use syntax::Cursor;
 
 // How a file's header is laid out: the bytes of each of S, F, E, T, and the most nodes.
 pub struct Layout {
@@ -49,17 +42,6 @@ impl Model {
 pub enum Sized {
     Refused(u8),
     Read(Sizes),
-}
-
-// A place among the nodes.
-pub struct Cursor {
-    pub at: usize,
-}
-
-// The node that is due, with its kind, its parameter and the place of the next; or the refusal's number.
-pub enum Reading {
-    Refused(u8),
-    Node(u8, i32, Cursor),
 }
 
 // What a walk over a subtree comes to: the refusal's number, or the place of the next node.

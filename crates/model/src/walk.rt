@@ -6,21 +6,22 @@ ghost use Prim.Native.Nat.{ℕ, _≤_, _+_};
 ghost use lib.IntN.{ℤ, natAbs};
 ghost use lib.ListN.{getD, length, take};
 ghost use Rattle.model.specs.Trees.{Variable, sortsOf};
-ghost use Rattle.model.specs.Kinds.{childrenOf};
+ghost use Rattle.syntax.specs.Kinds.{childrenOf, table};
 ghost use Rattle.model.specs.Walk.{outcome, declarationOf, operandsAt, expressionAt, branchesAt, partsAt, instructionAt, rangeAt, variableAt, transitionAt, rowAt, scopeOf};
 ghost use Rattle.model.specs.Walk.Walk.{found};
 ghost use Rattle.model.specs.Check.{maxDepth, complete, restAt, systemAt};
-use super::Cursor;
 use super::Declaration;
 use super::Model;
-use super::Reading;
 use super::Sizes;
 use super::Walked;
-use super::kinds;
-use super::nodes;
+use syntax::Cursor;
+use syntax::Reading;
+use syntax::kinds;
+use syntax::nodes;
 
 // An expression of the wanted sort.
 pub fn expression(
+    rows: &[u8; 256],
     kinds: &[u8],
     parameters: &[i32],
     sorts: &[u8],
@@ -28,11 +29,12 @@ pub fn expression(
     wanted: u8,
     cursor: Cursor,
 ) -> Walked
-    ensures { λ r. ⌜ r ≡ outcome (expressionAt (now (kinds .entry)) (now (parameters .entry)) (now (sorts .entry)) left wanted (cursor .at)) ⌝ }
+    ensures { λ r. ⌜ (now (rows .entry) ≡ table → r ≡ outcome (expressionAt (now (kinds .entry)) (now (parameters .entry)) (now (sorts .entry)) left wanted (cursor .at))) ⌝ }
 {
-    match cursor.expression_node(kinds, parameters, sorts, left, wanted) {
+    match cursor.expression_node(rows, kinds, parameters, sorts, left, wanted) {
         Reading::Refused(number) => Walked::Refused(number),
         Reading::Node(kind, _, next) => operands(
+            rows,
             kinds,
             parameters,
             sorts,
@@ -46,6 +48,7 @@ pub fn expression(
 
 // The children of an expression node.
 fn operands(
+    rows: &[u8; 256],
     kinds: &[u8],
     parameters: &[i32],
     sorts: &[u8],
@@ -54,24 +57,24 @@ fn operands(
     kind: u8,
     cursor: Cursor,
 ) -> Walked
-    ensures { λ r. ⌜ ((p : ℤ) → r ≡ outcome (operandsAt (now (kinds .entry)) (now (parameters .entry)) (expressionAt (now (kinds .entry)) (now (parameters .entry)) (now (sorts .entry)) left) wanted kind p (cursor .at) (childrenOf kind))) ⌝ }
+    ensures { λ r. ⌜ (now (rows .entry) ≡ table → (p : ℤ) → r ≡ outcome (operandsAt (now (kinds .entry)) (now (parameters .entry)) (expressionAt (now (kinds .entry)) (now (parameters .entry)) (now (sorts .entry)) left) wanted kind p (cursor .at) (childrenOf kind))) ⌝ }
 {
-    let row = kinds::row_of(kind);
+    let row = kinds::row_of(rows, kind);
     let children = row.children;
     if children == 0 {
         return Walked::Next(cursor);
     }
     if children == 3 {
-        return conditional(kinds, parameters, sorts, left, wanted, cursor);
+        return conditional(rows, kinds, parameters, sorts, left, wanted, cursor);
     }
     let sort = kinds::operand_sort(kind);
-    match expression(kinds, parameters, sorts, left, sort, cursor) {
+    match expression(rows, kinds, parameters, sorts, left, sort, cursor) {
         Walked::Refused(number) => Walked::Refused(number),
         Walked::Next(second) => {
             if children == 1 {
                 Walked::Next(second)
             } else {
-                expression(kinds, parameters, sorts, left, sort, second)
+                expression(rows, kinds, parameters, sorts, left, sort, second)
             }
         }
     }
@@ -79,6 +82,7 @@ fn operands(
 
 // The condition and the two branches of an if-then-else.
 fn conditional(
+    rows: &[u8; 256],
     kinds: &[u8],
     parameters: &[i32],
     sorts: &[u8],
@@ -86,13 +90,21 @@ fn conditional(
     wanted: u8,
     cursor: Cursor,
 ) -> Walked
-    ensures { λ r. ⌜ ((k : ℕ) (p : ℤ) → r ≡ outcome (operandsAt (now (kinds .entry)) (now (parameters .entry)) (expressionAt (now (kinds .entry)) (now (parameters .entry)) (now (sorts .entry)) left) wanted k p (cursor .at) 3)) ⌝ }
+    ensures { λ r. ⌜ (now (rows .entry) ≡ table → (k : ℕ) (p : ℤ) → r ≡ outcome (operandsAt (now (kinds .entry)) (now (parameters .entry)) (expressionAt (now (kinds .entry)) (now (parameters .entry)) (now (sorts .entry)) left) wanted k p (cursor .at) 3)) ⌝ }
 {
-    match expression(kinds, parameters, sorts, left, 1, cursor) {
+    match expression(rows, kinds, parameters, sorts, left, 1, cursor) {
         Walked::Refused(number) => Walked::Refused(number),
-        Walked::Next(second) => match expression(kinds, parameters, sorts, left, wanted, second) {
+        Walked::Next(second) => match expression(
+            rows,
+            kinds,
+            parameters,
+            sorts,
+            left,
+            wanted,
+            second,
+        ) {
             Walked::Refused(number) => Walked::Refused(number),
-            Walked::Next(third) => expression(kinds, parameters, sorts, left, wanted, third),
+            Walked::Next(third) => expression(rows, kinds, parameters, sorts, left, wanted, third),
         },
     }
 }
@@ -111,6 +123,7 @@ fn sort_of(sorts: &[u8], parameter: i32) -> u8
 
 // An instruction that assigns variables from `from` up to `past`.
 pub fn instruction(
+    rows: &[u8; 256],
     kinds: &[u8],
     parameters: &[i32],
     sorts: &[u8],
@@ -119,23 +132,25 @@ pub fn instruction(
     left: usize,
     cursor: Cursor,
 ) -> Walked
-    ensures { λ r. ⌜ r ≡ outcome (instructionAt (now (kinds .entry)) (now (parameters .entry)) (scopeOf (now (sorts .entry)) from past) left (cursor .at)) ⌝ }
+    ensures { λ r. ⌜ (now (rows .entry) ≡ table → r ≡ outcome (instructionAt (now (kinds .entry)) (now (parameters .entry)) (scopeOf (now (sorts .entry)) from past) left (cursor .at))) ⌝ }
 {
-    match cursor.instruction_node(kinds, parameters, from, past, left) {
+    match cursor.instruction_node(rows, kinds, parameters, from, past, left) {
         Reading::Refused(number) => Walked::Refused(number),
         Reading::Node(kind, parameter, next) => {
+            let below = left - 1;
             if kind == 19 {
-                let count = nodes::magnitude(parameter);
-                branches(kinds, parameters, sorts, from, past, left - 1, count, next)
+                let due = nodes::magnitude(parameter);
+                branches(rows, kinds, parameters, sorts, from, past, below, due, next)
             } else {
                 let sort = sort_of(sorts, parameter);
                 parts(
+                    rows,
                     kinds,
                     parameters,
                     sorts,
                     from,
                     past,
-                    left - 1,
+                    below,
                     kind,
                     sort,
                     next,
@@ -147,6 +162,7 @@ pub fn instruction(
 
 // What follows an instruction node other than a block.
 fn parts(
+    rows: &[u8; 256],
     kinds: &[u8],
     parameters: &[i32],
     sorts: &[u8],
@@ -157,24 +173,34 @@ fn parts(
     sort: u8,
     cursor: Cursor,
 ) -> Walked
-    ensures { λ r. ⌜ ((p : ℤ) → r ≡ outcome (partsAt (now (kinds .entry)) (now (parameters .entry)) (expressionAt (now (kinds .entry)) (now (parameters .entry)) (now (sorts .entry)) left) (instructionAt (now (kinds .entry)) (now (parameters .entry)) (scopeOf (now (sorts .entry)) from past) left) sort p (cursor .at) (childrenOf kind))) ⌝ }
+    ensures { λ r. ⌜ (now (rows .entry) ≡ table → (p : ℤ) → r ≡ outcome (partsAt (now (kinds .entry)) (now (parameters .entry)) (expressionAt (now (kinds .entry)) (now (parameters .entry)) (now (sorts .entry)) left) (instructionAt (now (kinds .entry)) (now (parameters .entry)) (scopeOf (now (sorts .entry)) from past) left) sort p (cursor .at) (childrenOf kind))) ⌝ }
 {
-    let row = kinds::row_of(kind);
+    let row = kinds::row_of(rows, kind);
     let children = row.children;
     if children == 0 {
         return Walked::Next(cursor);
     }
     if children == 1 {
-        return expression(kinds, parameters, sorts, left, sort, cursor);
+        return expression(rows, kinds, parameters, sorts, left, sort, cursor);
     }
-    match expression(kinds, parameters, sorts, left, 1, cursor) {
+    match expression(rows, kinds, parameters, sorts, left, 1, cursor) {
         Walked::Refused(number) => Walked::Refused(number),
-        Walked::Next(second) => instruction(kinds, parameters, sorts, from, past, left, second),
+        Walked::Next(second) => instruction(
+            rows,
+            kinds,
+            parameters,
+            sorts,
+            from,
+            past,
+            left,
+            second,
+        ),
     }
 }
 
 // The branches of a block.
 fn branches(
+    rows: &[u8; 256],
     kinds: &[u8],
     parameters: &[i32],
     sorts: &[u8],
@@ -184,14 +210,14 @@ fn branches(
     count: usize,
     cursor: Cursor,
 ) -> Walked
-    ensures { λ r. ⌜ r ≡ outcome (branchesAt (now (kinds .entry)) (now (parameters .entry)) (instructionAt (now (kinds .entry)) (now (parameters .entry)) (scopeOf (now (sorts .entry)) from past) left) count (cursor .at)) ⌝ }
+    ensures { λ r. ⌜ (now (rows .entry) ≡ table → r ≡ outcome (branchesAt (now (kinds .entry)) (now (parameters .entry)) (instructionAt (now (kinds .entry)) (now (parameters .entry)) (scopeOf (now (sorts .entry)) from past) left) count (cursor .at))) ⌝ }
 {
     let mut due = count;
     let mut at = cursor.at;
     while 0 < due {
         due -= 1;
         let here = Cursor { at };
-        match instruction(kinds, parameters, sorts, from, past, left, here) {
+        match instruction(rows, kinds, parameters, sorts, from, past, left, here) {
             Walked::Refused(number) => return Walked::Refused(number),
             Walked::Next(next) => at = next.at,
         }
@@ -200,12 +226,25 @@ fn branches(
 }
 
 // The nodes of a number's high end and first value.
-fn range(kinds: &[u8], parameters: &[i32], low: i32, cursor: Cursor) -> Declaration
-    ensures { λ r. ⌜ r ≡ declarationOf (rangeAt (now (kinds .entry)) (now (parameters .entry)) low (cursor .at)) ⌝ }
+fn range(
+    rows: &[u8; 256],
+    kinds: &[u8],
+    parameters: &[i32],
+    low: i32,
+    cursor: Cursor,
+) -> Declaration
+    ensures { λ r. ⌜ (now (rows .entry) ≡ table → r ≡ declarationOf (rangeAt (now (kinds .entry)) (now (parameters .entry)) low (cursor .at))) ⌝ }
 {
-    match cursor.end_node(kinds, parameters, 2, low, 2147483647) {
+    match cursor.end_node(rows, kinds, parameters, 2, low, 2147483647) {
         Reading::Refused(number) => Declaration::Refused(number),
-        Reading::Node(_, high, second) => match second.end_node(kinds, parameters, 3, low, high) {
+        Reading::Node(_, high, second) => match second.end_node(
+            rows,
+            kinds,
+            parameters,
+            3,
+            low,
+            high,
+        ) {
             Reading::Refused(number) => Declaration::Refused(number),
             Reading::Node(_, first, next) => Declaration::Variable(2, low, high, first, next),
         },
@@ -213,32 +252,38 @@ fn range(kinds: &[u8], parameters: &[i32], low: i32, cursor: Cursor) -> Declarat
 }
 
 // A variable.
-pub fn variable(kinds: &[u8], parameters: &[i32], cursor: Cursor) -> Declaration
-    ensures { λ r. ⌜ r ≡ declarationOf (variableAt (now (kinds .entry)) (now (parameters .entry)) (cursor .at)) ⌝ }
+pub fn variable(rows: &[u8; 256], kinds: &[u8], parameters: &[i32], cursor: Cursor) -> Declaration
+    ensures { λ r. ⌜ (now (rows .entry) ≡ table → r ≡ declarationOf (variableAt (now (kinds .entry)) (now (parameters .entry)) (cursor .at))) ⌝ }
 {
-    match cursor.variable_node(kinds, parameters) {
+    match cursor.variable_node(rows, kinds, parameters) {
         Reading::Refused(number) => Declaration::Refused(number),
         Reading::Node(kind, parameter, next) => {
             if kind == 1 {
                 Declaration::Variable(1, 0, 1, parameter, next)
             } else {
-                range(kinds, parameters, parameter, next)
+                range(rows, kinds, parameters, parameter, next)
             }
         }
     }
 }
 
 // So many variables from the first node on; their sorts are stored.
-fn variables(kinds: &[u8], parameters: &[i32], count: usize, sorts: &mut [u8]) -> Walked
+fn variables(
+    rows: &[u8; 256],
+    kinds: &[u8],
+    parameters: &[i32],
+    count: usize,
+    sorts: &mut [u8],
+) -> Walked
     requires { ⌜ count ≤ length (now sorts) ⌝ }
-    ensures { λ r. ⌜ (r ≡ outcome (rowAt (variableAt (now (kinds .entry)) (now (parameters .entry))) count 0))
-        × ((vs : List Variable) (next : ℕ) → rowAt (variableAt (now (kinds .entry)) (now (parameters .entry))) count 0 ≡ found vs next → take count (now (sorts .exit)) ≡ sortsOf vs) ⌝ }
+    ensures { λ r. ⌜ (now (rows .entry) ≡ table → (r ≡ outcome (rowAt (variableAt (now (kinds .entry)) (now (parameters .entry))) count 0))
+        × ((vs : List Variable) (next : ℕ) → rowAt (variableAt (now (kinds .entry)) (now (parameters .entry))) count 0 ≡ found vs next → take count (now (sorts .exit)) ≡ sortsOf vs)) ⌝ }
 {
     let mut i = 0;
     let mut at = 0;
     while i < count {
         let here = Cursor { at };
-        match variable(kinds, parameters, here) {
+        match variable(rows, kinds, parameters, here) {
             Declaration::Refused(number) => return Walked::Refused(number),
             Declaration::Variable(sort, _, _, _, next) => {
                 sorts[i] = sort;
@@ -252,6 +297,7 @@ fn variables(kinds: &[u8], parameters: &[i32], count: usize, sorts: &mut [u8]) -
 
 // A transition: its event, guard and action.
 fn transition(
+    rows: &[u8; 256],
     kinds: &[u8],
     parameters: &[i32],
     sorts: &[u8],
@@ -259,11 +305,12 @@ fn transition(
     states: usize,
     cursor: Cursor,
 ) -> Walked
-    ensures { λ r. ⌜ r ≡ outcome (transitionAt (now (kinds .entry)) (now (parameters .entry)) events (scopeOf (now (sorts .entry)) 0 states) maxDepth (cursor .at)) ⌝ }
+    ensures { λ r. ⌜ (now (rows .entry) ≡ table → r ≡ outcome (transitionAt (now (kinds .entry)) (now (parameters .entry)) events (scopeOf (now (sorts .entry)) 0 states) maxDepth (cursor .at))) ⌝ }
 {
-    match cursor.transition_node(kinds, parameters, events) {
+    match cursor.transition_node(rows, kinds, parameters, events) {
         Reading::Refused(number) => Walked::Refused(number),
         Reading::Node(_, _, next) => match expression(
+            rows,
             kinds,
             parameters,
             sorts,
@@ -273,6 +320,7 @@ fn transition(
         ) {
             Walked::Refused(number) => Walked::Refused(number),
             Walked::Next(second) => instruction(
+                rows,
                 kinds,
                 parameters,
                 sorts,
@@ -285,24 +333,25 @@ fn transition(
     }
 }
 
-// So many transitions.
+// All transitions.
 fn transitions(
+    rows: &[u8; 256],
     kinds: &[u8],
     parameters: &[i32],
     sorts: &[u8],
-    events: usize,
-    states: usize,
-    count: usize,
+    sizes: Sizes,
     cursor: Cursor,
 ) -> Walked
-    ensures { λ r. ⌜ r ≡ outcome (rowAt (transitionAt (now (kinds .entry)) (now (parameters .entry)) events (scopeOf (now (sorts .entry)) 0 states) maxDepth) count (cursor .at)) ⌝ }
+    ensures { λ r. ⌜ (now (rows .entry) ≡ table → r ≡ outcome (rowAt (transitionAt (now (kinds .entry)) (now (parameters .entry)) (sizes .events) (scopeOf (now (sorts .entry)) 0 (sizes .states)) maxDepth) (sizes .transitions) (cursor .at))) ⌝ }
 {
-    let mut due = count;
+    let events = sizes.events;
+    let states = sizes.states;
+    let mut due = sizes.transitions;
     let mut at = cursor.at;
     while 0 < due {
         due -= 1;
         let here = Cursor { at };
-        match transition(kinds, parameters, sorts, events, states, here) {
+        match transition(rows, kinds, parameters, sorts, events, states, here) {
             Walked::Refused(number) => return Walked::Refused(number),
             Walked::Next(next) => at = next.at,
         }
@@ -311,24 +360,24 @@ fn transitions(
 }
 
 // What follows the variables, whose sorts are given: transitions, the assertion, no node left over.
-fn rest(kinds: &[u8], parameters: &[i32], sorts: &[u8], sizes: Sizes, cursor: Cursor) -> Walked
+fn rest(
+    rows: &[u8; 256],
+    kinds: &[u8],
+    parameters: &[i32],
+    sorts: &[u8],
+    sizes: Sizes,
+    cursor: Cursor,
+) -> Walked
     requires { ⌜ sizes .states + sizes .flows ≤ 510 ⌝ }
-    ensures { λ r. ⌜ r ≡ outcome (complete (sizes .nodes) (restAt (now (kinds .entry)) (now (parameters .entry)) (now (sorts .entry)) sizes (cursor .at))) ⌝ }
+    ensures { λ r. ⌜ (now (rows .entry) ≡ table → r ≡ outcome (complete (sizes .nodes) (restAt (now (kinds .entry)) (now (parameters .entry)) (now (sorts .entry)) sizes (cursor .at)))) ⌝ }
 {
     let states = sizes.states;
     let variables = states + sizes.flows;
-    match transitions(
-        kinds,
-        parameters,
-        sorts,
-        sizes.events,
-        states,
-        sizes.transitions,
-        cursor,
-    ) {
+    match transitions(rows, kinds, parameters, sorts, sizes, cursor) {
         Walked::Refused(number) => Walked::Refused(number),
         Walked::Next(second) => {
             match instruction(
+                rows,
                 kinds,
                 parameters,
                 sorts,
@@ -351,14 +400,14 @@ fn rest(kinds: &[u8], parameters: &[i32], sorts: &[u8], sizes: Sizes, cursor: Cu
 }
 
 // All nodes of a model.
-pub fn system(kinds: &[u8], parameters: &[i32], sizes: Sizes) -> Walked
+pub fn system(rows: &[u8; 256], kinds: &[u8], parameters: &[i32], sizes: Sizes) -> Walked
     requires { ⌜ sizes .states + sizes .flows ≤ 510 ⌝ }
-    ensures { λ r. ⌜ r ≡ outcome (complete (sizes .nodes) (systemAt (now (kinds .entry)) (now (parameters .entry)) sizes)) ⌝ }
+    ensures { λ r. ⌜ (now (rows .entry) ≡ table → r ≡ outcome (complete (sizes .nodes) (systemAt (now (kinds .entry)) (now (parameters .entry)) sizes))) ⌝ }
 {
     let mut sorts = [0u8; Model::MAX_VARIABLES];
     let count = sizes.states + sizes.flows;
-    match variables(kinds, parameters, count, &mut sorts) {
+    match variables(rows, kinds, parameters, count, &mut sorts) {
         Walked::Refused(number) => Walked::Refused(number),
-        Walked::Next(next) => rest(kinds, parameters, &sorts[..count], sizes, next),
+        Walked::Next(next) => rest(rows, kinds, parameters, &sorts[..count], sizes, next),
     }
 }

@@ -3,10 +3,10 @@
 // A case is the lengths of a model file, of an input and of an output (four bytes each, low byte first), and these three.
 ghost use Prim.Native.Nat.{_+_, _*_, _≤_, _<_};
 ghost use lib.ListN.{length};
-ghost use Rattle.console.specs.Sessions.{Room};
-use console::Dimensions;
-use console::Line;
-use console::session;
+use console::Written;
+use dialogue::Dimensions;
+use dialogue::Line;
+use dialogue::replies;
 use libc::STDOUT_FILENO;
 use model::Model;
 
@@ -81,6 +81,18 @@ fn extended(before: Output, wanted: &[u8], bytes: &[u8]) -> Output {
     }
 }
 
+// The output with the line after it that was written at the beginning of the slice.
+fn with_line(before: Output, wanted: &[u8], written: Written, out: &[u8]) -> Output {
+    let at = before.at;
+    let Written::Length(length) = written else {
+        return Output { at, is_same: false };
+    };
+    if out.len() < length {
+        return Output { at, is_same: false };
+    }
+    extended(before, wanted, &out[0..length])
+}
+
 // Is the output the wanted one, to its end?
 fn is_whole(output: Output, wanted: &[u8]) -> bool {
     if output.is_same {
@@ -101,27 +113,23 @@ fn answer_all(
     n: &mut usize,
     marks: &mut [u8],
     out: &mut [u8],
-) -> Output
-    requires { ⌜ Room (length (now values)) (length (now marks)) (length (now out)) ⌝ }
-{
+) -> Output {
     let mut so_far = begun;
     let mut line = Line::empty();
     let mut i = 0;
     while i < input.len() {
-        let step = session::step(line, input[i], model, values, history, n, marks, out);
-        let length = step.length;
-        so_far = extended(so_far, wanted, &out[0..length]);
+        let step = replies::step(line, input[i], model, values, history, n, marks, out);
+        let written = step.written;
+        so_far = with_line(so_far, wanted, written, out);
         line = step.line;
         i += 1;
     }
-    let length = session::close(line, model, values, history, n, marks, out);
-    extended(so_far, wanted, &out[0..length])
+    let written = replies::close(line, model, values, history, n, marks, out);
+    with_line(so_far, wanted, written, out)
 }
 
-// Starts the run and, unless that is refused, answers the input.
-fn served(model: &[u8], input: &[u8], wanted: &[u8], values: &mut [i32], marks: &mut [u8]) -> bool
-    requires { ⌜ (length (now values) ≤ 510) × (length (now marks) ≤ 255) ⌝ }
-{
+// Starts the run and, unless that is refused, answers the input. 6,144 bytes are room for every line of a run.
+fn served(model: &[u8], input: &[u8], wanted: &[u8], values: &mut [i32], marks: &mut [u8]) -> bool {
     let mut history = [0u8; 200];
     let mut n: usize = 0;
     let mut out = [0u8; 6144];
@@ -129,9 +137,9 @@ fn served(model: &[u8], input: &[u8], wanted: &[u8], values: &mut [i32], marks: 
         at: 0,
         is_same: true,
     };
-    let opening = session::open(model, values, &mut history, &mut n, marks, &mut out);
-    let length = opening.length;
-    let begun = extended(nothing, wanted, &out[0..length]);
+    let opening = replies::open(model, values, &mut history, &mut n, marks, &mut out);
+    let written = opening.written;
+    let begun = with_line(nothing, wanted, written, &out);
     if opening.is_started {
         is_whole(
             answer_all(
@@ -162,7 +170,6 @@ fn served_parts(
     values: &mut [i32],
     marks: &mut [u8],
 ) -> bool
-    requires { ⌜ (variables ≤ 510) × (transitions ≤ 255) ⌝ }
     requires { ⌜ (variables ≤ length (now values)) × (transitions ≤ length (now marks)) ⌝ }
 {
     served(
@@ -181,15 +188,15 @@ fn refused(number: u8, wanted: &[u8]) -> bool {
         at: 0,
         is_same: true,
     };
-    let length = session::refuse(number, &mut out);
-    is_whole(extended(nothing, wanted, &out[0..length]), wanted)
+    let written = console::refusal_line(number, &mut out);
+    is_whole(with_line(nothing, wanted, written, &out), wanted)
 }
 
 // Does the program print the wanted output?
 fn is_equal(model: &[u8], input: &[u8], wanted: &[u8]) -> bool {
     let mut values = [0i32; Model::MAX_VARIABLES];
     let mut marks = [0u8; Model::MAX_TRANSITIONS];
-    match session::dimensions(model) {
+    match replies::dimensions(model) {
         Dimensions::Refused(number) => refused(number, wanted),
         Dimensions::Known(variables, transitions) => {
             served_parts(

@@ -22,15 +22,16 @@ use Rattle.engine.specs.Meanings.{Meaning, meaningOf}
 use Rattle.engine.specs.Propagation.Settled.{settled}
 use Rattle.engine.specs.Firing.{fired, begun}
 use Rattle.engine.proofs.Rounds.{rounds-bounded-tree}
-use Rattle.run.specs.declared.Move.the-variants.{Start, Fire, Undo}
-use Rattle.run.specs.Runs.{Run, Answer, Done, run, answered}
-use Rattle.run.specs.Runs.Answer.{refused, rounds, done}
-use Rattle.run.specs.Calls.{tooShort, holds, answerOf, initial}
-use Rattle.run.specs.Lists.{onFile, CountBounded}
-use Rattle.run.specs.Moves.{move, moved, isFired}
-use Rattle.run.proofs.Tests.{clash, by-test}
+use Rattle.steps.specs.declared.Move.the-variants.{Start, Fire, Undo}
+use Rattle.steps.specs.Runs.{Run, Answer, Done, run, answered}
+use Rattle.steps.specs.Runs.Answer.{refused, rounds, done}
+use Rattle.steps.specs.Calls.{tooShort, holds, answerOf, initial}
+use Rattle.steps.specs.Answers.{onFile}
+use Rattle.run.specs.Lists.{CountBounded}
+use Rattle.steps.specs.Moves.{move, moved, isFired}
+use Rattle.steps.proofs.Tests.{clash, by-test}
 use Rattle.run.proofs.Following.{fired-left, begun-left}
-use Rattle.run.proofs.MoveTests.{count-within}
+use Rattle.steps.proofs.MoveTests.{count-within}
 
 no-rounds : (k count : ℕ) → refused k ≡ rounds count → ⊥
 no-rounds k count e = clash cc

@@ -9,18 +9,19 @@ use borrow.Author.Tests.{not-true, not-false}
 use lib.Dec.{eqb, ltb}
 use lib.IntN.{ℤ, pos}
 use lib.ListN.{length, getD, take, drop, set}
-use Rattle.engine.specs.declared.Fault.{Fault}
-use Rattle.engine.specs.declared.Fault.the-variants.{Failure, Outside, Conflict}
+use Rattle.interpreter.specs.declared.Fault.{Fault}
+use Rattle.interpreter.specs.declared.Fault.the-variants.{Failure, Outside, Conflict}
 use Rattle.engine.specs.declared.Firing.{Firing}
 use Rattle.engine.specs.declared.Firing.the-variants.{Disabled, GuardFailed, ActionFault, AssertionFault, Fired}
-use Rattle.engine.specs.Instructions.{Place, numberOf}
-use Rattle.engine.specs.Instructions.Place.{guard, action, assertion}
+use Rattle.interpreter.specs.Instructions.{Place, numberOf}
+use Rattle.interpreter.specs.Instructions.Place.{guard, action, assertion}
 use Rattle.engine.specs.Meanings.{Meaning}
 use Rattle.engine.specs.Firing.{Left, fired, begun}
-use Rattle.run.specs.Runs.{Run, Answer, Done, run, answered}
-use Rattle.run.specs.Runs.Answer.{refused, rounds, done, number}
-use Rattle.run.specs.Calls.{tooShort, holds, answerOf, initial, startedBy, start, firedBy, fire, replay, undoneBy, undo, marksOf, marks, value}
-use Rattle.run.proofs.Tests.{by-test}
+use Rattle.steps.specs.Runs.{Run, Answer, Done, run, answered}
+use Rattle.steps.specs.Runs.Answer.{refused, rounds, done, number}
+use Rattle.steps.specs.Calls.{tooShort, holds, answerOf, initial, replay, marksOf, marks, value}
+use Rattle.run.specs.Calls.{startedBy, start, firedBy, fire, undoneBy, undo}
+use Rattle.steps.proofs.Tests.{by-test}
 
 -- the number of a refusal is neither 20 nor 31
 abbrev pub Other : ℕ → Type 0

@@ -25,18 +25,19 @@ use Rattle.engine.specs.Meanings.{Meaning, meaningOf}
 use Rattle.engine.specs.Firing.{Left, leaves, written, leftBySettling, leftByActing, leftByGuard, fired, begun}
 use Rattle.model.specs.Check.{Verdict}
 use Rattle.model.specs.Check.Verdict.{refusal, accepted}
-use Rattle.run.specs.declared.Move.the-variants.{Start, Fire, Undo}
-use Rattle.run.specs.Runs.{Run, Answer, run, answered}
-use Rattle.run.specs.Runs as runs
-use Rattle.run.specs.Runs.Answer.{refused, rounds, done, number, sizes}
+use Rattle.steps.specs.declared.Move.the-variants.{Start, Fire, Undo}
+use Rattle.steps.specs.Runs.{Run, Answer, run, answered}
+use Rattle.steps.specs.Runs as runs
+use Rattle.steps.specs.Runs.Answer.{refused, rounds, done, number, sizes}
 use Rattle.run.specs.Calls as calls
-use Rattle.run.specs.Calls.{tooShort, holds, answerOf, initial, startedBy, firedBy, replay, undoneBy}
-use Rattle.run.specs.Lists.{onFile, seen}
-use Rattle.run.specs.declared.Answer as declared
-use Rattle.run.specs.declared.Answer.the-variants.{Refused, Rounds, Done, Number, Sizes}
-use Rattle.run.proofs.Answer.{the-type}
-use Rattle.run.specs.Moves.{move, moved, replayed, isFired}
-use Rattle.run.proofs.Tests.{by-test}
+use Rattle.steps.specs.Calls.{tooShort, holds, answerOf, initial, replay}
+use Rattle.run.specs.Calls.{startedBy, firedBy, undoneBy}
+use Rattle.steps.specs.Answers.{onFile, seen}
+use Rattle.steps.specs.declared.Answer as declared
+use Rattle.steps.specs.declared.Answer.the-variants.{Refused, Rounds, Done, Number, Sizes}
+use Rattle.steps.proofs.Answer.{the-type}
+use Rattle.steps.specs.Moves.{move, moved, replayed, isFired}
+use Rattle.steps.proofs.Tests.{by-test}
 
 -- ---- firing and starting by cases: refused with the values as they were, or settled
 

@@ -19,20 +19,20 @@ use Rattle.model.specs.Trees.{System, Transition, Variable, variables}
 use Rattle.model.specs.WellFormed.{WellFormed}
 use Rattle.model.specs.Theorems.{CheckExact}
 use Rattle.engine.specs.declared.Firing.the-variants.{Fired}
-use Rattle.engine.specs.Expressions.{knownFrom}
-use Rattle.engine.specs.Instructions.{isWithin}
+use Rattle.interpreter.specs.Expressions.{knownFrom}
+use Rattle.interpreter.specs.Instructions.{isWithin}
 use Rattle.engine.specs.Actions.{Acted}
 use Rattle.engine.specs.Actions.Acted.{faulty, states}
 use Rattle.engine.specs.Propagation.{Settled}
 use Rattle.engine.specs.Propagation.Settled.{refused, settled}
 use Rattle.engine.specs.Meanings.{Meaning, actionIn, meaningOf}
 use Rattle.engine.specs.Firing.{Left, leftBySettling, leftByActing, leftByGuard, fired, begun}
-use Rattle.run.specs.Runs.{Run, run}
-use Rattle.run.specs.Calls.{firstOutside, isNone, allBelow, historyHolds, holds, initial, refire, replay}
+use Rattle.steps.specs.Runs.{Run, run}
+use Rattle.steps.specs.Calls.{firstOutside, isNone, allBelow, historyHolds, holds, initial, refire, replay}
 use Rattle.run.specs.Theorems.{NoStaleRun}
-use Rattle.run.proofs.Tests.{clash, by-test, passed, neither, both, each}
-use Rattle.run.proofs.Written.{Complete, rest-written}
-use Rattle.run.proofs.Ends.{Within, initial-within, act-within, settle-complete, settle-within}
+use Rattle.steps.proofs.Tests.{clash, by-test, passed, neither, both, each}
+use Rattle.steps.proofs.Written.{Complete, rest-written}
+use Rattle.steps.proofs.Ends.{Within, initial-within, act-within, settle-complete, settle-within}
 use Rattle.run.proofs.Replay.{goes-on}
 use Rattle.run.proofs.Invariants.{Invariant, never-after-start}
 

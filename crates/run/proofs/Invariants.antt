@@ -18,15 +18,17 @@ use Rattle.engine.specs.Meanings.{Meaning, meaningOf}
 use Rattle.engine.specs.Firing as firing
 use Rattle.run.specs.declared.Call.{Call}
 use Rattle.run.specs.declared.Call.the-variants.{Check, Start, Fire, Undo, Marks, Value}
-use Rattle.run.specs.Runs.{Run, Store, Answer, Done, run, answered}
-use Rattle.run.specs.Runs.Answer.{refused, rounds, done, number, sizes}
-use Rattle.run.specs.Calls.{tooShort, holds, initial, replay, start, PickedFrom, Fireable}
+use Rattle.steps.specs.Runs.{Run, Store, Answer, Done, run, answered}
+use Rattle.steps.specs.Runs.Answer.{refused, rounds, done, number, sizes}
+use Rattle.steps.specs.Calls.{tooShort, holds, initial, replay}
+use Rattle.run.specs.Calls.{start}
+use Rattle.run.specs.Picks.{PickedFrom, Fireable}
 use Rattle.run.specs.Lists.{callOn, callBy, call, Performed, PickedBy, lastLeft}
 use Rattle.run.specs.Lists.Performed.{nothing, next}
 use Rattle.run.specs.declared.Picked.{Picked}
 use Rattle.run.specs.declared.Picked.the-variants.{Refused, Transition, Nothing}
 use Rattle.run.specs.Theorems.{NoneIs, NeverAfterStart}
-use Rattle.run.proofs.Tests.{clash}
+use Rattle.steps.proofs.Tests.{clash}
 use Rattle.run.proofs.Cases.{Other, start-cases, fire-cases, undo-cases, marks-cases, value-cases}
 
 -- the number of a refusal; 0 of any other answer

@@ -5,7 +5,7 @@ use Prim.Native.Nat.{ℕ}
 use Rattle.model.specs.Theorems.{Bytes, ShuffledFile, ShuffledAccepted}
 use Rattle.engine.specs.Theorems.{ShuffledMeansSame}
 use Rattle.run.specs.declared.Call.{Call}
-use Rattle.run.specs.Runs.{Store, Done}
+use Rattle.steps.specs.Runs.{Store, Done}
 use Rattle.run.specs.Lists.{callOn, callBy, call, callsOf, Performed}
 use Rattle.run.specs.Lists.Performed.{nothing, next}
 use Rattle.run.specs.Theorems.{OrderIndependent}

@@ -19,14 +19,16 @@ use Rattle.model.specs.Check.Verdict.{refusal, accepted}
 use Rattle.engine.specs.Meanings.{Meaning, meaningOf}
 use Rattle.run.specs.declared.Picked.{Picked}
 use Rattle.run.specs.declared.Picked.the-variants.{Refused, Transition, Nothing}
-use Rattle.run.specs.Runs.{Run, Answer, Done, answered}
-use Rattle.run.specs.Runs.Answer.{refused, done}
-use Rattle.run.specs.Calls.{tooShort, holds, marksFrom, marksOf, marks, Fireable, PickedFrom}
-use Rattle.run.specs.declared.Answer as declared
-use Rattle.run.specs.Lists.{seen, onFile, PickedBy}
+use Rattle.steps.specs.Runs.{Run, Answer, Done, answered}
+use Rattle.steps.specs.Runs.Answer.{refused, done}
+use Rattle.steps.specs.Calls.{tooShort, holds, marksFrom, marksOf, marks}
+use Rattle.run.specs.Picks.{Fireable, PickedFrom}
+use Rattle.steps.specs.declared.Answer as declared
+use Rattle.steps.specs.Answers.{seen, onFile}
+use Rattle.run.specs.Lists.{PickedBy}
 use Rattle.run.proofs.Seen.{seen-distinct}
-use Rattle.run.specs.Moves.{firstFireable}
-use Rattle.run.proofs.Tests.{clash}
+use Rattle.run.specs.Picks.{firstFireable}
+use Rattle.steps.proofs.Tests.{clash}
 
 -- ---- the loop
 

@@ -13,8 +13,8 @@ use Rattle.engine.specs.Propagation.{Settled}
 use Rattle.engine.specs.Propagation.Settled.{refused, settled}
 use Rattle.engine.specs.Meanings.{Meaning}
 use Rattle.engine.specs.Firing.{Left, leaves, leftBySettling, fired, begun}
-use Rattle.run.specs.Calls.{goOn, refire, replay}
-use Rattle.run.proofs.Written.{SameRest, same-rest, rest-after, Complete, fired-keeps, begun-keeps}
+use Rattle.steps.specs.Calls.{goOn, refire, replay}
+use Rattle.steps.proofs.Written.{SameRest, same-rest, rest-after, Complete, fired-keeps, begun-keeps}
 
 -- what goes on to a result was fired, and any other continuation goes on from the same values
 pub goes-on : (P : Option (List ℤ) → Type 0) (next other : List ℤ → Option (List ℤ)) (l : Left) (a : Firing) (vs : List ℤ)

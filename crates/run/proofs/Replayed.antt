@@ -13,11 +13,11 @@ use lib.Seq.{take-suc-set, take-suc}
 use Rattle.engine.specs.declared.Firing.the-variants.{Fired}
 use Rattle.engine.specs.Meanings.{Meaning, meaningOf}
 use Rattle.engine.specs.Firing.{fired, begun}
-use Rattle.run.specs.Runs.{Run, run}
-use Rattle.run.specs.Calls.{initial, goOn, refire, replay}
+use Rattle.steps.specs.Runs.{Run, run}
+use Rattle.steps.specs.Calls.{initial, goOn, refire, replay}
 use Rattle.run.specs.Theorems.{ReplayHolds}
-use Rattle.run.proofs.Written.{Complete}
-use Rattle.run.proofs.Ends.{settle-complete}
+use Rattle.steps.proofs.Written.{Complete}
+use Rattle.steps.proofs.Ends.{settle-complete}
 use Rattle.run.proofs.Replay.{Succeeds, replay-append, replay-beginning, replay-keeps, replay-depends}
 use Rattle.run.proofs.Invariants.{Invariant, never-after-start}
 

@@ -1,10 +1,10 @@
 -- Different answers of the code never look alike: `seen` has an inverse.
 use mathlib.Core.Path.{_≡_, refl, sym, ap, _∙_}
-use Rattle.run.specs.declared.Answer as declared
-use Rattle.run.specs.declared.Answer.the-variants.{Refused, Rounds, Done, Number, Sizes}
-use Rattle.run.specs.Runs.{Answer}
-use Rattle.run.specs.Runs.Answer.{refused, rounds, done, number, sizes}
-use Rattle.run.specs.Lists.{seen}
+use Rattle.steps.specs.declared.Answer as declared
+use Rattle.steps.specs.declared.Answer.the-variants.{Refused, Rounds, Done, Number, Sizes}
+use Rattle.steps.specs.Runs.{Answer}
+use Rattle.steps.specs.Runs.Answer.{refused, rounds, done, number, sizes}
+use Rattle.steps.specs.Answers.{seen}
 use Rattle.run.specs.Theorems.{SeenDistinct}
 
 inverse : Answer → declared.Answer

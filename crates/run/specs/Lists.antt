@@ -9,11 +9,12 @@ use Rattle.model.specs.Check.Verdict.{refusal, accepted}
 use Rattle.engine.specs.Meanings.{Meaning, meaningOf}
 use Rattle.run.specs.declared.Call.{Call}
 use Rattle.run.specs.declared.Call.the-variants.{Check, Start, Fire, Undo, Marks, Value}
-use Rattle.run.specs.Runs.{Run, Store, Answer, Done, answered, withRun, withMarks}
-use Rattle.run.specs.Runs.Answer.{refused, rounds, done, number, sizes}
-use Rattle.run.specs.declared.Answer as answer
+use Rattle.steps.specs.Runs.{Run, Store, Answer, Done, answered, withRun, withMarks}
+use Rattle.steps.specs.Runs.Answer.{refused, rounds, sizes}
 use Rattle.run.specs.declared.Picked.{Picked}
 use Rattle.run.specs.Calls as calls
+use Rattle.steps.specs.Calls as steps
+use Rattle.run.specs.Picks.{PickedFrom}
 
 abbrev pub onRun : Store → Done Run → Done Store
 onRun s d = answered (d .answer) (withRun (d .left) s)
@@ -27,8 +28,8 @@ callOn z m Check s = answered (sizes z) s
 callOn z m Start s = onRun s (calls.start m (s .run))
 callOn z m (Fire t) s = onRun s (calls.fire m t (s .run))
 callOn z m Undo s = onRun s (calls.undo m (s .run))
-callOn z m Marks s = onMarks s (calls.marks m (s .run) (s .marks))
-callOn z m (Value x) s = answered (calls.value m x (s .run)) s
+callOn z m Marks s = onMarks s (steps.marks m (s .run) (s .marks))
+callOn z m (Value x) s = answered (steps.value m x (s .run)) s
 
 unfoldable pub callBy : Verdict → Call → Store → Done Store
 callBy (refusal n) c s = answered (refused n) s
@@ -43,24 +44,6 @@ unfoldable pub callsOf : List ℕ → List Call → Store → List (Done Store)
 callsOf m [] s = []
 callsOf m (c ∷ cs) s = call m c s ∷ callsOf m cs (call m c s .left)
 
--- the code's answers, by 01's numbers and values
-unfoldable pub seen : answer.Answer → Answer
-seen (answer.the-variants.Refused n) = refused n
-seen (answer.the-variants.Rounds n) = rounds n
-seen answer.the-variants.Done = done
-seen (answer.the-variants.Number v) = number v
-seen (answer.the-variants.Sizes z) = sizes z
-
--- a call over the meaning of a file's model and a thing that is lent; a refused file leaves it
-unfoldable pub onFile : {A : Type 0} → Verdict → (Meaning → Done A) → A → Done A
-onFile (refusal n) f a = answered (refused n) a
-onFile (accepted z t) f a = f (meaningOf t)
-
--- the same where nothing that could change is lent
-unfoldable pub onFileAnswer : Verdict → (Meaning → Answer) → Answer
-onFileAnswer (refusal n) f = refused n
-onFileAnswer (accepted z t) f = f (meaningOf t)
-
 -- 01: "the round count is how many were made, that last one included, so it is at most F + 1"
 unfoldable pub CountBounded : Verdict → Answer → Type 0
 CountBounded (refusal n) a = Unit {0}
@@ -69,7 +52,7 @@ CountBounded (accepted z t) a = (count : ℕ) → a ≡ rounds count → (1 ≤ 
 -- pick on a model file
 unfoldable pub PickedBy : Verdict → Run → Picked → Type 0
 PickedBy (refusal n) r p = p ≡ Picked.Refused n
-PickedBy (accepted z t) r p = calls.PickedFrom (meaningOf t) r p
+PickedBy (accepted z t) r p = PickedFrom (meaningOf t) r p
 
 -- what `perform` promises of a call's answer and of all that it leaves
 abbrev pub Promise : List ℕ → Call → Store → Done Store → Type 0

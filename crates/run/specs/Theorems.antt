@@ -6,12 +6,13 @@ use Rattle.model.specs.Check.{verdict}
 use Rattle.model.specs.Theorems.{Bytes, Accepted, ShuffledFile}
 use Rattle.run.specs.declared.Call.{Call}
 use Rattle.run.specs.declared.Call.the-variants.{Start}
-use Rattle.run.specs.Runs.{Store, Answer, Done}
-use Rattle.run.specs.Runs.Answer.{refused, rounds}
+use Rattle.steps.specs.Runs.{Store, Answer, Done}
+use Rattle.steps.specs.Runs.Answer.{refused, rounds}
 use Rattle.run.specs.declared.Picked.{Picked}
 use Rattle.run.specs.declared.Picked.the-variants.{Refused}
-use Rattle.run.specs.declared.Answer as declared
-use Rattle.run.specs.Lists.{call, callsOf, Promise, Performed, PickedBy, lastLeft, seen}
+use Rattle.steps.specs.declared.Answer as declared
+use Rattle.run.specs.Lists.{callsOf, Promise, Performed, PickedBy, lastLeft}
+use Rattle.steps.specs.Answers.{seen}
 
 -- 01, demand 3: "Each answer, and after each call n and every cell, are equal for both and are what these definitions give along the
 -- list. That is one claim about the whole list, not one for each call."

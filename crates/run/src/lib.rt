@@ -1,19 +1,22 @@
 // The calls on a run.
 
-mod inspect; // inspect.rt: marks, value and pick on a decoded model
-mod moves; // moves.rt: start, fire and undo on a decoded model
-mod standing; // standing.rt: does a run hold
-
 ghost use mathlib.Core.Path.{_≡_};
 ghost use mathlib.Core.List.{List};
 ghost use Prim.Native.Nat.{ℕ};
 ghost use Rattle.model.specs.Check.{verdict, answerOf};
-ghost use Rattle.run.specs.Runs.{run, store, answered};
+ghost use Rattle.steps.specs.Runs.{run, store, answered};
 ghost use Rattle.run.specs.Calls as calls;
-ghost use Rattle.run.specs.Lists.{seen, onFile, onFileAnswer, PickedBy, Promise, CountBounded};
-ghost use Rattle.run.specs.Moves.{firstFireable};
+ghost use Rattle.steps.specs.Calls as steps;
+ghost use Rattle.steps.specs.Answers.{seen, onFile, onFileAnswer};
+ghost use Rattle.run.specs.Lists.{PickedBy, Promise, CountBounded};
+ghost use Rattle.run.specs.Picks.{firstFireable};
 use model::Checked;
-use model::Sizes;
+use model::Model;
+use steps::Answer;
+use steps::Look;
+use steps::Move;
+use steps::inspect;
+use steps::moves;
 
 // A call, with its transition or variable number.
 pub enum Call {
@@ -25,33 +28,11 @@ pub enum Call {
     Value(usize),
 }
 
-// What a call answers: the number of a refusal, the round count, that it was done, a value, the five sizes.
-pub enum Answer {
-    Refused(u8),
-    Rounds(usize),
-    Done,
-    Number(i32),
-    Sizes(Sizes),
-}
-
 // What pick answers.
 pub enum Picked {
     Refused(u8),
     Transition(usize),
     Nothing,
-}
-
-// What is done with the values of a run.
-pub enum Move {
-    Start,
-    Fire(usize),
-    Undo,
-}
-
-// What is looked at.
-pub enum Look {
-    Marks,
-    Value(usize),
 }
 
 // The check of a model: its five sizes.
@@ -111,14 +92,14 @@ pub fn undo(model: &[u8], values: &mut [i32], history: &[u8], n: &mut usize) -> 
 // For each transition 1 if its guard is true, 0 false, 2 failed.
 pub fn marks(model: &[u8], values: &[i32], history: &[u8], n: usize, marks: &mut [u8]) -> Answer
     ensures { λ r. ⌜ answered (seen r) (now (marks .exit))
-        ≡ onFile (verdict (now (model .entry))) (λ m. calls.marks m (run (now (values .entry)) (now (history .entry)) n) (now (marks .entry))) (now (marks .entry)) ⌝ }
+        ≡ onFile (verdict (now (model .entry))) (λ m. steps.marks m (run (now (values .entry)) (now (history .entry)) n) (now (marks .entry))) (now (marks .entry)) ⌝ }
 {
     inspect::inspect(model, values, history, n, marks, Look::Marks)
 }
 
 // The value of a variable.
 pub fn value(model: &[u8], values: &[i32], history: &[u8], n: usize, variable: usize) -> Answer
-    ensures { λ r. ⌜ seen r ≡ onFileAnswer (verdict (now (model .entry))) (λ m. calls.value m variable (run (now (values .entry)) (now (history .entry)) n)) ⌝ }
+    ensures { λ r. ⌜ seen r ≡ onFileAnswer (verdict (now (model .entry))) (λ m. steps.value m variable (run (now (values .entry)) (now (history .entry)) n)) ⌝ }
 {
     inspect::inspect(
         model,
@@ -148,7 +129,7 @@ fn first_fireable(marks: &[u8]) -> Picked
 pub fn pick(model: &[u8], values: &[i32], history: &[u8], n: usize) -> Picked
     ensures { λ r. ⌜ PickedBy (verdict (now (model .entry))) (run (now (values .entry)) (now (history .entry)) n) r ⌝ }
 {
-    let mut held = [0u8; 255];
+    let mut held = [0u8; Model::MAX_TRANSITIONS];
     match marks(model, values, history, n, &mut held) {
         Answer::Refused(number) => Picked::Refused(number),
         Answer::Rounds(_) => Picked::Nothing,

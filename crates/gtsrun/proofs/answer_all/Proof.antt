@@ -1,6 +1,5 @@
 -- The turns fall, and the buffer and everything lent keep their lengths.
 use borrow.Author.Needs.{needs}
-use native.Mathlib.Omega.{arith}
 use mathlib.Core.Path.{_≡_}
 use lib.ListN.{length}
 use Rattle.gtsrun.proofs.answer_all.Statement.{statement}
@@ -44,7 +43,7 @@ part-answer-part-end : tie.Need-part-answer-part-end Inv-loop μ-loop
 part-answer-part-end c = search needs
 
 answer-part-requires : tie.Need-answer-part-requires Inv-loop μ-loop
-answer-part-requires c κs = (omega arith, omega arith)
+answer-part-requires c κs = search needs
 
 loop-less : tie.Need-loop-less Inv-loop μ-loop
 loop-less c = search needs
@@ -53,19 +52,10 @@ loop-again : tie.Need-loop-again Inv-loop μ-loop
 loop-again c = search needs
 
 close-requires : tie.Need-close-requires Inv-loop μ-loop
-close-requires c κs = (omega arith, omega arith)
+close-requires c κs = search needs
 
-sub-write-all : tie.Need-sub-write-all Inv-loop μ-loop
-sub-write-all c = search needs
-
-part-write-all-start : tie.Need-part-write-all-start Inv-loop μ-loop
-part-write-all-start c = search needs
-
-part-write-all-end : tie.Need-part-write-all-end Inv-loop μ-loop
-part-write-all-end c = search needs
-
-write-all-requires : tie.Need-write-all-requires Inv-loop μ-loop
-write-all-requires c κs = search needs
+print-requires : tie.Need-print-requires Inv-loop μ-loop
+print-requires c κs = search needs
 
 same-length : tie.Need-same-length Inv-loop μ-loop
 same-length c = search needs
@@ -102,10 +92,7 @@ answer-all-spec =
     loop-less
     loop-again
     close-requires
-    sub-write-all
-    part-write-all-start
-    part-write-all-end
-    write-all-requires
+    print-requires
     same-length
     same-length-2
     same-length-3

@@ -1,5 +1,5 @@
 -- The arrays are long enough for every model that is accepted.
-use Rattle.console.proofs.Sessions.{known-bounded}
+use Rattle.dialogue.proofs.RunSizes.{known-bounded}
 use borrow.Author.Needs.{needs}
 use Rattle.gtsrun.proofs.run_model.Statement.{statement}
 use Rattle.gtsrun.proofs.run_model.Tie as tie
@@ -24,7 +24,7 @@ slice-aggregate-serve-parts-2 c = search needs
 
 serve-parts-requires : tie.Need-serve-parts-requires
 serve-parts-requires c κs =
-    let bounds = known-bounded (c .before .before .before .before .before .dimensions .ensures .1) (c .before .before .before .variables .given .1) in (bounds, bounds)
+    let bounds = known-bounded (c .before .before .before .before .before .dimensions .ensures .1) (c .before .before .before .variables .given .1) in bounds
 
 returns : tie.Need-returns
 returns c = search needs

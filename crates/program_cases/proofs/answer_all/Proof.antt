@@ -2,7 +2,6 @@
 use borrow.Author.Needs.{needs}
 use native.Mathlib.Nat.{lt-of-le-of-lt}
 use native.Mathlib.Numerals.{add-one-le}
-use native.Mathlib.Omega.{arith}
 use mathlib.Core.Path.{_≡_}
 use Prim.Native.Nat.{_-_, _≤_}
 use lib.ListN.{length}
@@ -26,23 +25,14 @@ shared-slice-read-step : tie.Need-shared-slice-read-step Inv-loop μ-loop
 shared-slice-read-step c = search needs
 
 step-requires : tie.Need-step-requires Inv-loop μ-loop
-step-requires c κs = (omega arith, omega arith)
+step-requires c κs = search needs
 
-sub-extended : tie.Need-sub-extended Inv-loop μ-loop
-sub-extended c = search needs
-
-part-extended-start : tie.Need-part-extended-start Inv-loop μ-loop
-part-extended-start c = search needs
-
-part-extended-end : tie.Need-part-extended-end Inv-loop μ-loop
-part-extended-end c = search needs
-
-extended-requires : tie.Need-extended-requires Inv-loop μ-loop
-extended-requires c κs = search needs
+with-line-requires : tie.Need-with-line-requires Inv-loop μ-loop
+with-line-requires c κs = search needs
 
 add-i : tie.Need-add-i Inv-loop μ-loop
 add-i c =
-    record { fits = lt-of-le-of-lt (add-one-le (c .before .before .before .before .before .before .before .before .before .before .before .before .before .before .before .before .before .before .loop-test .taken)) (c .before .before .before .before .before .before .before .before .before .before .before .before .before .before .before .before .before .before .before .before .before .before .before .before .before .before .before .good .0 .0) }
+    record { fits = lt-of-le-of-lt (add-one-le (c .before .before .before .before .before .before .before .before .before .before .before .before .before .before .before .before .before .loop-test .taken)) (c .before .before .before .before .before .before .before .before .before .before .before .before .before .before .before .before .before .before .before .before .before .before .before .before .before .before .good .0 .0) }
 
 loop-less : tie.Need-loop-less Inv-loop μ-loop
 loop-less c = search needs
@@ -51,19 +41,10 @@ loop-again : tie.Need-loop-again Inv-loop μ-loop
 loop-again c = search needs
 
 close-requires : tie.Need-close-requires Inv-loop μ-loop
-close-requires c κs = (omega arith, omega arith)
+close-requires c κs = search needs
 
-sub-extended-2 : tie.Need-sub-extended-2 Inv-loop μ-loop
-sub-extended-2 c = search needs
-
-part-extended-start-2 : tie.Need-part-extended-start-2 Inv-loop μ-loop
-part-extended-start-2 c = search needs
-
-part-extended-end-2 : tie.Need-part-extended-end-2 Inv-loop μ-loop
-part-extended-end-2 c = search needs
-
-extended-requires-2 : tie.Need-extended-requires-2 Inv-loop μ-loop
-extended-requires-2 c κs = search needs
+with-line-requires-2 : tie.Need-with-line-requires-2 Inv-loop μ-loop
+with-line-requires-2 c κs = search needs
 
 same-length : tie.Need-same-length Inv-loop μ-loop
 same-length c = search needs
@@ -90,18 +71,12 @@ answer-all-spec =
     loop-holds
     shared-slice-read-step
     step-requires
-    sub-extended
-    part-extended-start
-    part-extended-end
-    extended-requires
+    with-line-requires
     add-i
     loop-less
     loop-again
     close-requires
-    sub-extended-2
-    part-extended-start-2
-    part-extended-end-2
-    extended-requires-2
+    with-line-requires-2
     same-length
     same-length-2
     same-length-3

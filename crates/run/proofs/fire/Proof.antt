@@ -5,8 +5,8 @@ use borrow.Author.Needs.{needs}
 use Prim.Native.Nat.{_<_}
 use lib.ListN.{length}
 use Rattle.model.specs.Check.{verdict}
-use Rattle.run.specs.Runs.{run}
-use Rattle.run.specs.Lists.{seen}
+use Rattle.steps.specs.Runs.{run}
+use Rattle.steps.specs.Answers.{seen}
 use Rattle.run.proofs.Following.{fire-counted, fire-kept}
 use Rattle.run.proofs.Bounds.{fire-bounded, fire-fits}
 use Rattle.run.proofs.fire.Statement.{statement}

@@ -3,7 +3,7 @@ use mathlib.Core.Path.{_≡_, refl}
 use Prim.Native.Nat.{_≤_, _-_}
 use native.Mathlib.Omega.{arith}
 use lib.ListN.{length, drop}
-use Rattle.run.specs.Moves.{firstFireable}
+use Rattle.run.specs.Picks.{firstFireable}
 use Rattle.run.proofs.Picking.{found-here, go-on, found-none}
 use Rattle.run.proofs.first_fireable.Statement.{statement}
 use Rattle.run.proofs.first_fireable.Tie as tie

@@ -1,8 +1,8 @@
 -- `perform` meets its contract: each call from what its function ensures.
 use borrow.Author.Needs.{needs}
 use Rattle.model.specs.Check.{verdict}
-use Rattle.run.specs.Runs.{run, store}
-use Rattle.run.specs.Lists.{seen}
+use Rattle.steps.specs.Runs.{run, store}
+use Rattle.steps.specs.Answers.{seen}
 use Rattle.run.proofs.Performing.{check-refused, check-accepted, start-performed, fire-performed, undo-performed, marks-performed, value-performed}
 use Rattle.run.proofs.perform.Statement.{statement}
 use Rattle.run.proofs.perform.Tie as tie

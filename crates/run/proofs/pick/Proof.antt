@@ -1,5 +1,5 @@
 -- Pick, by the marks.
-use Rattle.run.specs.Runs.{run}
+use Rattle.steps.specs.Runs.{run}
 use Rattle.run.proofs.Picking.{picked-refused, picked-done, picked-rounds, picked-number, picked-sizes}
 use borrow.Author.Needs.{needs}
 use Rattle.run.proofs.pick.Statement.{statement}

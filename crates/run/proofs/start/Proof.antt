@@ -2,8 +2,8 @@
 use mathlib.Core.List.{[]}
 use borrow.Author.Needs.{needs}
 use Rattle.model.specs.Check.{verdict}
-use Rattle.run.specs.Runs.{run}
-use Rattle.run.specs.Lists.{seen}
+use Rattle.steps.specs.Runs.{run}
+use Rattle.steps.specs.Answers.{seen}
 use Rattle.run.proofs.Following.{start-counted, start-kept}
 use Rattle.run.proofs.Bounds.{start-bounded}
 use Rattle.run.proofs.start.Statement.{statement}

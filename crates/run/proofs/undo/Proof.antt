@@ -3,7 +3,7 @@ use mathlib.Core.Path.{ap}
 use native.Mathlib.Omega.{arith}
 use borrow.Author.Needs.{needs}
 use Rattle.model.specs.Check.{verdict}
-use Rattle.run.specs.Lists.{seen}
+use Rattle.steps.specs.Answers.{seen}
 use Rattle.run.proofs.Following.{undo-counted, undo-kept}
 use Rattle.run.proofs.Bounds.{undo-fits}
 use Rattle.run.proofs.undo.Statement.{statement}

@@ -1,5 +1,5 @@
 -- The lowest class found.
-use Rattle.engine.specs.Gathering.{faultIn}
+use Rattle.interpreter.specs.Gathering.{faultIn}
 use Rattle.engine.specs.Cells.{findingOf}
 use Rattle.engine.proofs.propagation.fault_in.Statement.{statement}
 use Rattle.engine.proofs.propagation.fault_in.Tie as tie

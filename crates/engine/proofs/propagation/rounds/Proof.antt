@@ -1,10 +1,13 @@
 -- The rounds. At the head of the loop the rounds from the cells are those from the first cells; the number of cells without a number
 -- falls with each turn.
 use mathlib.Core.Path.{_≡_, refl, sym, ap, _∙_}
-use lib.ListN.{length}
-use Rattle.engine.specs.Cells.{AssertionStands, valuationOf}
+use native.Mathlib.Omega.{arith}
+use lib.ListN.{length, length-take}
+use lib.Seq.{length-take-le}
+use Rattle.engine.specs.Cells.{AssertionStands}
+use Rattle.interpreter.specs.Cells.{valuationOf}
 use Rattle.engine.proofs.Counting.{unknowns}
-use Rattle.engine.proofs.Propagating.{Going, going-begins, may-gather, turn-stops, turn-rests, turn-goes, turn-falls, count-fits}
+use Rattle.engine.proofs.Propagating.{Going, going-begins, may-gather, turn-stops, turn-rests, turn-goes, turn-falls, turn-copies, lows-within, count-fits}
 use Rattle.engine.proofs.propagation.rounds.Statement.{statement}
 use Rattle.engine.proofs.propagation.rounds.Tie as tie
 
@@ -44,29 +47,60 @@ add-count c =
     let after-gather = c .before .before .before .before in
     let head = c .before .before .before .before .before .before .before .before in
     let start = c .before .before .before .before .before .before .before .before .before .before .before .before in
-    record {
-      fits = count-fits (start .pre .0) (head .loop .cells) (head .loop .given) (after-gather .gather .last .1 .1 .1 .1 .1 .1 .0) (after-gather .gather .result)
-          (head .loop .inv .0) (head .loop .inv .1) (after-gather .gather .ensures) (start .args .cells .now) (head .loop .count) (head .loop .inv .2);
-    }
+    omega (
+      arith,
+      count-fits (start .pre .0) (head .loop .cells) (head .loop .given) (after-gather .gather .last .1 .1 .1 .1 .1 .1 .0) (after-gather .gather .result)
+          (head .loop .inv .0) (head .loop .inv .1) (after-gather .gather .ensures) (start .args .cells .now) (head .loop .count) (head .loop .inv .2),
+    )
 
-loop-less : tie.Need-loop-less Inv-loop μ-loop
-loop-less c =
+array-share-prefix-given : tie.Need-array-share-prefix-given Inv-loop μ-loop
+array-share-prefix-given c =
     let after-gather = c .before .before .before .before .before .before in
     let head = c .before .before .before .before .before .before .before .before .before .before in
     let start = c .before .before .before .before .before .before .before .before .before .before .before .before .before .before in
+    omega (arith, after-gather .gather .kept .1 .1 .1 .1 .1 .1 .0 ∙ ap length (head .loop .inv .1) ∙ head .loop .inv .0, lows-within (start .pre .0))
+
+slice-aggregate-update : tie.Need-slice-aggregate-update Inv-loop μ-loop
+slice-aggregate-update c =
+    let after-gather = c .before .before .before .before .before .before .before in
+    let head = c .before .before .before .before .before .before .before .before .before .before .before in
+    let start = c .before .before .before .before .before .before .before .before .before .before .before .before .before .before .before in
+    sym (length-take-le (length (start .args .lows .now)) (after-gather .gather .last .1 .1 .1 .1 .1 .1 .0) (omega (arith, after-gather .gather .kept .1 .1 .1 .1 .1 .1 .0 ∙ ap length (head .loop .inv .1) ∙ head .loop .inv .0, lows-within (start .pre .0))))
+
+update-requires : tie.Need-update-requires Inv-loop μ-loop
+update-requires c κs =
+    let after-gather = c .before .before .before .before .before .before .before .before in
+    let head = c .before .before .before .before .before .before .before .before .before .before .before .before in
+    let start = c .before .before .before .before .before .before .before .before .before .before .before .before .before .before .before .before in
+    omega (arith, length-take (length (start .args .lows .now)) (after-gather .gather .last .1 .1 .1 .1 .1 .1 .0), lows-within (start .pre .0), head .loop .inv .0)
+
+loop-less : tie.Need-loop-less Inv-loop μ-loop
+loop-less c =
+    let after-gather = c .before .before .before .before .before .before .before .before .before in
+    let head = c .before .before .before .before .before .before .before .before .before .before .before .before .before in
+    let start = c .before .before .before .before .before .before .before .before .before .before .before .before .before .before .before .before .before in
+    let long = after-gather .gather .kept .1 .1 .1 .1 .1 .1 .0 ∙ ap length (head .loop .inv .1) ∙ head .loop .inv .0 in
+    let copied =
+    turn-copies (start .pre .0) (head .loop .cells) (head .loop .given) (after-gather .gather .last .1 .1 .1 .1 .1 .1 .0) (after-gather .gather .result)
+    (head .loop .inv .0) (head .loop .inv .1) (after-gather .gather .ensures) long (c .update .ensures) in
     turn-falls (start .pre .0) (head .loop .cells) (head .loop .given) (after-gather .gather .last .1 .1 .1 .1 .1 .1 .0) (after-gather .gather .result)
-    (head .loop .inv .0) (head .loop .inv .1) (after-gather .gather .ensures) (start .args .cells .now) (head .loop .count) (head .loop .inv .2) (c .if1 .left)
+    (head .loop .inv .0) (head .loop .inv .1) (after-gather .gather .ensures) (start .args .cells .now) (head .loop .count) (head .loop .inv .2)
+    (c .before .before .before .if1 .left) copied
 
 loop-again : tie.Need-loop-again Inv-loop μ-loop
 loop-again c =
-    let after-gather = c .before .before .before .before .before .before in
-    let head = c .before .before .before .before .before .before .before .before .before .before in
-    let start = c .before .before .before .before .before .before .before .before .before .before .before .before .before .before in (
-      after-gather .gather .kept .1 .1 .1 .1 .1 .1 .0 ∙ ap length (head .loop .inv .1) ∙ head .loop .inv .0,
-      refl,
+    let after-gather = c .before .before .before .before .before .before .before .before .before in
+    let head = c .before .before .before .before .before .before .before .before .before .before .before .before .before in
+    let start = c .before .before .before .before .before .before .before .before .before .before .before .before .before .before .before .before .before in
+    let long = after-gather .gather .kept .1 .1 .1 .1 .1 .1 .0 ∙ ap length (head .loop .inv .1) ∙ head .loop .inv .0 in
+    let copied =
+    turn-copies (start .pre .0) (head .loop .cells) (head .loop .given) (after-gather .gather .last .1 .1 .1 .1 .1 .1 .0) (after-gather .gather .result)
+    (head .loop .inv .0) (head .loop .inv .1) (after-gather .gather .ensures) long (c .update .ensures) in (
+      ap length copied ∙ long,
+      sym copied,
       λ a. turn-goes a (head .loop .cells) (head .loop .given) (after-gather .gather .last .1 .1 .1 .1 .1 .1 .0) (after-gather .gather .result)
           (head .loop .inv .0) (head .loop .inv .1) (after-gather .gather .ensures) (start .args .cells .now) (head .loop .count) (head .loop .inv .2)
-          (c .before .before .before .before .fault-in .ensures) (c .before .before .enum-told .given .1) (c .if1 .left),
+          (c .before .before .before .before .before .before .before .fault-in .ensures) (c .before .before .before .before .before .enum-told .given .1) (c .before .before .before .if1 .left) copied,
     )
 
 returns : tie.Need-returns Inv-loop μ-loop
@@ -104,6 +138,9 @@ rounds-spec =
     enum-known-fault
     enum-told
     add-count
+    array-share-prefix-given
+    slice-aggregate-update
+    update-requires
     loop-less
     loop-again
     returns

@@ -1,8 +1,7 @@
 -- Guard, action, assertion of a loaded model.
 use borrow.Author.Needs.{needs}
 use native.Mathlib.Omega.{arith}
-use lib.ListN.{getD}
-use Rattle.engine.proofs.Firings.{few-variables, few-guards, fire-short, length-values, values-fit, length-held, held-within, fire-unknown, fire-failed, fire-false, fire-within, guard-within, fire-stands, fire-carried}
+use Rattle.engine.proofs.Firings.{few-variables, fire-short, length-values, values-fit, length-held, held-within, fire-unknown, fire-failed, fire-false, fire-within, guard-within, fire-stands, fire-carried}
 use Rattle.engine.proofs.transitions.fire.Statement.{statement}
 use Rattle.engine.proofs.transitions.fire.Tie as tie
 
@@ -66,78 +65,45 @@ returns-2 c =
     λ d. fire-false d (start .args .transition) (start .args .values .now) (after-if1 .if1 .left) (after-overwrite .overwrite .last .1 .0) (after-overwrite .overwrite .ensures .0) (after-overwrite .overwrite .ensures .1)
     (after-guard .guard .result) (after-guard .guard .ensures d) (after-v .v .given .0 .0) (c .before .known-told .given .0 .1) (after-v .v .given .1) (c .if2 .taken)
 
-mul-at : tie.Need-mul-at
-mul-at c =
-    let after-v = c .before .before in
-    let after-guard = c .before .before .before .before in
+array-share-prefix-cells-2 : tie.Need-array-share-prefix-cells-2
+array-share-prefix-cells-2 c =
     let after-overwrite = c .before .before .before .before .before .before .before in
     let after-if1 = c .before .before .before .before .before .before .before .before .before .before in
     let start = c .before .before .before .before .before .before .before .before .before .before .before .before .before .before .before .before in
-    omega (
-      arith,
-      few-guards (start .pre),
-      fire-within (start .pre) (start .args .transition) (start .args .values .now) (after-if1 .if1 .left) (after-overwrite .overwrite .last .1 .0) (after-overwrite .overwrite .ensures .0) (after-overwrite .overwrite .ensures .1)
-          (after-guard .guard .result) (after-guard .guard .ensures (start .pre)) (after-v .v .given .0 .0) (c .before .known-told .given .0 .1) (after-v .v .given .1),
-    )
-
-shared-slice-read-at : tie.Need-shared-slice-read-at
-shared-slice-read-at c =
-    let after-v = c .before .before .before in
-    let after-guard = c .before .before .before .before .before in
-    let after-overwrite = c .before .before .before .before .before .before .before .before in
-    let after-if1 = c .before .before .before .before .before .before .before .before .before .before .before in
-    let start = c .before .before .before .before .before .before .before .before .before .before .before .before .before .before .before .before .before in
-    fire-within (start .pre) (start .args .transition) (start .args .values .now) (after-if1 .if1 .left) (after-overwrite .overwrite .last .1 .0) (after-overwrite .overwrite .ensures .0) (after-overwrite .overwrite .ensures .1)
-    (after-guard .guard .result) (after-guard .guard .ensures (start .pre)) (after-v .v .given .0 .0) (c .before .before .known-told .given .0 .1) (after-v .v .given .1)
-
-cast-at : tie.Need-cast-at
-cast-at c =
-    let start = c .before .before .before .before .before .before .before .before .before .before .before .before .before .before .before .before .before in
-    omega (arith, c .shared-slice-known5 .given (start .args .transition))
-
-mul-action : tie.Need-mul-action
-mul-action c =
-    let start = c .before .before .before .before .before .before .before .before .before .before .before .before .before .before .before .before .before in
-    omega (arith, c .shared-slice-known5 .given (start .args .transition))
-
-shared-slice-read-action : tie.Need-shared-slice-read-action
-shared-slice-read-action c =
-    let after-v = c .before .before .before .before in
-    let after-guard = c .before .before .before .before .before .before in
-    let after-overwrite = c .before .before .before .before .before .before .before .before .before in
-    let after-if1 = c .before .before .before .before .before .before .before .before .before .before .before .before in
-    let start = c .before .before .before .before .before .before .before .before .before .before .before .before .before .before .before .before .before .before in
-    guard-within (start .pre) (start .args .transition) (start .args .values .now) (after-if1 .if1 .left) (after-overwrite .overwrite .last .1 .0) (after-overwrite .overwrite .ensures .0) (after-overwrite .overwrite .ensures .1)
-    (after-guard .guard .result) (after-guard .guard .ensures (start .pre)) (after-v .v .given .0 .0) (c .before .before .before .known-told .given .0 .1) (after-v .v .given .1)
-
-cast-action : tie.Need-cast-action
-cast-action c =
-    let start = c .before .before .before .before .before .before .before .before .before .before .before .before .before .before .before .before .before .before in
-    omega (arith, c .shared-slice-known6 .given (getD (start .args .guards .now) (start .args .transition) 0))
-
-array-share-prefix-cells-2 : tie.Need-array-share-prefix-cells-2
-array-share-prefix-cells-2 c =
-    let after-overwrite = c .before .before .before .before .before .before .before .before .before in
-    let after-if1 = c .before .before .before .before .before .before .before .before .before .before .before .before in
-    let start = c .before .before .before .before .before .before .before .before .before .before .before .before .before .before .before .before .before .before in
     held-within (start .pre) (start .args .transition) (start .args .values .now) (after-if1 .if1 .left) (after-overwrite .overwrite .last .1 .0) (after-overwrite .overwrite .ensures .0)
 
 slice-aggregate-carry-out : tie.Need-slice-aggregate-carry-out
 slice-aggregate-carry-out c =
-    let after-overwrite = c .before .before .before .before .before .before .before .before .before .before in
-    let after-if1 = c .before .before .before .before .before .before .before .before .before .before .before .before .before in
-    let start = c .before .before .before .before .before .before .before .before .before .before .before .before .before .before .before .before .before .before .before in
+    let after-overwrite = c .before .before .before .before .before .before .before .before in
+    let after-if1 = c .before .before .before .before .before .before .before .before .before .before .before in
+    let start = c .before .before .before .before .before .before .before .before .before .before .before .before .before .before .before .before .before in
     length-held (start .pre) (start .args .transition) (start .args .values .now) (after-if1 .if1 .left) (after-overwrite .overwrite .last .1 .0) (after-overwrite .overwrite .ensures .0)
+
+action-place-requires : tie.Need-action-place-requires
+action-place-requires c κs =
+    let after-known-told = c .before .before in
+    let after-v = c .before .before .before in
+    let after-guard = c .before .before .before .before .before in
+    let after-overwrite = c .before .before .before .before .before .before .before .before in
+    let after-if1 = c .before .before .before .before .before .before .before .before .before .before .before in
+    let start = c .before .before .before .before .before .before .before .before .before .before .before .before .before .before .before .before .before in (
+      fire-within (start .pre) (start .args .transition) (start .args .values .now) (after-if1 .if1 .left) (after-overwrite .overwrite .last .1 .0) (after-overwrite .overwrite .ensures .0) (after-overwrite .overwrite .ensures .1)
+          (after-guard .guard .result) (after-guard .guard .ensures (start .pre)) (after-v .v .given .0 .0) (after-known-told .known-told .given .0 .1) (after-v .v .given .1),
+      guard-within (start .pre) (start .args .transition) (start .args .values .now) (after-if1 .if1 .left) (after-overwrite .overwrite .last .1 .0) (after-overwrite .overwrite .ensures .0) (after-overwrite .overwrite .ensures .1)
+          (after-guard .guard .result) (after-guard .guard .ensures (start .pre)) (after-v .v .given .0 .0) (after-known-told .known-told .given .0 .1) (after-v .v .given .1),
+    )
 
 carry-out-requires : tie.Need-carry-out-requires
 carry-out-requires c κs =
-    let after-v = c .before .before .before .before .before .before in
-    let after-guard = c .before .before .before .before .before .before .before .before in
-    let after-overwrite = c .before .before .before .before .before .before .before .before .before .before .before in
-    let after-if1 = c .before .before .before .before .before .before .before .before .before .before .before .before .before .before in
-    let start = c .before .before .before .before .before .before .before .before .before .before .before .before .before .before .before .before .before .before .before .before in
+    let after-known-told = c .before .before .before .before in
+    let after-v = c .before .before .before .before .before in
+    let after-guard = c .before .before .before .before .before .before .before in
+    let after-overwrite = c .before .before .before .before .before .before .before .before .before .before in
+    let after-if1 = c .before .before .before .before .before .before .before .before .before .before .before .before .before in
+    let start = c .before .before .before .before .before .before .before .before .before .before .before .before .before .before .before .before .before .before .before in
     fire-stands (start .pre) (start .args .transition) (start .args .values .now) (after-if1 .if1 .left) (after-overwrite .overwrite .last .1 .0) (after-overwrite .overwrite .ensures .0) (after-overwrite .overwrite .ensures .1)
-    (after-guard .guard .result) (after-guard .guard .ensures (start .pre)) (after-v .v .given .0 .0) (c .before .before .before .before .before .known-told .given .0 .1) (after-v .v .given .1)
+    (after-guard .guard .result) (after-guard .guard .ensures (start .pre)) (after-v .v .given .0 .0) (after-known-told .known-told .given .0 .1) (after-v .v .given .1)
+    (c .before .action-place .ensures)
 
 same-length-2 : tie.Need-same-length-2
 same-length-2 c = search needs
@@ -168,18 +134,20 @@ same-length-4 c = search needs
 
 returns-5 : tie.Need-returns-5
 returns-5 c =
-    let after-if2 = c .before .before .before .before .before .before in
-    let after-known-told = c .before .before .before .before .before .before .before in
-    let after-v = c .before .before .before .before .before .before .before .before in
-    let after-guard = c .before .before .before .before .before .before .before .before .before .before in
-    let after-overwrite = c .before .before .before .before .before .before .before .before .before .before .before .before .before in
-    let after-if1 = c .before .before .before .before .before .before .before .before .before .before .before .before .before .before .before .before in
-    let start = c .before .before .before .before .before .before .before .before .before .before .before .before .before .before .before .before .before .before .before .before .before .before in
+    let after-action-place = c .before .before .before in
+    let after-if2 = c .before .before .before .before .before in
+    let after-known-told = c .before .before .before .before .before .before in
+    let after-v = c .before .before .before .before .before .before .before in
+    let after-guard = c .before .before .before .before .before .before .before .before .before in
+    let after-overwrite = c .before .before .before .before .before .before .before .before .before .before .before .before in
+    let after-if1 = c .before .before .before .before .before .before .before .before .before .before .before .before .before .before .before in
+    let start = c .before .before .before .before .before .before .before .before .before .before .before .before .before .before .before .before .before .before .before .before .before in
     λ d.
     fire-carried d (start .args .transition) (start .args .values .now) (after-if1 .if1 .left) (after-overwrite .overwrite .last .1 .0) (after-overwrite .overwrite .ensures .0) (after-overwrite .overwrite .ensures .1)
     (after-guard .guard .result) (after-guard .guard .ensures d) (after-v .v .given .0 .0) (after-known-told .known-told .given .0 .1) (after-v .v .given .1) (after-if2 .if2 .left) _
     (c .before .carry-out .ensures (fire-stands d (start .args .transition) (start .args .values .now) (after-if1 .if1 .left) (after-overwrite .overwrite .last .1 .0) (after-overwrite .overwrite .ensures .0) (after-overwrite .overwrite .ensures .1)
-    (after-guard .guard .result) (after-guard .guard .ensures d) (after-v .v .given .0 .0) (after-known-told .known-told .given .0 .1) (after-v .v .given .1)))
+    (after-guard .guard .result) (after-guard .guard .ensures d) (after-v .v .given .0 .0) (after-known-told .known-told .given .0 .1) (after-v .v .given .1)
+    (after-action-place .action-place .ensures)))
 
 pub fire-spec : {M : Type 1} → statement M
 fire-spec =
@@ -199,14 +167,9 @@ fire-spec =
     enum-known-v
     same-length
     returns-2
-    mul-at
-    shared-slice-read-at
-    cast-at
-    mul-action
-    shared-slice-read-action
-    cast-action
     array-share-prefix-cells-2
     slice-aggregate-carry-out
+    action-place-requires
     carry-out-requires
     same-length-2
     returns-3

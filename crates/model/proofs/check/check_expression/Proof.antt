@@ -10,14 +10,14 @@ use Rattle.model.proofs.check.check_expression.Statement.{statement}
 use Rattle.model.proofs.check.check_expression.Tie as tie
 
 abbrev start : tie.After-expression → tie.Start
-start c = c .before .before .before .before .before .before
+start c = c .before .before .before .before .before .before .before .before
 
 -- the walk, with this sort from this place on
 abbrev walked : tie.Start → ℕ → ℕ → Walk Expression
 walked s = expressionAt (s .args .kinds .now) (s .args .parameters .now) (s .args .sorts .now) maxDepth
 
 answer : (c : tie.After-expression) → outcome (walked (start c) (sortOf (start c .args .wanted)) 0) ≡ c .expression .result
-answer c = rw (← c .before .before .sort-code .ensures, ← c .before .empty .ensures) (sym (c .expression .ensures))
+answer c = rw (← c .before .before .before .before .sort-code .ensures, ← c .before .empty .ensures) (sym (c .expression .ensures (c .before .before .before .rows .ensures)))
 
 returns : tie.Need-returns
 returns c =
@@ -26,6 +26,9 @@ returns c =
 
 sort-code-requires : tie.Need-sort-code-requires
 sort-code-requires c κs = search needs
+
+rows-requires : tie.Need-rows-requires
+rows-requires c κs = search needs
 
 empty-requires : tie.Need-empty-requires
 empty-requires c κs = search needs
@@ -43,21 +46,21 @@ returns-2 : tie.Need-returns-2
 returns-2 c =
     let b = c .before .before .before in
     let a = start b .args in
-    expression-refused (a .kinds .now) (a .parameters .now) (a .sorts .now) (sortOf (a .wanted)) (b .before .before .before .if1 .left)
+    expression-refused (a .kinds .now) (a .parameters .now) (a .sorts .now) (sortOf (a .wanted)) (b .before .before .before .before .before .if1 .left)
     (answer b ∙ c .before .number .given .1)
 
 returns-3 : tie.Need-returns-3
 returns-3 c =
     let b = c .before .before .before .before .before in
     let a = start b .args in
-    nodes-left-over (a .kinds .now) (a .parameters .now) (a .sorts .now) (sortOf (a .wanted)) (b .before .before .before .if1 .left)
+    nodes-left-over (a .kinds .now) (a .parameters .now) (a .sorts .now) (sortOf (a .wanted)) (b .before .before .before .before .before .if1 .left)
     (answer b ∙ c .before .before .before .next .given .1) (c .if2 .taken)
 
 returns-4 : tie.Need-returns-4
 returns-4 c =
     let b = c .before .before .before .before .before in
     let a = start b .args in
-    expression-accepted (a .kinds .now) (a .parameters .now) (a .sorts .now) (sortOf (a .wanted)) (b .before .before .before .if1 .left)
+    expression-accepted (a .kinds .now) (a .parameters .now) (a .sorts .now) (sortOf (a .wanted)) (b .before .before .before .before .before .if1 .left)
     (answer b ∙ c .before .before .before .next .given .1) (c .if2 .left)
 
 pub check-expression-spec : {M : Type 1} → statement M
@@ -66,6 +69,7 @@ check-expression-spec =
     (tie.spec
     returns
     sort-code-requires
+    rows-requires
     empty-requires
     expression-requires
     enum-known-number

@@ -1,5 +1,4 @@
 -- The kinds and the decoded parameters, handed on to the walk.
-use mathlib.Core.Path.{_∙_}
 use mathlib.Core.List.{List}
 use Prim.Native.Nat.{_+_}
 use native.Mathlib.Omega.{arith}
@@ -27,6 +26,9 @@ slice-aggregate-parameters-in c = search needs
 parameters-in-requires : tie.Need-parameters-in-requires
 parameters-in-requires c κs = let r = read (c .before .before) in (r .few, omega (arith, r .all))
 
+rows-requires : tie.Need-rows-requires
+rows-requires c κs = search needs
+
 sub-system : tie.Need-sub-system
 sub-system c = search needs
 
@@ -34,31 +36,31 @@ part-system-start : tie.Need-part-system-start
 part-system-start c = search needs
 
 part-system-end : tie.Need-part-system-end
-part-system-end c = omega (arith, read (c .before .before .before .before) .all)
+part-system-end c = omega (arith, read (c .before .before .before .before .before .before) .all)
 
 array-share-prefix-parameters : tie.Need-array-share-prefix-parameters
 unfolding rest
 array-share-prefix-parameters c =
-    let s = c .before .before .before .before .before in
-    prefix-within (s .args .model .now) (6 + s .args .sizes .nodes) (s .args .sizes .nodes) (rest s) (c .before .before .parameters-in .ensures)
+    let s = c .before .before .before .before .before .before .before in
+    prefix-within (s .args .model .now) (6 + s .args .sizes .nodes) (s .args .sizes .nodes) (rest s) (c .before .before .before .before .parameters-in .ensures)
 
 slice-aggregate-system : tie.Need-slice-aggregate-system
 unfolding rest
 slice-aggregate-system c =
-    let s = c .before .before .before .before .before .before in
-    prefix-length (s .args .model .now) (6 + s .args .sizes .nodes) (s .args .sizes .nodes) (rest s) (c .before .before .before .parameters-in .ensures)
+    let s = c .before .before .before .before .before .before .before .before in
+    prefix-length (s .args .model .now) (6 + s .args .sizes .nodes) (s .args .sizes .nodes) (rest s) (c .before .before .before .before .before .parameters-in .ensures)
 
 system-requires : tie.Need-system-requires
 system-requires c κs =
-    let s = c .before .before .before .before .before .before in few-variables (read s) (c .before .before .before .before .before .shared-slice-known .given)
+    let s = c .before .before .before .before .before .before .before .before in few-variables (read s) (c .before .before .before .before .before .before .before .shared-slice-known .given)
 
 returns : tie.Need-returns
 unfolding rest
 returns c =
-    let s = c .before .before .before .before .before .before .before in
-    c .system .ensures
-    ∙ walked-parts (s .args .model .now) (s .args .sizes)
-    (prefix-same (s .args .model .now) (6 + s .args .sizes .nodes) (s .args .sizes .nodes) (rest s) (c .before .before .before .before .parameters-in .ensures))
+    let s = c .before .before .before .before .before .before .before .before .before in
+    walked-parts (s .args .model .now) (s .args .sizes)
+    (prefix-same (s .args .model .now) (6 + s .args .sizes .nodes) (s .args .sizes .nodes) (rest s) (c .before .before .before .before .before .before .parameters-in .ensures))
+    (c .system .ensures (c .before .before .before .before .rows .ensures))
 
 pub nodes-of-spec : {M : Type 1} → statement M
 nodes-of-spec =
@@ -67,6 +69,7 @@ nodes-of-spec =
     add-past
     slice-aggregate-parameters-in
     parameters-in-requires
+    rows-requires
     sub-system
     part-system-start
     part-system-end

@@ -3,7 +3,7 @@ use borrow.Author.Needs.{needs}
 use mathlib.Core.Path.{ap, _∙_}
 use lib.IntN.{natAbs}
 use Rattle.evaluation.proofs.Signed.{read-one}
-use Rattle.model.specs.Kinds.{rowOf}
+use Rattle.syntax.specs.Kinds.{rowOf}
 use Rattle.model.proofs.Filling.{children-block, children-row}
 use Rattle.model.proofs.decode.children_of.Statement.{statement}
 use Rattle.model.proofs.decode.children_of.Tie as tie
@@ -12,7 +12,7 @@ magnitude-requires : tie.Need-magnitude-requires
 magnitude-requires c κs = search needs
 
 returns : tie.Need-returns
-returns c =
+returns c = λ e.
     c .magnitude .ensures
     ∙ read-one natAbs (c .before .before .fits .parameter)
     ∙ children-block (c .before .before .args .kind) (c .before .before .args .parameter) (c .before .if1 .taken)
@@ -25,8 +25,8 @@ cast-result c = search needs
 
 returns-2 : tie.Need-returns-2
 unfolding rowOf
-returns-2 c =
-    ap (λ row. row .children) (c .before .row-of .ensures)
+returns-2 c = λ e.
+    ap (λ row. row .children) (c .before .row-of .ensures e)
     ∙ children-row (c .before .before .before .args .kind) (c .before .before .before .args .parameter) (c .before .before .if1 .left)
 
 pub children-of-spec : {M : Type 1} → statement M

@@ -11,11 +11,14 @@ use Rattle.model.proofs.decode.next_places.Statement.{statement}
 use Rattle.model.proofs.decode.next_places.Tie as tie
 
 abbrev Inv-loop : tie.InvT-loop
-Inv-loop kinds parameters nexts₀ nodes left₀ nexts left =
+Inv-loop kinds parameters nexts₀ rows nodes left₀ nexts left =
     (filled kinds parameters left nexts ≡ filled kinds parameters (length kinds) nexts₀) × (left ≤ length kinds) × (length nexts ≡ length nexts₀)
 
 abbrev μ-loop : tie.MeasureT-loop
-μ-loop kinds parameters nexts₀ nodes left₀ nexts left = left
+μ-loop kinds parameters nexts₀ rows nodes left₀ nexts left = left
+
+rows-requires : tie.Need-rows-requires Inv-loop μ-loop
+rows-requires c κs = tt
 
 loop-holds : tie.Need-loop-holds Inv-loop μ-loop
 loop-holds c = (refl, omega arith, refl)
@@ -55,12 +58,12 @@ loop-less c = omega arith
 
 loop-again : tie.Need-loop-again Inv-loop μ-loop
 loop-again c =
-    let given = c .before .before .before .before .before .before .before .before .before .args in
-    let turn = c .before .before .before .before .before .before .loop in
+    let given = c .before .before .before .before .before .before .before .before .before .before .before .args in
+    let turn = c .before .before .before .before .before .before .before .loop in
     let p = getD (given .parameters .now) (turn .left - 1) (pos 0) in (
       sym
-          (filled-turn (given .kinds .now) (given .parameters .now) (turn .left) (turn .nexts) (c .before .before .children-of .result) (c .follow .result) (c .before .before .before .before .before .loop-test .taken)
-          (c .before .before .children-of .ensures ∙ ap (childrenBy (getD (given .kinds .now) (turn .left - 1) 0)) (read-back p (c .before .before .before .children-of-arg .given)))
+          (filled-turn (given .kinds .now) (given .parameters .now) (turn .left) (turn .nexts) (c .before .before .children-of .result) (c .follow .result) (c .before .before .before .before .before .before .loop-test .taken)
+          (c .before .before .children-of .ensures (c .before .before .before .before .before .before .before .before .rows .ensures) ∙ ap (childrenBy (getD (given .kinds .now) (turn .left - 1) 0)) (read-back p (c .before .before .before .children-of-arg .given)))
           (c .follow .ensures .0))
           ∙ turn .inv .0,
       omega arith,
@@ -79,6 +82,7 @@ next-places-spec =
     (tie.spec
     Inv-loop
     μ-loop
+    rows-requires
     loop-holds
     sub-left
     shared-slice-read-children-of

@@ -6,15 +6,18 @@ use Rattle.model.proofs.decode.variables.Statement.{statement}
 use Rattle.model.proofs.decode.variables.Tie as tie
 
 abbrev Inv-loop : tie.InvT-loop
-Inv-loop kinds parameters count sorts₀ lows₀ highs₀ firsts₀ i₀ at₀ sorts lows highs firsts i at =
+Inv-loop kinds parameters count sorts₀ lows₀ highs₀ firsts₀ rows i₀ at₀ sorts lows highs firsts i at =
     VariablesStored kinds parameters count i at (cells sorts lows highs firsts) (cells sorts₀ lows₀ highs₀ firsts₀)
 
 abbrev μ-loop : tie.MeasureT-loop
-μ-loop kinds parameters count sorts₀ lows₀ highs₀ firsts₀ i₀ at₀ sorts lows highs firsts i at = count - i
+μ-loop kinds parameters count sorts₀ lows₀ highs₀ firsts₀ rows i₀ at₀ sorts lows highs firsts i at = count - i
+
+rows-requires : tie.Need-rows-requires Inv-loop μ-loop
+rows-requires c κs = tt
 
 loop-holds : tie.Need-loop-holds Inv-loop μ-loop
 loop-holds c =
-    let given = c .before .before .args in
+    let given = c .before .before .before .args in
     variables-begin (given .kinds .now) (given .parameters .now) (given .count) (cells (given .sorts .now) (given .lows .now) (given .highs .now) (given .firsts .now))
 
 variable-requires : tie.Need-variable-requires Inv-loop μ-loop
@@ -24,26 +27,26 @@ enum-told : tie.Need-enum-told Inv-loop μ-loop
 enum-told c = c .match .keys1
 
 same-length : tie.Need-same-length Inv-loop μ-loop
-same-length c = c .before .before .before .before .loop .inv .lengths .sorts
+same-length c = c .before .before .before .before .before .loop .inv .lengths .sorts
 
 same-length-2 : tie.Need-same-length-2 Inv-loop μ-loop
-same-length-2 c = c .before .before .before .before .loop .inv .lengths .lows
+same-length-2 c = c .before .before .before .before .before .loop .inv .lengths .lows
 
 same-length-3 : tie.Need-same-length-3 Inv-loop μ-loop
-same-length-3 c = c .before .before .before .before .loop .inv .lengths .highs
+same-length-3 c = c .before .before .before .before .before .loop .inv .lengths .highs
 
 same-length-4 : tie.Need-same-length-4 Inv-loop μ-loop
-same-length-4 c = c .before .before .before .before .loop .inv .lengths .firsts
+same-length-4 c = c .before .before .before .before .before .loop .inv .lengths .firsts
 
 returns : tie.Need-returns Inv-loop μ-loop
 returns c =
-    let given = c .before .before .before .before .before .before .before .args in
-    let turn = c .before .before .before .before .loop in
+    let given = c .before .before .before .before .before .before .before .before .before .args in
+    let turn = c .before .before .before .before .before .loop in
     λ vs next h.
     absurd
     (variables-stop (given .kinds .now) (given .parameters .now) (given .count) (turn .i) (turn .at)
     (cells (turn .sorts) (turn .lows) (turn .highs) (turn .firsts)) (cells (given .sorts .now) (given .lows .now) (given .highs .now) (given .firsts .now))
-    (turn .inv) (c .before .before .before .loop-test .taken) (c .before .before .variable .result) (c .before .before .variable .ensures) (c .enum-told .given .0 .0) (c .enum-told .given .1) vs next h)
+    (turn .inv) (c .before .before .before .before .loop-test .taken) (c .before .before .variable .result) (c .before .before .variable .ensures (c .before .before .before .before .before .before .rows .ensures)) (c .enum-told .given .0 .0) (c .enum-told .given .1) vs next h)
 
 enum-known-sort : tie.Need-enum-known-sort Inv-loop μ-loop
 enum-known-sort c = c .match .keys2
@@ -77,13 +80,13 @@ loop-less c = omega arith
 
 loop-again : tie.Need-loop-again Inv-loop μ-loop
 loop-again c =
-    let given = c .before .before .before .before .before .before .before .before .args in
-    let turn = c .before .before .before .before .before .loop in
+    let given = c .before .before .before .before .before .before .before .before .before .before .args in
+    let turn = c .before .before .before .before .before .before .loop in
     let read = c .before .sort .given in
     let told = c .known-told .given in
     variables-turn (given .kinds .now) (given .parameters .now) (given .count) (turn .i) (turn .at)
     (cells (turn .sorts) (turn .lows) (turn .highs) (turn .firsts)) (cells (given .sorts .now) (given .lows .now) (given .highs .now) (given .firsts .now))
-    (turn .inv) (c .before .before .before .before .loop-test .taken) (c .before .before .before .variable .result) (c .before .before .before .variable .ensures)
+    (turn .inv) (c .before .before .before .before .before .loop-test .taken) (c .before .before .before .variable .result) (c .before .before .before .variable .ensures (c .before .before .before .before .before .before .before .rows .ensures))
     (read .0 .0) (read .0 .1 .0) (read .0 .1 .1 .0) (read .0 .1 .1 .1 .0) (read .0 .1 .1 .1 .1 .0) (read .1) (told .1 .0 .1) (told .1 .1 .0 .1) (told .1 .1 .1 .0 .1)
 
 same-length-5 : tie.Need-same-length-5 Inv-loop μ-loop
@@ -100,9 +103,9 @@ same-length-8 c = c .before .loop .inv .lengths .firsts
 
 returns-2 : tie.Need-returns-2 Inv-loop μ-loop
 returns-2 c =
-    let given = c .before .before .before .before .args in
+    let given = c .before .before .before .before .before .args in
     let turn = c .before .loop in
-    let asked = c .before .before .before .before .pre in
+    let asked = c .before .before .before .before .before .pre in
     variables-end (given .kinds .now) (given .parameters .now) (given .count) (turn .i) (turn .at)
     (cells (turn .sorts) (turn .lows) (turn .highs) (turn .firsts)) (cells (given .sorts .now) (given .lows .now) (given .highs .now) (given .firsts .now))
     (turn .inv) (c .loop-test .left) (asked .0) (asked .1) (asked .2) (asked .3)
@@ -113,6 +116,7 @@ variables-spec =
     (tie.spec
     Inv-loop
     μ-loop
+    rows-requires
     loop-holds
     variable-requires
     enum-told

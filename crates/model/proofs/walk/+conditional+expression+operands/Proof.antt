@@ -4,7 +4,8 @@ use native.Mathlib.Omega.{arith}
 use borrow.Author.Needs.{needs}
 use borrow.Fn.Kinds.{In}
 use borrow.Fn.PlainCycle.{Measures, is, falls, and}
-use Rattle.model.proofs.Expressions.{expression-refused, expression-depth, expression-operands, condition-refused, first-refused, second-walked, no-operands, conditional-operands, operand-refused, one-operand, two-operands}
+use Rattle.model.proofs.Expressions.{expression-refused, expression-operands, condition-refused, first-refused, second-walked, no-operands, conditional-operands, operand-refused, one-operand, two-operands}
+use Rattle.model.proofs.Walking.{node-depth}
 use Rattle.model.proofs.walk.conditional.Reads as conditional
 use Rattle.model.proofs.walk.conditional.Kinds as conditional-kinds
 use Rattle.model.proofs.walk.+conditional+expression+operands.Lts-conditional as conditional-lts
@@ -14,43 +15,43 @@ use Rattle.model.proofs.walk.+conditional+expression+operands.Lts-expre
 use Rattle.model.proofs.walk.operands.Reads as operands
 use Rattle.model.proofs.walk.operands.Kinds as operands-kinds
 use Rattle.model.proofs.walk.+conditional+expression+operands.Lts-operands as operands-lts
-use Rattle.model.proofs.Cursor.expression_node.Reads as expression-node-reads
-use Rattle.model.proofs.kinds.operand_sort.Reads as operand-sort-reads
-use Rattle.model.proofs.kinds.row_of.Reads as row-of-reads
+use Rattle.syntax.proofs.Cursor.expression_node.Reads as expression-node-reads
+use Rattle.syntax.proofs.kinds.operand_sort.Reads as operand-sort-reads
+use Rattle.syntax.proofs.kinds.row_of.Reads as row-of-reads
 use Rattle.model.proofs.walk.+conditional+expression+operands.{statement}
 use Rattle.model.proofs.walk.+conditional+expression+operands.Tie.{close}
 
-abbrev μ-conditional : Measures 3 conditional-kinds.ps ℕ
-μ-conditional κs a = 3 * a .1 .1 .1 .0 + 1
+abbrev μ-conditional : Measures 4 conditional-kinds.ps ℕ
+μ-conditional κs a = 3 * a .1 .1 .1 .1 .0 + 1
 
-abbrev μ-expression : Measures 3 expression-kinds.ps ℕ
-μ-expression κs a = 3 * a .1 .1 .1 .0
+abbrev μ-expression : Measures 4 expression-kinds.ps ℕ
+μ-expression κs a = 3 * a .1 .1 .1 .1 .0
 
-abbrev μ-operands : Measures 3 operands-kinds.ps ℕ
-μ-operands κs a = 3 * a .1 .1 .1 .0 + 2
+abbrev μ-operands : Measures 4 operands-kinds.ps ℕ
+μ-operands κs a = 3 * a .1 .1 .1 .1 .0 + 2
 
-abbrev conditional-at : ℕ → In 3 conditional-kinds.ps
+abbrev conditional-at : ℕ → In 4 conditional-kinds.ps
 conditional-at t =
-    and 3 conditional-kinds.ps (is 3 conditional-kinds.ps μ-conditional t) conditional.Pre
+    and 4 conditional-kinds.ps (is 4 conditional-kinds.ps μ-conditional t) conditional.Pre
 
-abbrev conditional-below : ℕ → In 3 conditional-kinds.ps
+abbrev conditional-below : ℕ → In 4 conditional-kinds.ps
 conditional-below t =
-    and 3 conditional-kinds.ps (falls 3 conditional-kinds.ps _<_ μ-conditional t) conditional.Pre
+    and 4 conditional-kinds.ps (falls 4 conditional-kinds.ps _<_ μ-conditional t) conditional.Pre
 
-abbrev expression-at : ℕ → In 3 expression-kinds.ps
+abbrev expression-at : ℕ → In 4 expression-kinds.ps
 expression-at t =
-    and 3 expression-kinds.ps (is 3 expression-kinds.ps μ-expression t) expression.Pre
+    and 4 expression-kinds.ps (is 4 expression-kinds.ps μ-expression t) expression.Pre
 
-abbrev expression-below : ℕ → In 3 expression-kinds.ps
+abbrev expression-below : ℕ → In 4 expression-kinds.ps
 expression-below t =
-    and 3 expression-kinds.ps (falls 3 expression-kinds.ps _<_ μ-expression t) expression.Pre
+    and 4 expression-kinds.ps (falls 4 expression-kinds.ps _<_ μ-expression t) expression.Pre
 
-abbrev operands-at : ℕ → In 3 operands-kinds.ps
-operands-at t = and 3 operands-kinds.ps (is 3 operands-kinds.ps μ-operands t) operands.Pre
+abbrev operands-at : ℕ → In 4 operands-kinds.ps
+operands-at t = and 4 operands-kinds.ps (is 4 operands-kinds.ps μ-operands t) operands.Pre
 
-abbrev operands-below : ℕ → In 3 operands-kinds.ps
+abbrev operands-below : ℕ → In 4 operands-kinds.ps
 operands-below t =
-    and 3 operands-kinds.ps (falls 3 operands-kinds.ps _<_ μ-operands t) operands.Pre
+    and 4 operands-kinds.ps (falls 4 operands-kinds.ps _<_ μ-operands t) operands.Pre
 
 -- what each function is told of those that it calls
 abbrev conditional-claims : ℕ → conditional-lts.Claims
@@ -94,13 +95,13 @@ conditional-expression-requires-3 : (t : ℕ) → conditional-lts.Need-expressio
 conditional-expression-requires-3 t c κs = (omega (arith, (c .before .before .before .before .before .before .before .before .before .before .pre .0)), tt)
 
 conditional-returns : (t : ℕ) → conditional-lts.Need-returns (conditional-claims t) (conditional-at t) conditional.Post
-conditional-returns t c = λ k p. condition-refused _ _ _ _ k p _ (c .before .before .before .expression .ensures) (c .before .number .given .1)
+conditional-returns t c = λ e k p. condition-refused _ _ _ _ k p _ (c .before .before .before .expression .ensures e) (c .before .number .given .1)
 
 conditional-returns-2 : (t : ℕ) → conditional-lts.Need-returns-2 (conditional-claims t) (conditional-at t) conditional.Post
-conditional-returns-2 t c = λ k p. first-refused _ _ _ _ k p _ (c .before .before .before .before .before .before .before .expression .ensures) (c .before .before .before .before .before .second .given .1) (c .before .before .before .expression2 .ensures) (c .before .number2 .given .1)
+conditional-returns-2 t c = λ e k p. first-refused _ _ _ _ k p _ (c .before .before .before .before .before .before .before .expression .ensures e) (c .before .before .before .before .before .second .given .1) (c .before .before .before .expression2 .ensures e) (c .before .number2 .given .1)
 
 conditional-returns-3 : (t : ℕ) → conditional-lts.Need-returns-3 (conditional-claims t) (conditional-at t) conditional.Post
-conditional-returns-3 t c = λ k p. second-walked _ _ _ _ k p _ (c .before .before .before .before .before .before .before .before .expression .ensures) (c .before .before .before .before .before .before .second .given .1) (c .before .before .before .before .expression2 .ensures) (c .before .before .third .given .1) (c .expression3 .ensures)
+conditional-returns-3 t c = λ e k p. second-walked _ _ _ _ k p _ (c .before .before .before .before .before .before .before .before .expression .ensures e) (c .before .before .before .before .before .before .second .given .1) (c .before .before .before .before .expression2 .ensures e) (c .before .before .third .given .1) (c .expression3 .ensures e)
 
 expression-expression-node-requires : (t : ℕ) → expression-lts.Need-expression-node-requires (expression-claims t) (expression-at t) expression.Post
 expression-expression-node-requires t c κs = search needs
@@ -112,28 +113,28 @@ expression-enum-known-kind : (t : ℕ) → expression-lts.Need-enum-known-kind (
 expression-enum-known-kind t c = search needs
 
 expression-sub-operands : (t : ℕ) → expression-lts.Need-sub-operands (expression-claims t) (expression-at t) expression.Post
-expression-sub-operands t c = expression-depth _ _ _ _ _ _ (c .before .before .before .expression-node .ensures) (c .before .kind .given .1)
+expression-sub-operands t c = node-depth _ (c .before .before .before .expression-node .ensures .1) (c .before .kind .given .1)
 
 expression-operands-requires : (t : ℕ) → expression-lts.Need-operands-requires (expression-claims t) (expression-at t) expression.Post
 expression-operands-requires t c κs = (omega (arith, (c .before .before .before .before .before .before .pre .0), expression-sub-operands t c), tt)
 
 expression-returns : (t : ℕ) → expression-lts.Need-returns (expression-claims t) (expression-at t) expression.Post
-expression-returns t c = expression-refused _ _ _ _ _ _ (c .before .before .before .expression-node .ensures) (c .before .number .given .1)
+expression-returns t c = λ e. expression-refused _ _ _ _ _ _ (c .before .before .before .expression-node .ensures .0 e) (c .before .number .given .1)
 
 expression-returns-2 : (t : ℕ) → expression-lts.Need-returns-2 (expression-claims t) (expression-at t) expression.Post
-expression-returns-2 t c = expression-operands _ _ _ _ _ _ (c .before .before .before .before .expression-node .ensures) (c .before .before .kind .given .1) (c .operands .ensures)
+expression-returns-2 t c = λ e. expression-operands _ _ _ _ _ _ (c .before .before .before .before .expression-node .ensures .0 e) (c .before .before .kind .given .1) (c .operands .ensures e)
 
 operands-row-of-requires : (t : ℕ) → operands-lts.Need-row-of-requires (operands-claims t) (operands-at t) operands.Post
 operands-row-of-requires t c κs = search needs
 
 operands-returns : (t : ℕ) → operands-lts.Need-returns (operands-claims t) (operands-at t) operands.Post
-operands-returns t c = λ p. no-operands _ _ _ _ _ p _ (c .before .row-of .ensures) (c .if1 .taken)
+operands-returns t c = λ e p. no-operands _ _ _ _ _ p _ (c .before .row-of .ensures e) (c .if1 .taken)
 
 operands-conditional-requires : (t : ℕ) → operands-lts.Need-conditional-requires (operands-claims t) (operands-at t) operands.Post
 operands-conditional-requires t c κs = (omega (arith, (c .before .before .before .before .before .pre .0)), tt)
 
 operands-returns-2 : (t : ℕ) → operands-lts.Need-returns-2 (operands-claims t) (operands-at t) operands.Post
-operands-returns-2 t c = λ p. conditional-operands _ _ _ _ _ p _ (c .before .before .before .row-of .ensures) (c .before .if2 .taken) ((c .conditional .ensures) (c .before .before .before .before .before .before .args .kind) p)
+operands-returns-2 t c = λ e p. conditional-operands _ _ _ _ _ p _ (c .before .before .before .row-of .ensures e) (c .before .if2 .taken) (c .conditional .ensures e (c .before .before .before .before .before .before .args .kind) p)
 
 operands-operand-sort-requires : (t : ℕ) → operands-lts.Need-operand-sort-requires (operands-claims t) (operands-at t) operands.Post
 operands-operand-sort-requires t c κs = search needs
@@ -151,13 +152,13 @@ operands-expression-requires-2 : (t : ℕ) → operands-lts.Need-expression-requ
 operands-expression-requires-2 t c κs = (omega (arith, (c .before .before .before .before .before .before .before .before .before .before .before .pre .0)), tt)
 
 operands-returns-3 : (t : ℕ) → operands-lts.Need-returns-3 (operands-claims t) (operands-at t) operands.Post
-operands-returns-3 t c = λ p. operand-refused _ _ _ _ _ p _ (c .before .before .before .before .before .before .before .row-of .ensures) (c .before .before .before .before .operand-sort .ensures) (c .before .before .before .expression .ensures) (c .before .before .before .before .before .before .if1 .left) (c .before .before .before .before .before .if2 .left) (c .before .number .given .1)
+operands-returns-3 t c = λ e p. operand-refused _ _ _ _ _ p _ (c .before .before .before .before .before .before .before .row-of .ensures e) (c .before .before .before .before .operand-sort .ensures) (c .before .before .before .expression .ensures e) (c .before .before .before .before .before .before .if1 .left) (c .before .before .before .before .before .if2 .left) (c .before .number .given .1)
 
 operands-returns-4 : (t : ℕ) → operands-lts.Need-returns-4 (operands-claims t) (operands-at t) operands.Post
-operands-returns-4 t c = λ p. one-operand _ _ _ _ _ p _ (c .before .before .before .before .before .before .before .before .row-of .ensures) (c .before .before .before .before .before .operand-sort .ensures) (c .before .before .before .before .expression .ensures) (c .before .before .second .given .1) (c .if3 .taken)
+operands-returns-4 t c = λ e p. one-operand _ _ _ _ _ p _ (c .before .before .before .before .before .before .before .before .row-of .ensures e) (c .before .before .before .before .before .operand-sort .ensures) (c .before .before .before .before .expression .ensures e) (c .before .before .second .given .1) (c .if3 .taken)
 
 operands-returns-5 : (t : ℕ) → operands-lts.Need-returns-5 (operands-claims t) (operands-at t) operands.Post
-operands-returns-5 t c = λ p. two-operands _ _ _ _ _ p _ (c .before .before .before .before .before .before .before .before .before .row-of .ensures) (c .before .before .before .before .before .before .operand-sort .ensures) (c .before .before .before .before .before .expression .ensures) (c .before .before .before .second .given .1) (c .before .before .before .before .before .before .before .before .if1 .left) (c .before .before .before .before .before .before .before .if2 .left) (c .before .if3 .left) (c .expression2 .ensures)
+operands-returns-5 t c = λ e p. two-operands _ _ _ _ _ p _ (c .before .before .before .before .before .before .before .before .before .row-of .ensures e) (c .before .before .before .before .before .before .operand-sort .ensures) (c .before .before .before .before .before .expression .ensures e) (c .before .before .before .second .given .1) (c .before .before .before .before .before .before .before .before .if1 .left) (c .before .before .before .before .before .before .before .if2 .left) (c .before .if3 .left) (c .expression2 .ensures e)
 
 pub +conditional+expression+operands-spec : {M : Type 1} → statement M
 +conditional+expression+operands-spec =

@@ -1,0 +1,29 @@
+// Start, fire and undo as far as the values go, marks and value: on a model file.
+
+pub mod inspect; // inspect.rt: marks and value
+pub mod moves; // moves.rt: start, fire and undo
+mod standing; // standing.rt: does a run hold
+
+use model::Sizes;
+
+// What a call answers: the number of a refusal, the round count, that it was done, a value, the five sizes.
+pub enum Answer {
+    Refused(u8),
+    Rounds(usize),
+    Done,
+    Number(i32),
+    Sizes(Sizes),
+}
+
+// What is done with the values of a run.
+pub enum Move {
+    Start,
+    Fire(usize),
+    Undo,
+}
+
+// What is looked at.
+pub enum Look {
+    Marks,
+    Value(usize),
+}
