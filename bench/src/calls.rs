@@ -1,0 +1,241 @@
+//! The calls as one table, over one set of all that is lent.
+
+use crate::guarded::Guarded;
+
+/// An implementation: the seven C calls with slices for pointers and lengths. Each answers 0 and its results, or
+/// a refusal number and leaves everything lent as it was.
+pub struct Engine {
+    pub name: &'static str,
+    pub check: fn(model: &[u8], sizes: &mut [u32]) -> u8,
+    pub start: fn(model: &[u8], values: &mut [i32], n: &mut usize, rounds: &mut usize) -> u8,
+    pub fire: Fire,
+    pub undo: fn(model: &[u8], values: &mut [i32], history: &[u8], n: &mut usize) -> u8,
+    pub marks: Marks,
+    pub value: Value,
+    pub pick: Pick,
+}
+
+pub type Fire = fn(
+    model: &[u8],
+    values: &mut [i32],
+    history: &mut [u8],
+    n: &mut usize,
+    transition: usize,
+    rounds: &mut usize,
+) -> u8;
+
+pub type Marks = fn(model: &[u8], values: &[i32], history: &[u8], n: usize, marks: &mut [u8]) -> u8;
+
+pub type Value = fn(
+    model: &[u8],
+    values: &[i32],
+    history: &[u8],
+    n: usize,
+    variable: usize,
+    value: &mut i32,
+) -> u8;
+
+pub type Pick = fn(
+    model: &[u8],
+    values: &[i32],
+    history: &[u8],
+    n: usize,
+    transition: &mut usize,
+    found: &mut u8,
+) -> u8;
+
+/// All that is lent beside the model, results included, each between guard cells.
+#[derive(Clone, PartialEq)]
+pub struct Store {
+    pub values: Guarded<i32>,
+    pub history: Guarded<u8>,
+    pub n: Guarded<usize>,
+    pub marks: Guarded<u8>,
+    pub sizes: Guarded<u32>,
+    pub rounds: Guarded<usize>,
+    pub value: Guarded<i32>,
+    pub transition: Guarded<usize>,
+    pub found: Guarded<u8>,
+}
+
+impl Store {
+    /// A store whose results are still as given here.
+    pub fn new(values: &[i32], history: &[u8], n: usize, marks: &[u8]) -> Self {
+        Store {
+            values: Guarded::new(values),
+            history: Guarded::new(history),
+            n: Guarded::new(&[n]),
+            marks: Guarded::new(marks),
+            sizes: Guarded::new(&[0; 5]),
+            rounds: Guarded::new(&[0]),
+            value: Guarded::new(&[0]),
+            transition: Guarded::new(&[0]),
+            found: Guarded::new(&[0]),
+        }
+    }
+
+    pub fn intact(&self) -> bool {
+        self.values.intact()
+            && self.history.intact()
+            && self.n.intact()
+            && self.marks.intact()
+            && self.sizes.intact()
+            && self.rounds.intact()
+            && self.value.intact()
+            && self.transition.intact()
+            && self.found.intact()
+    }
+
+    /// The parts in which two stores differ, in words.
+    pub fn differences(&self, other: &Store) -> Vec<String> {
+        fn part<T: crate::guarded::Cell + std::fmt::Debug>(
+            name: &str,
+            one: &Guarded<T>,
+            two: &Guarded<T>,
+        ) -> Option<String> {
+            (one != two).then(|| format!("{name}: {:?} / {:?}", one.cells(), two.cells()))
+        }
+        [
+            part("values", &self.values, &other.values),
+            part("history", &self.history, &other.history),
+            part("n", &self.n, &other.n),
+            part("marks", &self.marks, &other.marks),
+            part("sizes", &self.sizes, &other.sizes),
+            part("rounds", &self.rounds, &other.rounds),
+            part("value", &self.value, &other.value),
+            part("transition", &self.transition, &other.transition),
+            part("found", &self.found, &other.found),
+        ]
+        .into_iter()
+        .flatten()
+        .collect()
+    }
+}
+
+/// The number that a call takes beside what is lent.
+#[derive(Clone, Copy, Debug, PartialEq, Eq)]
+pub enum Number {
+    None,
+    Transition,
+    Variable,
+}
+
+/// A row of the table of calls.
+pub struct Row {
+    pub name: &'static str,
+    pub number: Number,
+    pub perform: fn(engine: &Engine, model: &[u8], store: &mut Store, number: usize) -> u8,
+}
+
+/// The rows' places in the table.
+pub const CHECK: usize = 0;
+pub const START: usize = 1;
+pub const FIRE: usize = 2;
+pub const UNDO: usize = 3;
+pub const MARKS: usize = 4;
+pub const VALUE: usize = 5;
+pub const PICK: usize = 6;
+
+pub const TABLE: [Row; 7] = [
+    Row {
+        name: "check",
+        number: Number::None,
+        perform: |engine, model, s, _| (engine.check)(model, s.sizes.cells_mut()),
+    },
+    Row {
+        name: "start",
+        number: Number::None,
+        perform: |engine, model, s, _| {
+            (engine.start)(
+                model,
+                s.values.cells_mut(),
+                s.n.get_mut(),
+                s.rounds.get_mut(),
+            )
+        },
+    },
+    Row {
+        name: "fire",
+        number: Number::Transition,
+        perform: |engine, model, s, transition| {
+            (engine.fire)(
+                model,
+                s.values.cells_mut(),
+                s.history.cells_mut(),
+                s.n.get_mut(),
+                transition,
+                s.rounds.get_mut(),
+            )
+        },
+    },
+    Row {
+        name: "undo",
+        number: Number::None,
+        perform: |engine, model, s, _| {
+            (engine.undo)(
+                model,
+                s.values.cells_mut(),
+                s.history.cells(),
+                s.n.get_mut(),
+            )
+        },
+    },
+    Row {
+        name: "marks",
+        number: Number::None,
+        perform: |engine, model, s, _| {
+            (engine.marks)(
+                model,
+                s.values.cells(),
+                s.history.cells(),
+                s.n.get(),
+                s.marks.cells_mut(),
+            )
+        },
+    },
+    Row {
+        name: "value",
+        number: Number::Variable,
+        perform: |engine, model, s, variable| {
+            (engine.value)(
+                model,
+                s.values.cells(),
+                s.history.cells(),
+                s.n.get(),
+                variable,
+                s.value.get_mut(),
+            )
+        },
+    },
+    Row {
+        name: "pick",
+        number: Number::None,
+        perform: |engine, model, s, _| {
+            (engine.pick)(
+                model,
+                s.values.cells(),
+                s.history.cells(),
+                s.n.get(),
+                s.transition.get_mut(),
+                s.found.get_mut(),
+            )
+        },
+    },
+];
+
+/// One call of a list: a row of the table and its number.
+#[derive(Clone, Copy, Debug, PartialEq, Eq)]
+pub struct Call {
+    pub row: usize,
+    pub number: usize,
+}
+
+impl Call {
+    pub fn perform(self, engine: &Engine, model: &[u8], store: &mut Store) -> u8 {
+        (TABLE[self.row].perform)(engine, model, store, self.number)
+    }
+
+    pub fn name(self) -> &'static str {
+        TABLE[self.row].name
+    }
+}

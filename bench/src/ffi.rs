@@ -1,0 +1,198 @@
+//! The C calls of libcapi.a, and safe wrappers that take slices.
+
+use crate::calls::Engine;
+
+extern "C" {
+    fn gts_check(model: *const u8, len: usize, sizes: *mut u32, sizes_len: usize) -> u8;
+    fn gts_start(
+        model: *const u8,
+        len: usize,
+        values: *mut i32,
+        values_len: usize,
+        n: *mut usize,
+        rounds: *mut usize,
+    ) -> u8;
+    fn gts_fire(
+        model: *const u8,
+        len: usize,
+        values: *mut i32,
+        values_len: usize,
+        history: *mut u8,
+        history_len: usize,
+        n: *mut usize,
+        transition: usize,
+        rounds: *mut usize,
+    ) -> u8;
+    fn gts_undo(
+        model: *const u8,
+        len: usize,
+        values: *mut i32,
+        values_len: usize,
+        history: *const u8,
+        history_len: usize,
+        n: *mut usize,
+    ) -> u8;
+    fn gts_marks(
+        model: *const u8,
+        len: usize,
+        values: *const i32,
+        values_len: usize,
+        history: *const u8,
+        history_len: usize,
+        n: usize,
+        marks: *mut u8,
+        marks_len: usize,
+    ) -> u8;
+    fn gts_value(
+        model: *const u8,
+        len: usize,
+        values: *const i32,
+        values_len: usize,
+        history: *const u8,
+        history_len: usize,
+        n: usize,
+        variable: usize,
+        value: *mut i32,
+    ) -> u8;
+    fn gts_pick(
+        model: *const u8,
+        len: usize,
+        values: *const i32,
+        values_len: usize,
+        history: *const u8,
+        history_len: usize,
+        n: usize,
+        transition: *mut usize,
+        found: *mut u8,
+    ) -> u8;
+}
+
+/// The library in the form of the calls' table.
+pub const LIBRARY: Engine = Engine {
+    name: "Rattle",
+    check,
+    start,
+    fire,
+    undo,
+    marks,
+    value,
+    pick,
+};
+
+// In each wrapper the pointers and lengths are those of slices and references that are lent for the call alone.
+
+pub fn check(model: &[u8], sizes: &mut [u32]) -> u8 {
+    unsafe { gts_check(model.as_ptr(), model.len(), sizes.as_mut_ptr(), sizes.len()) }
+}
+
+pub fn start(model: &[u8], values: &mut [i32], n: &mut usize, rounds: &mut usize) -> u8 {
+    unsafe {
+        gts_start(
+            model.as_ptr(),
+            model.len(),
+            values.as_mut_ptr(),
+            values.len(),
+            n,
+            rounds,
+        )
+    }
+}
+
+pub fn fire(
+    model: &[u8],
+    values: &mut [i32],
+    history: &mut [u8],
+    n: &mut usize,
+    transition: usize,
+    rounds: &mut usize,
+) -> u8 {
+    unsafe {
+        gts_fire(
+            model.as_ptr(),
+            model.len(),
+            values.as_mut_ptr(),
+            values.len(),
+            history.as_mut_ptr(),
+            history.len(),
+            n,
+            transition,
+            rounds,
+        )
+    }
+}
+
+pub fn undo(model: &[u8], values: &mut [i32], history: &[u8], n: &mut usize) -> u8 {
+    unsafe {
+        gts_undo(
+            model.as_ptr(),
+            model.len(),
+            values.as_mut_ptr(),
+            values.len(),
+            history.as_ptr(),
+            history.len(),
+            n,
+        )
+    }
+}
+
+pub fn marks(model: &[u8], values: &[i32], history: &[u8], n: usize, marks: &mut [u8]) -> u8 {
+    unsafe {
+        gts_marks(
+            model.as_ptr(),
+            model.len(),
+            values.as_ptr(),
+            values.len(),
+            history.as_ptr(),
+            history.len(),
+            n,
+            marks.as_mut_ptr(),
+            marks.len(),
+        )
+    }
+}
+
+pub fn value(
+    model: &[u8],
+    values: &[i32],
+    history: &[u8],
+    n: usize,
+    variable: usize,
+    value: &mut i32,
+) -> u8 {
+    unsafe {
+        gts_value(
+            model.as_ptr(),
+            model.len(),
+            values.as_ptr(),
+            values.len(),
+            history.as_ptr(),
+            history.len(),
+            n,
+            variable,
+            value,
+        )
+    }
+}
+
+pub fn pick(
+    model: &[u8],
+    values: &[i32],
+    history: &[u8],
+    n: usize,
+    transition: &mut usize,
+    found: &mut u8,
+) -> u8 {
+    unsafe {
+        gts_pick(
+            model.as_ptr(),
+            model.len(),
+            values.as_ptr(),
+            values.len(),
+            history.as_ptr(),
+            history.len(),
+            n,
+            transition,
+            found,
+        )
+    }
+}

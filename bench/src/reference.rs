@@ -1,0 +1,62 @@
+//! Guarded transition systems: a model file is parsed into a tree, and the calls work on that tree.
+
+mod evaluation;
+mod instructions;
+mod model;
+mod refusal;
+mod run;
+
+pub use model::{Limits, Model, Sizes, Type};
+pub use refusal::Refusal;
+pub use run::{check, check_expression, fire, marks, pick, start, undo, value};
+
+use crate::calls::Engine;
+
+/// This implementation in the form of the C calls: answer 0 and the results, or the refusal number alone.
+pub const ENGINE: Engine = Engine {
+    name: "Rust",
+    check: |model, sizes| {
+        answer(check(model), |found| {
+            let cells = sizes.get_mut(..5).ok_or(Refusal::ShortMarks)?;
+            cells.copy_from_slice(&found.to_array());
+            Ok(())
+        })
+    },
+    start: |model, values, n, rounds| {
+        answer(start(model, values, n), |count| {
+            *rounds = count;
+            Ok(())
+        })
+    },
+    fire: |model, values, history, n, transition, rounds| {
+        answer(fire(model, values, history, n, transition), |count| {
+            *rounds = count;
+            Ok(())
+        })
+    },
+    undo: |model, values, history, n| answer(undo(model, values, history, n), Ok),
+    marks: |model, values, history, n, cells| answer(marks(model, values, history, n, cells), Ok),
+    value: |model, values, history, n, variable, cell| {
+        answer(value(model, values, history, n, variable), |found| {
+            *cell = found;
+            Ok(())
+        })
+    },
+    pick: |model, values, history, n, transition, found| {
+        answer(pick(model, values, history, n), |picked| {
+            *found = u8::from(picked.is_some());
+            if let Some(lowest) = picked {
+                *transition = lowest;
+            }
+            Ok(())
+        })
+    },
+};
+
+/// The C calls' answer: 0 once the results are written, or the refusal's number.
+fn answer<T>(result: Result<T, Refusal>, write: impl FnOnce(T) -> Result<(), Refusal>) -> u8 {
+    match result.and_then(write) {
+        Ok(()) => 0,
+        Err(refusal) => refusal.number(),
+    }
+}

@@ -1,0 +1,163 @@
+//! The calls. Each takes the model file's bytes; a refusal leaves everything that was lent as it was.
+
+use super::evaluation::Evaluation;
+use super::model::{Model, Sizes, Type};
+use super::Refusal;
+
+/// The five sizes of an accepted model.
+pub fn check(file: &[u8]) -> Result<Sizes, Refusal> {
+    Model::parse(file).map(|model| model.sizes)
+}
+
+/// Checks a model, then an expression handed beside it.
+pub fn check_expression(
+    file: &[u8],
+    kinds: &[u8],
+    parameters: &[i32],
+    wanted: Type,
+) -> Result<(), Refusal> {
+    Model::parse(file)?.check_expression(kinds, parameters, wanted)
+}
+
+/// Starts a run; gives the round count.
+pub fn start(file: &[u8], values: &mut [i32], n: &mut usize) -> Result<usize, Refusal> {
+    let model = Model::parse(file)?;
+    let cells = model.cells_mut(values)?;
+    let (initial, rounds) = model.initial()?;
+    cells.copy_from_slice(&initial);
+    *n = 0;
+    Ok(rounds)
+}
+
+/// Fires a transition and records it; gives the round count.
+pub fn fire(
+    file: &[u8],
+    values: &mut [i32],
+    history: &mut [u8],
+    n: &mut usize,
+    transition: usize,
+) -> Result<usize, Refusal> {
+    let model = Model::parse(file)?;
+    let cells = model.cells_mut(values)?;
+    if transition >= model.sizes.transitions {
+        return Err(Refusal::NoSuchTransition);
+    }
+    model.consistent(cells, history, *n)?;
+    let place = history.get_mut(*n).ok_or(Refusal::HistoryFull)?;
+    let rounds = model.step(cells, transition)?;
+    *place = transition as u8;
+    *n += 1;
+    Ok(rounds)
+}
+
+/// Takes the last step back: the values become those of the start and the other steps fired again.
+pub fn undo(file: &[u8], values: &mut [i32], history: &[u8], n: &mut usize) -> Result<(), Refusal> {
+    let model = Model::parse(file)?;
+    let cells = model.cells_mut(values)?;
+    let steps = model.consistent(cells, history, *n)?;
+    let (_, earlier) = steps.split_last().ok_or(Refusal::NothingToUndo)?;
+    let replayed = model.replay(earlier).map_err(|_| Refusal::ReplayRefused)?;
+    cells.copy_from_slice(&replayed);
+    *n -= 1;
+    Ok(())
+}
+
+/// Writes a mark for each transition: 1 its guard is true, 0 false, 2 failed.
+pub fn marks(
+    file: &[u8],
+    values: &[i32],
+    history: &[u8],
+    n: usize,
+    marks: &mut [u8],
+) -> Result<(), Refusal> {
+    let model = Model::parse(file)?;
+    let cells = model.cells(values)?;
+    let marks = marks
+        .get_mut(..model.sizes.transitions)
+        .ok_or(Refusal::ShortMarks)?;
+    model.consistent(cells, history, n)?;
+    for (mark, transition) in marks.iter_mut().zip(&model.transitions) {
+        *mark = match model.evaluate(transition.guard, cells) {
+            Evaluation::Value(value) => u8::from(value == 1),
+            _ => 2,
+        };
+    }
+    Ok(())
+}
+
+/// The value of a variable.
+pub fn value(
+    file: &[u8],
+    values: &[i32],
+    history: &[u8],
+    n: usize,
+    variable: usize,
+) -> Result<i32, Refusal> {
+    let model = Model::parse(file)?;
+    let cells = model.cells(values)?;
+    let &found = cells.get(variable).ok_or(Refusal::NoSuchVariable)?;
+    model.consistent(cells, history, n)?;
+    Ok(found)
+}
+
+/// The lowest transition whose guard is true.
+pub fn pick(
+    file: &[u8],
+    values: &[i32],
+    history: &[u8],
+    n: usize,
+) -> Result<Option<usize>, Refusal> {
+    let model = Model::parse(file)?;
+    let cells = model.cells(values)?;
+    model.consistent(cells, history, n)?;
+    Ok(model
+        .transitions
+        .iter()
+        .position(|transition| model.evaluate(transition.guard, cells) == Evaluation::Value(1)))
+}
+
+impl Model {
+    /// The cells of a values slice that are in use.
+    fn cells<'v>(&self, values: &'v [i32]) -> Result<&'v [i32], Refusal> {
+        values
+            .get(..self.variables.len())
+            .ok_or(Refusal::ShortValues)
+    }
+
+    fn cells_mut<'v>(&self, values: &'v mut [i32]) -> Result<&'v mut [i32], Refusal> {
+        values
+            .get_mut(..self.variables.len())
+            .ok_or(Refusal::ShortValues)
+    }
+
+    /// The recorded steps, if these and the values can be those of a run.
+    fn consistent<'h>(
+        &self,
+        cells: &[i32],
+        history: &'h [u8],
+        n: usize,
+    ) -> Result<&'h [u8], Refusal> {
+        let steps = history.get(..n).ok_or(Refusal::InconsistentRun)?;
+        let fired = steps
+            .iter()
+            .all(|&step| usize::from(step) < self.sizes.transitions);
+        let within = self
+            .variables
+            .iter()
+            .zip(cells)
+            .all(|(variable, &cell)| variable.admits(cell));
+        if !(fired && within) {
+            return Err(Refusal::InconsistentRun);
+        }
+        Ok(steps)
+    }
+
+    /// The values after a start and these steps.
+    fn replay(&self, steps: &[u8]) -> Result<Vec<i32>, Refusal> {
+        let (mut values, _) = self.initial()?;
+        for &step in steps {
+            self.step(&mut values, usize::from(step))?;
+        }
+        Ok(values)
+    }
+}

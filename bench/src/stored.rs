@@ -1,0 +1,283 @@
+//! The stored cases under cases/: checks.txt, calls.txt, programs.txt. Each line is a word and decimal numbers.
+
+use std::iter::Peekable;
+use std::path::Path;
+use std::str::Lines;
+
+use crate::calls::{Call, Store, TABLE};
+use crate::reference::Type;
+
+/// A model, and what its check must answer; and expressions handed beside it.
+pub struct CheckCase {
+    pub model: Vec<u8>,
+    pub want: Result<[u32; 5], u8>,
+    pub expressions: Vec<ExpressionCase>,
+}
+
+pub struct ExpressionCase {
+    pub kinds: Vec<u8>,
+    pub parameters: Vec<i32>,
+    pub wanted: Type,
+    pub want: u8,
+}
+
+/// A list of calls: the same for the model and for its shuffled twin.
+pub struct ListCase {
+    pub model: Vec<u8>,
+    pub twin: Vec<u8>,
+    pub lent: Lent,
+    pub calls: Vec<CallCase>,
+}
+
+/// What is lent to a list of calls.
+#[derive(Clone, PartialEq, Debug)]
+pub struct Lent {
+    pub values: Vec<i32>,
+    pub history: Vec<u8>,
+    pub n: usize,
+    pub marks: Vec<u8>,
+}
+
+impl Lent {
+    pub fn store(&self) -> Store {
+        Store::new(&self.values, &self.history, self.n, &self.marks)
+    }
+
+    pub fn of(store: &Store) -> Self {
+        Lent {
+            values: store.values.cells().to_vec(),
+            history: store.history.cells().to_vec(),
+            n: store.n.get(),
+            marks: store.marks.cells().to_vec(),
+        }
+    }
+}
+
+pub struct CallCase {
+    pub call: Call,
+    pub want: Want,
+    /// What is lent afterwards, where it has changed.
+    pub after: Option<Lent>,
+}
+
+pub enum Want {
+    Rounds(usize),
+    Done,
+    Sizes([u32; 5]),
+    Value(i32),
+    /// The transitions that may be picked, lowest first.
+    Pick(Vec<usize>),
+    Refused(u8),
+}
+
+impl Want {
+    /// Whether this answer and these results are the wanted ones; of the transitions the lowest is wanted.
+    pub fn holds(&self, answer: u8, store: &Store) -> bool {
+        match self {
+            Want::Refused(number) => answer == *number,
+            _ if answer != 0 => false,
+            Want::Rounds(rounds) => store.rounds.get() == *rounds,
+            Want::Done => true,
+            Want::Sizes(sizes) => store.sizes.cells() == sizes,
+            Want::Value(value) => store.value.get() == *value,
+            Want::Pick(transitions) => match transitions.first() {
+                Some(&lowest) => store.found.get() == 1 && store.transition.get() == lowest,
+                None => store.found.get() == 0,
+            },
+        }
+    }
+}
+
+pub struct ProgramCase {
+    pub model: Vec<u8>,
+    pub input: Vec<u8>,
+    pub output: Vec<u8>,
+}
+
+/// A file of the folder cases/.
+pub fn text(name: &str) -> String {
+    let path = Path::new(env!("CARGO_MANIFEST_DIR"))
+        .join("cases")
+        .join(name);
+    std::fs::read_to_string(&path).unwrap_or_else(|error| panic!("{}: {error}", path.display()))
+}
+
+struct Source<'a> {
+    lines: Peekable<Lines<'a>>,
+}
+
+impl<'a> Source<'a> {
+    fn new(text: &'a str) -> Self {
+        Source {
+            lines: text.lines().peekable(),
+        }
+    }
+
+    fn ended(&mut self) -> bool {
+        self.lines.peek().is_none()
+    }
+
+    /// Whether the next line begins with this word.
+    fn sees(&mut self, word: &str) -> bool {
+        self.lines
+            .peek()
+            .is_some_and(|line| line.split(' ').next() == Some(word))
+    }
+
+    /// The words of the next line after its first, which is `word`.
+    fn words(&mut self, word: &str) -> std::str::Split<'a, char> {
+        let line = self.lines.next().expect("a stored case ends too early");
+        let mut words = line.split(' ');
+        assert_eq!(words.next(), Some(word), "in the stored line: {line}");
+        words
+    }
+
+    /// A line with a length and that many numbers.
+    fn list<T: std::str::FromStr>(&mut self, word: &str) -> Vec<T> {
+        let mut words = self.words(word);
+        let length: usize = number(words.next());
+        let entries: Vec<T> = words.map(|word| number(Some(word))).collect();
+        assert_eq!(entries.len(), length, "a stored list has another length");
+        entries
+    }
+
+    fn lent(&mut self) -> Lent {
+        Lent {
+            values: self.list("values"),
+            history: self.list("record"),
+            n: number(self.words("n").next()),
+            marks: self.list("marks"),
+        }
+    }
+}
+
+fn number<T: std::str::FromStr>(word: Option<&str>) -> T {
+    word.and_then(|word| word.parse().ok())
+        .unwrap_or_else(|| panic!("no number in a stored case: {word:?}"))
+}
+
+fn sizes<'a>(words: impl Iterator<Item = &'a str>) -> [u32; 5] {
+    let sizes: Vec<u32> = words.map(|word| number(Some(word))).collect();
+    sizes.try_into().expect("five sizes")
+}
+
+pub fn checks(text: &str) -> Vec<CheckCase> {
+    let mut source = Source::new(text);
+    let mut cases = Vec::new();
+    while !source.ended() {
+        let model = source.list("model");
+        let mut words = source.words("want");
+        let want = match words.next() {
+            Some("sizes") => Ok(sizes(words)),
+            Some("no") => Err(number(words.next())),
+            other => panic!("what a check wants: {other:?}"),
+        };
+        let mut expressions = Vec::new();
+        while source.sees("kinds") {
+            expressions.push(expression(&mut source));
+        }
+        cases.push(CheckCase {
+            model,
+            want,
+            expressions,
+        });
+    }
+    cases
+}
+
+fn expression(source: &mut Source) -> ExpressionCase {
+    let kinds = source.list("kinds");
+    let parameters = source.list("params");
+    let wanted = match source.words("wanted").next() {
+        Some("boolean") => Type::Boolean,
+        Some("number") => Type::Number,
+        other => panic!("a type: {other:?}"),
+    };
+    let mut words = source.words("want");
+    let want = match words.next() {
+        Some("ok") => 0,
+        Some("no") => number(words.next()),
+        other => panic!("what an expression's check wants: {other:?}"),
+    };
+    ExpressionCase {
+        kinds,
+        parameters,
+        wanted,
+        want,
+    }
+}
+
+pub fn lists(text: &str) -> Vec<ListCase> {
+    let mut source = Source::new(text);
+    let mut cases = Vec::new();
+    while !source.ended() {
+        let model = source.list("model");
+        let twin = source.list("twin");
+        let lent = source.lent();
+        let mut calls = Vec::new();
+        while source.sees("call") {
+            calls.push(call(&mut source));
+        }
+        source.words("end");
+        cases.push(ListCase {
+            model,
+            twin,
+            lent,
+            calls,
+        });
+    }
+    cases
+}
+
+fn call(source: &mut Source) -> CallCase {
+    let mut words = source.words("call");
+    let name = match words.next() {
+        Some("back") => "undo",
+        Some(name) => name,
+        None => panic!("a call without a name"),
+    };
+    let row = TABLE
+        .iter()
+        .position(|row| row.name == name)
+        .unwrap_or_else(|| panic!("no such call: {name}"));
+    let number = words.next().map_or(0, |word| number(Some(word)));
+    let want = want(source);
+    let after = if source.sees("same") {
+        source.words("same");
+        None
+    } else {
+        Some(source.lent())
+    };
+    CallCase {
+        call: Call { row, number },
+        want,
+        after,
+    }
+}
+
+fn want(source: &mut Source) -> Want {
+    let mut words = source.words("want");
+    match words.next() {
+        Some("ok") => Want::Rounds(number(words.next())),
+        Some("done") => Want::Done,
+        Some("sizes") => Want::Sizes(sizes(words)),
+        Some("value") => Want::Value(number(words.next())),
+        Some("pick") => Want::Pick(words.skip(1).map(|word| number(Some(word))).collect()),
+        Some("none") => Want::Pick(Vec::new()),
+        Some("no") => Want::Refused(number(words.next())),
+        other => panic!("what a call wants: {other:?}"),
+    }
+}
+
+pub fn programs(text: &str) -> Vec<ProgramCase> {
+    let mut source = Source::new(text);
+    let mut cases = Vec::new();
+    while !source.ended() {
+        cases.push(ProgramCase {
+            model: source.list("model"),
+            input: source.list("input"),
+            output: source.list("output"),
+        });
+    }
+    cases
+}

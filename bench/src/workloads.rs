@@ -1,0 +1,431 @@
+//! The models and call sequences that are timed.
+
+use crate::calls::Engine;
+use crate::reference;
+use crate::tree::{Expr, Instr, Model, Operator, Transition, Variable};
+
+/// The stored example of a counter.
+pub const COUNTER: &[u8] = include_bytes!("../../examples/counter/model.gts");
+
+/// Transitions of the counter that can be fired again and again: three articles scanned, then sold.
+pub const COUNTER_STEPS: [usize; 4] = [0, 0, 0, 13];
+
+/// The steps of a long run.
+pub const STEPS: usize = 200;
+
+/// Some calls on one model; both implementations get the same.
+pub struct Workload {
+    pub name: String,
+    pub model: Vec<u8>,
+    pub work: Work,
+}
+
+pub enum Work {
+    Check,
+    Start,
+    /// Start, and then so many fires, taking these transitions in turn.
+    Run(Vec<usize>, usize),
+    /// Take back the last step of a run of so many steps.
+    Undo(Vec<usize>, usize),
+    Marks,
+}
+
+/// A workload with its buffers, to be carried out many times.
+pub struct Prepared<'w> {
+    workload: &'w Workload,
+    /// The run that undo and marks start from.
+    run: Run,
+}
+
+#[derive(Clone)]
+struct Run {
+    values: Vec<i32>,
+    history: Vec<u8>,
+    n: usize,
+    marks: Vec<u8>,
+}
+
+impl Run {
+    /// Start and fires; gives the sum of the round counts.
+    fn perform(&mut self, engine: &Engine, model: &[u8], steps: &[usize], count: usize) -> usize {
+        let mut rounds = 0;
+        let answer = (engine.start)(model, &mut self.values, &mut self.n, &mut rounds);
+        assert_eq!(answer, 0, "{} refuses a start", engine.name);
+        let mut sum = rounds;
+        for &step in steps.iter().cycle().take(count) {
+            let answer = (engine.fire)(
+                model,
+                &mut self.values,
+                &mut self.history,
+                &mut self.n,
+                step,
+                &mut rounds,
+            );
+            assert_eq!(answer, 0, "{} refuses a fire", engine.name);
+            sum += rounds;
+        }
+        sum
+    }
+}
+
+impl Workload {
+    fn new(name: impl Into<String>, model: Vec<u8>, work: Work) -> Self {
+        Workload {
+            name: name.into(),
+            model,
+            work,
+        }
+    }
+
+    pub fn prepare(&self) -> Prepared<'_> {
+        let sizes = reference::check(&self.model).expect("a well-formed model");
+        let mut run = Run {
+            values: vec![0; sizes.variables()],
+            history: vec![0; STEPS],
+            n: 0,
+            marks: vec![0; sizes.transitions],
+        };
+        match &self.work {
+            Work::Undo(steps, count) => {
+                run.perform(&reference::ENGINE, &self.model, steps, *count);
+            }
+            _ => {
+                run.perform(&reference::ENGINE, &self.model, &[], 0);
+            }
+        }
+        Prepared {
+            workload: self,
+            run,
+        }
+    }
+}
+
+impl Prepared<'_> {
+    /// Carries the workload out once; gives a sum over the results, the same for every implementation.
+    pub fn perform(&mut self, engine: &Engine) -> u64 {
+        let Workload { model, work, .. } = self.workload;
+        let run = &mut self.run;
+        match work {
+            Work::Check => {
+                let mut sizes = [0; 5];
+                assert_eq!((engine.check)(model, &mut sizes), 0);
+                sizes.iter().map(|&size| u64::from(size)).sum()
+            }
+            Work::Start => run.perform(engine, model, &[], 0) as u64,
+            Work::Run(steps, count) => {
+                let rounds = run.perform(engine, model, steps, *count) as u64;
+                rounds + sum(&run.values)
+            }
+            Work::Undo(..) => {
+                let n = run.n;
+                let answer = (engine.undo)(model, &mut run.values, &run.history, &mut run.n);
+                assert_eq!((answer, run.n), (0, n - 1));
+                // The history still holds the step: the run's length is all that must be put back.
+                run.n = n;
+                sum(&run.values)
+            }
+            Work::Marks => {
+                let marks = &mut run.marks;
+                assert_eq!(
+                    (engine.marks)(model, &run.values, &run.history, run.n, marks),
+                    0
+                );
+                marks.iter().map(|&mark| u64::from(mark)).sum()
+            }
+        }
+    }
+}
+
+fn sum(values: &[i32]) -> u64 {
+    values
+        .iter()
+        .fold(0, |sum: u64, &value| sum.wrapping_add(value as u64))
+}
+
+/// The workloads of the ratio table.
+pub fn all() -> Vec<Workload> {
+    let counter = || COUNTER.to_vec();
+    let steps = COUNTER_STEPS.to_vec();
+    let large_steps: Vec<usize> = (0..20).collect();
+    let large_model = || large(4_000).encode();
+    let counter_nodes = COUNTER.len() / 5 - 1;
+    vec![
+        Workload::new("check, 4,000 nodes", large_model(), Work::Check),
+        Workload::new(
+            format!("counter of {counter_nodes} nodes, start and 200 fires"),
+            counter(),
+            Work::Run(steps.clone(), STEPS),
+        ),
+        Workload::new(
+            "4,000 nodes, 4 rounds, start and 200 fires",
+            large_model(),
+            Work::Run(large_steps.clone(), STEPS),
+        ),
+        Workload::new(
+            "chain of 255 flows in reverse, 256 rounds, start",
+            chain(255, 0).encode(),
+            Work::Start,
+        ),
+        Workload::new(
+            "counter, undo at n = 200",
+            counter(),
+            Work::Undo(steps, STEPS),
+        ),
+        Workload::new(
+            "4,000 nodes, undo at n = 200",
+            large_model(),
+            Work::Undo(large_steps, STEPS),
+        ),
+        Workload::new("marks, 255 transitions", guards().encode(), Work::Marks),
+        Workload::new(
+            "deep inactive branches, 4,000 nodes, start and 200 fires",
+            inactive(4_000).encode(),
+            Work::Run(vec![0], STEPS),
+        ),
+    ]
+}
+
+/// A list of workloads of growing size, by what grows.
+pub fn growing() -> Vec<(&'static str, Vec<Workload>)> {
+    let sizes = [500, 1_000, 2_000, 4_000];
+    let check = sizes.map(|nodes| {
+        Workload::new(
+            format!("check, {nodes} nodes"),
+            large(nodes).encode(),
+            Work::Check,
+        )
+    });
+    let start = sizes.map(|nodes| {
+        Workload::new(
+            format!("start, {nodes} nodes"),
+            large(nodes).encode(),
+            Work::Start,
+        )
+    });
+    let rounds = [31, 63, 127, 255].map(|flows| {
+        Workload::new(
+            format!("start, 2,000 nodes, {} rounds", flows + 1),
+            chain(flows, 2_000).encode(),
+            Work::Start,
+        )
+    });
+    let steps = [25, 50, 100, 200].map(|n| {
+        Workload::new(
+            format!("counter, undo at n = {n}"),
+            COUNTER.to_vec(),
+            Work::Undo(COUNTER_STEPS.to_vec(), n),
+        )
+    });
+    vec![
+        ("nodes", check.into()),
+        ("nodes", start.into()),
+        ("rounds", rounds.into()),
+        ("steps", steps.into()),
+    ]
+}
+
+fn number(value: i32) -> Expr {
+    Expr::Number(value)
+}
+
+/// Branches of one node, so that the model has exactly so many nodes.
+fn filled(mut model: Model, nodes: usize) -> Model {
+    let used = model.nodes().len();
+    if let Instr::Block(branches) = &mut model.assertion {
+        let missing = nodes.saturating_sub(used);
+        branches.extend(std::iter::repeat_n(Instr::Skip, missing));
+    }
+    model
+}
+
+/// A model of exactly so many nodes: three layers of flows, each flow a sum over states and the layer before, so
+/// that propagation takes 4 rounds; a transition for each 200 nodes, always fireable.
+pub fn large(nodes: usize) -> Model {
+    let states = 24;
+    let transitions = nodes / 200;
+    // A transition takes 21 nodes, a state 3, a flow 3 and its assignment 66.
+    let flows = (nodes - 1 - 21 * transitions - 3 * states) / 69;
+    let counted = Variable::Number {
+        low: -999,
+        high: 999,
+        first: 7,
+    };
+    let flow = Variable::Number {
+        low: -999,
+        high: 999,
+        first: 0,
+    };
+    let layer = flows.div_ceil(3);
+    let branches = (0..flows)
+        .rev()
+        .map(|place| {
+            let from = (place / layer).checked_sub(1).map(|before| {
+                let first = states + before * layer;
+                (first, layer)
+            });
+            let mut leaf = place;
+            let tree = sum_tree(5, &mut |depth| {
+                leaf += 7;
+                match from {
+                    _ if leaf % 5 == 0 => number((leaf % 9) as i32 + depth as i32),
+                    Some((first, count)) if leaf.is_multiple_of(2) => {
+                        Expr::Variable(first + leaf % count)
+                    }
+                    _ => Expr::Variable(leaf % states),
+                }
+            });
+            let value = Expr::binary(Operator::Mod, tree, number(1_000));
+            Instr::Assign(states + place, value)
+        })
+        .collect();
+    let transitions = (0..transitions)
+        .map(|place| {
+            let (one, two) = (place % states, (place + 5) % states);
+            let next = |state, step| {
+                let sum = Expr::binary(Operator::Plus, Expr::Variable(state), number(step));
+                Expr::binary(Operator::Mod, sum, number(1_000))
+            };
+            Transition {
+                event: place as u8,
+                guard: Expr::binary(
+                    Operator::Or,
+                    Expr::binary(Operator::Less, number(-1_000), Expr::Variable(one)),
+                    Expr::binary(Operator::Less, Expr::Variable(states), number(1_000)),
+                ),
+                action: Instr::Block(vec![
+                    Instr::Assign(one, next(one, 13)),
+                    Instr::Assign(two, next(two, 17)),
+                ]),
+            }
+        })
+        .collect::<Vec<_>>();
+    let model = Model {
+        states: vec![counted; states],
+        flows: vec![flow; flows],
+        events: transitions.len() as u8,
+        transitions,
+        assertion: Instr::Block(branches),
+    };
+    filled(model, nodes)
+}
+
+/// A full tree of sums and differences over leaves.
+fn sum_tree(depth: usize, leaf: &mut impl FnMut(usize) -> Expr) -> Expr {
+    if depth == 0 {
+        return leaf(depth);
+    }
+    let operator = if depth.is_multiple_of(2) {
+        Operator::Minus
+    } else {
+        Operator::Plus
+    };
+    let left = sum_tree(depth - 1, leaf);
+    Expr::binary(operator, left, sum_tree(depth - 1, leaf))
+}
+
+/// Each flow takes the value of the flow before it, the last flow's assignment standing first; filled up to so many
+/// nodes.
+pub fn chain(flows: usize, nodes: usize) -> Model {
+    let branches = (1..=flows)
+        .rev()
+        .map(|flow| Instr::Assign(flow, Expr::Variable(flow - 1)))
+        .collect();
+    let variable = Variable::Boolean { first: true };
+    let model = Model {
+        states: vec![variable],
+        flows: vec![variable; flows],
+        events: 1,
+        transitions: vec![Transition {
+            event: 0,
+            guard: Expr::Boolean(true),
+            action: Instr::Assign(0, Expr::Variable(0).negated()),
+        }],
+        assertion: Instr::Block(branches),
+    };
+    filled(model, nodes)
+}
+
+/// 255 transitions, each with a guard of 11 nodes over states.
+pub fn guards() -> Model {
+    let states = 30;
+    let variable = |place: usize| match place.is_multiple_of(2) {
+        true => Variable::Boolean {
+            first: place.is_multiple_of(4),
+        },
+        false => Variable::Number {
+            low: 0,
+            high: 100,
+            first: place as i32,
+        },
+    };
+    let transitions = (0..255)
+        .map(|place: usize| {
+            let boolean = Expr::Variable(place % 15 * 2);
+            let counted = |shift: usize| Expr::Variable((place + shift) % 15 * 2 + 1);
+            let sum = Expr::binary(Operator::Plus, counted(1), counted(4));
+            let relation = Expr::binary(Operator::Less, sum, number((place % 40) as i32));
+            let either = Expr::binary(Operator::Or, relation, boolean.negated());
+            let equal = Expr::binary(Operator::EqualNumbers, counted(2), number(9));
+            Transition {
+                event: place as u8,
+                guard: Expr::binary(Operator::And, either, equal.negated()),
+                action: Instr::Skip,
+            }
+        })
+        .collect();
+    Model {
+        states: (0..states).map(variable).collect(),
+        flows: Vec::new(),
+        events: 255,
+        transitions,
+        assertion: Instr::Skip,
+    }
+}
+
+/// A model of so many nodes, nearly all of them below conditions that are false, 32 deep.
+pub fn inactive(nodes: usize) -> Model {
+    // Variables: a state that stays false, a state that is toggled, three flows.
+    let [never, toggled, first, second, third] = [0, 1, 2, 3, 4];
+    let unchosen = (0..14).fold(Expr::Variable(first), |inner, _| {
+        Expr::binary(Operator::Or, inner, Expr::Variable(toggled)).negated()
+    });
+    let choice = Expr::conditional(Expr::Variable(never), unchosen, Expr::Variable(toggled));
+    let mut branches = vec![
+        Instr::Assign(first, Expr::Variable(toggled)),
+        Instr::Assign(second, Expr::Variable(first)),
+        Instr::Assign(third, choice),
+    ];
+    let both = Expr::binary(
+        Operator::And,
+        Expr::Variable(toggled),
+        Expr::Variable(first),
+    );
+    let mut body = Instr::Assign(second, Expr::Variable(first));
+    while body.depth() < 28 {
+        let beside = Instr::Assign(third, both.clone());
+        body = Instr::when(both.clone(), Instr::Block(vec![beside, body]));
+    }
+    let deep = Instr::when(Expr::Variable(never), body);
+    let mut model = Model {
+        states: vec![Variable::Boolean { first: false }; 2],
+        flows: vec![Variable::Boolean { first: false }; 3],
+        events: 1,
+        transitions: vec![Transition {
+            event: 0,
+            guard: Expr::Variable(never).negated(),
+            action: Instr::Assign(toggled, Expr::Variable(toggled).negated()),
+        }],
+        assertion: Instr::Skip,
+    };
+    loop {
+        model.assertion = Instr::Block(branches.clone());
+        branches.push(deep.clone());
+        let more = Model {
+            assertion: Instr::Block(branches.clone()),
+            ..model.clone()
+        };
+        if more.nodes().len() > nodes {
+            return filled(model, nodes);
+        }
+    }
+}

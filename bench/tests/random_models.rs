@@ -1,0 +1,149 @@
+//! Random models and lists of calls through the reference implementation.
+
+use std::collections::BTreeMap;
+
+use bench::calls::{Call, Store, START, TABLE};
+use bench::model_gen::{self, SHAPES};
+use bench::random::Random;
+use bench::reference::{self, ENGINE};
+
+#[test]
+fn models_of_every_shape_are_accepted() {
+    let mut random = Random::new(1);
+    for shape in SHAPES {
+        let (mut largest, mut deepest, mut started) = (0, 0, 0);
+        for _ in 0..60 {
+            let model = model_gen::model(&mut random, shape);
+            let file = model.encode();
+            let nodes = model.nodes().len();
+            let wanted = [
+                model.states.len() as u32,
+                model.flows.len() as u32,
+                model.events.into(),
+                model.transitions.len() as u32,
+                nodes as u32,
+            ];
+            let sizes = reference::check(&file).map(|sizes| sizes.to_array());
+            assert_eq!(sizes, Ok(wanted), "{shape:?}");
+            let (mut values, mut n) = ([0; 510], 0);
+            started += usize::from(reference::start(&file, &mut values, &mut n).is_ok());
+            largest = largest.max(nodes);
+            deepest = deepest.max(model.depth());
+        }
+        println!("{shape:?}: {largest} nodes, {deepest} deep, {started} of 60 start");
+        assert!(started >= 20, "{shape:?}: {started} of 60 start");
+    }
+}
+
+#[test]
+fn shuffled_models_and_refusals() {
+    let mut random = Random::new(2);
+    let mut answers: BTreeMap<(&str, u8), usize> = BTreeMap::new();
+    for _ in 0..4_000 {
+        let shape = model_gen::shape(&mut random);
+        let model = model_gen::model(&mut random, shape);
+        let file = model.encode();
+        let twin = model.shuffled(&mut random).encode();
+        let mut one = model_gen::store(&mut random, &model);
+        let mut two = one.clone();
+        for call in model_gen::calls(&mut random, &model) {
+            let before = one.clone();
+            let answer = call.perform(&ENGINE, &file, &mut one);
+            assert_eq!(answer, call.perform(&ENGINE, &twin, &mut two), "{call:?}");
+            assert_eq!(one.differences(&two), [""; 0], "{call:?}");
+            if answer != 0 {
+                assert_eq!(one.differences(&before), [""; 0], "{call:?}");
+            }
+            *answers.entry((call.name(), answer)).or_default() += 1;
+        }
+    }
+    println!("{answers:?}");
+    for (call, refusals) in [
+        ("start", &[0, 9, 28, 29, 30][..]),
+        ("fire", &[0, 9, 11, 20, 21, 23, 24, 25, 26, 27, 28, 29, 30]),
+        ("undo", &[0, 9, 20, 22, 31]),
+        ("marks", &[0, 9, 10, 20]),
+        ("value", &[0, 9, 12, 20]),
+        ("pick", &[0, 9, 20]),
+        ("check", &[0, 10]),
+    ] {
+        let met: Vec<u8> = answers
+            .keys()
+            .filter(|(name, _)| *name == call)
+            .map(|&(_, answer)| answer)
+            .collect();
+        assert_eq!(met, refusals, "the answers of {call}");
+    }
+}
+
+/// After an accepted start neither 20 nor 31 occurs, and an undo gives the values back.
+#[test]
+fn runs_stay_consistent() {
+    let mut random = Random::new(3);
+    let mut undone = 0;
+    for _ in 0..1_500 {
+        let shape = model_gen::shape(&mut random);
+        let model = model_gen::model(&mut random, shape);
+        let file = model.encode();
+        let variables = model.states.len() + model.flows.len();
+        let places = random.between(0, 12);
+        let mut store = Store::new(
+            &vec![7; variables],
+            &vec![255; places],
+            99,
+            &vec![9; model.transitions.len()],
+        );
+        let start = Call {
+            row: START,
+            number: 0,
+        };
+        if start.perform(&ENGINE, &file, &mut store) != 0 {
+            continue;
+        }
+        let mut values = vec![store.values.cells().to_vec()];
+        for call in model_gen::calls(&mut random, &model) {
+            let answer = call.perform(&ENGINE, &file, &mut store);
+            assert!(!matches!(answer, 20 | 31), "{call:?} answers {answer}");
+            match (answer, TABLE[call.row].name) {
+                (0, "start") => values.truncate(1),
+                (0, "fire") => {
+                    let flows = model.flows.len();
+                    assert!((1..=flows + 1).contains(&store.rounds.get()));
+                    values.push(store.values.cells().to_vec());
+                }
+                (0, "undo") => {
+                    values.pop();
+                    undone += 1;
+                }
+                _ => {}
+            }
+            assert_eq!(store.n.get(), values.len() - 1);
+            assert_eq!(store.values.cells(), values[values.len() - 1]);
+        }
+    }
+    assert!(undone > 500, "{undone} undone");
+}
+
+/// Damaged files are refused or run like any other; every refusal of a file is met.
+#[test]
+fn damaged_files() {
+    let mut random = Random::new(4);
+    let mut answers: BTreeMap<u8, usize> = BTreeMap::new();
+    for _ in 0..6_000 {
+        let shape = model_gen::shape(&mut random);
+        let model = model_gen::model(&mut random, shape);
+        let file = model_gen::damaged(&mut random, &model.encode());
+        let mut store = model_gen::store(&mut random, &model);
+        for call in model_gen::calls(&mut random, &model) {
+            let before = store.clone();
+            let answer = call.perform(&ENGINE, &file, &mut store);
+            if answer != 0 {
+                assert_eq!(store.differences(&before), [""; 0], "{call:?}");
+            }
+        }
+        let answer = reference::check(&file).map_or_else(|refusal| refusal.number(), |_| 0);
+        *answers.entry(answer).or_default() += 1;
+    }
+    println!("{answers:?}");
+    assert!((0..=8).all(|number| answers.contains_key(&number)));
+}

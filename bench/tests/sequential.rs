@@ -1,0 +1,293 @@
+//! The definitions written once more, as plainly as can be, over the trees of random models: an action, and the
+//! assertion carried out by single assignments in any order. Both must end as the reference implementation does.
+
+use bench::model_gen::{self, Shape};
+use bench::random::Random;
+use bench::reference;
+use bench::tree::{Expr, Instr, Model, Operator, Variable};
+
+#[derive(Clone, Copy, PartialEq, Debug)]
+enum Evaluation {
+    Unknown,
+    Failed,
+    Value(i64),
+}
+
+use Evaluation::{Failed, Unknown, Value};
+
+type Valuation = Vec<Option<i32>>;
+
+fn evaluate(expr: &Expr, over: &Valuation) -> Evaluation {
+    match expr {
+        Expr::Number(number) => Value(i64::from(*number)),
+        Expr::Boolean(value) => Value(i64::from(*value)),
+        Expr::Variable(variable) => over[*variable].map_or(Unknown, |value| Value(value.into())),
+        Expr::Not(operand) => match evaluate(operand, over) {
+            Value(value) => Value(1 - value),
+            other => other,
+        },
+        Expr::Conditional(condition, chosen, other) => match evaluate(condition, over) {
+            Value(1) => evaluate(chosen, over),
+            Value(_) => evaluate(other, over),
+            condition => condition,
+        },
+        Expr::Binary(operator, left, right) => {
+            let both = [evaluate(left, over), evaluate(right, over)];
+            let decisive = match operator {
+                Operator::And => Some(Value(0)),
+                Operator::Or => Some(Value(1)),
+                _ => None,
+            };
+            if let Some(decisive) = decisive.filter(|decisive| both.contains(decisive)) {
+                return decisive;
+            }
+            if both.contains(&Unknown) {
+                return Unknown;
+            }
+            let [Value(left), Value(right)] = both else {
+                return Failed;
+            };
+            calculate(*operator, left, right)
+        }
+    }
+}
+
+fn calculate(operator: Operator, left: i64, right: i64) -> Evaluation {
+    use Operator::*;
+    let number = match operator {
+        And => left * right,
+        Or => left.max(right),
+        EqualNumbers | EqualBooleans => (left == right).into(),
+        Less => (left < right).into(),
+        LessOrEqual => (left <= right).into(),
+        Plus => left + right,
+        Minus => left - right,
+        Times => left * right,
+        Div | Mod if right == 0 => return Failed,
+        Div => left / right,
+        Mod => left % right,
+    };
+    if i32::try_from(number).is_ok() {
+        Value(number)
+    } else {
+        Failed
+    }
+}
+
+/// The active assignments with a value, or none if a reached condition or an active expression failed.
+fn active(instr: &Instr, over: &Valuation) -> Option<Vec<(usize, i64)>> {
+    match instr {
+        Instr::Skip => Some(vec![]),
+        Instr::Assign(target, value) => match evaluate(value, over) {
+            Unknown => Some(vec![]),
+            Failed => None,
+            Value(value) => Some(vec![(*target, value)]),
+        },
+        Instr::When(condition, body) => match evaluate(condition, over) {
+            Value(1) => active(body, over),
+            Failed => None,
+            _ => Some(vec![]),
+        },
+        Instr::Block(branches) => {
+            let each: Option<Vec<_>> = branches.iter().map(|branch| active(branch, over)).collect();
+            each.map(|each| each.concat())
+        }
+    }
+}
+
+/// The lowest of 0 (failed), 1 (outside its ends), 2 (conflict), or the assignments.
+fn faultless(
+    instr: &Instr,
+    variables: &[Variable],
+    over: &Valuation,
+    against_known: bool,
+) -> Result<Vec<(usize, i32)>, u8> {
+    let given = active(instr, over).ok_or(0)?;
+    let outside = |&(target, value): &(usize, i64)| {
+        let (low, high) = variables[target].ends();
+        value < low.into() || i64::from(high) < value
+    };
+    if given.iter().any(outside) {
+        return Err(1);
+    }
+    let conflict = |&(target, value): &(usize, i64)| {
+        let known = over[target].filter(|_| against_known);
+        known.is_some_and(|known| i64::from(known) != value)
+            || given
+                .iter()
+                .any(|&(other, another)| other == target && another != value)
+    };
+    if given.iter().any(conflict) {
+        return Err(2);
+    }
+    Ok(given
+        .iter()
+        .map(|&(target, value)| (target, value as i32))
+        .collect())
+}
+
+/// By rounds: the values and the round count, or the refusal number.
+fn by_rounds(model: &Model, states: &[i32]) -> Result<(Vec<i32>, usize), u8> {
+    let variables: Vec<Variable> = model.variables().copied().collect();
+    let mut known: Valuation = states.iter().copied().map(Some).collect();
+    known.resize(variables.len(), None);
+    let mut rounds = 0;
+    loop {
+        let given = faultless(&model.assertion, &variables, &known, true).map_err(|f| 28 + f)?;
+        rounds += 1;
+        let before = known.clone();
+        for (flow, value) in given {
+            known[flow] = Some(value);
+        }
+        if known == before {
+            break;
+        }
+    }
+    reset(model, &variables, known).map(|values| (values, rounds))
+}
+
+/// One assignment at a time, any of those that are ready.
+fn one_by_one(model: &Model, states: &[i32], random: &mut Random) -> Option<Vec<i32>> {
+    let variables: Vec<Variable> = model.variables().copied().collect();
+    let mut known: Valuation = states.iter().copied().map(Some).collect();
+    known.resize(variables.len(), None);
+    loop {
+        let mut ready = faultless(&model.assertion, &variables, &known, true).ok()?;
+        ready.retain(|&(flow, _)| known[flow].is_none());
+        if ready.is_empty() {
+            break;
+        }
+        let &(flow, value) = random.one(&ready);
+        known[flow] = Some(value);
+    }
+    reset(model, &variables, known).ok()
+}
+
+/// The flows still unknown take their reset values, and one more reading must find no fault.
+fn reset(model: &Model, variables: &[Variable], mut known: Valuation) -> Result<Vec<i32>, u8> {
+    for (cell, variable) in known.iter_mut().zip(variables) {
+        cell.get_or_insert(match *variable {
+            Variable::Boolean { first } => i32::from(first),
+            Variable::Number { first, .. } => first,
+        });
+    }
+    faultless(&model.assertion, variables, &known, true).map_err(|fault| 28 + fault)?;
+    Ok(known.into_iter().flatten().collect())
+}
+
+/// What firing a transition must give.
+fn fired(model: &Model, old: &[i32], transition: usize) -> Result<(Vec<i32>, usize), u8> {
+    let variables: Vec<Variable> = model.variables().copied().collect();
+    let over: Valuation = old.iter().copied().map(Some).collect();
+    let transition = &model.transitions[transition];
+    match evaluate(&transition.guard, &over) {
+        Value(1) => {}
+        Value(_) => return Err(23),
+        _ => return Err(24),
+    }
+    let given =
+        faultless(&transition.action, &variables, &over, false).map_err(|fault| 25 + fault)?;
+    let mut states = old[..model.states.len()].to_vec();
+    for (state, value) in given {
+        states[state] = value;
+    }
+    by_rounds(model, &states)
+}
+
+fn small_model(random: &mut Random) -> Model {
+    let shape = *random.one(&[
+        Shape::Small,
+        Shape::Ordered,
+        Shape::Ordered,
+        Shape::Cyclic,
+        Shape::Deep,
+        Shape::Ends,
+        Shape::Faulty,
+    ]);
+    model_gen::model(random, shape)
+}
+
+#[test]
+fn single_assignments_end_as_rounds_do() {
+    let mut random = Random::new(11);
+    let (mut settled, mut refused) = (0, 0);
+    for _ in 0..4_000 {
+        let model = small_model(&mut random);
+        let states: Vec<i32> = model
+            .states
+            .iter()
+            .map(|state| random.within(state.ends().0, state.ends().1))
+            .collect();
+        let rounds = by_rounds(&model, &states);
+        for _ in 0..3 {
+            let sequence = one_by_one(&model, &states, &mut random);
+            assert_eq!(
+                sequence.as_ref(),
+                rounds.as_ref().ok().map(|(values, _)| values)
+            );
+        }
+        if let Ok((_, count)) = rounds {
+            assert!((1..=model.flows.len() + 1).contains(&count));
+            settled += 1;
+        } else {
+            refused += 1;
+        }
+    }
+    println!("{settled} settled, {refused} refused");
+    assert!(settled > 1_000 && refused > 200);
+}
+
+#[test]
+fn starts_and_fires_are_as_defined() {
+    let mut random = Random::new(12);
+    let (mut fires, mut refused) = (0, 0);
+    for _ in 0..4_000 {
+        let model = small_model(&mut random);
+        let file = model.encode();
+        let initial: Vec<i32> = model
+            .states
+            .iter()
+            .map(|state| match *state {
+                Variable::Boolean { first } => i32::from(first),
+                Variable::Number { first, .. } => first,
+            })
+            .collect();
+        let mut values = vec![0; model.states.len() + model.flows.len()];
+        let mut n = 5;
+        let started = reference::start(&file, &mut values, &mut n)
+            .map(|rounds| (values.clone(), rounds))
+            .map_err(|refusal| refusal.number());
+        assert_eq!(started, by_rounds(&model, &initial));
+        for _ in 0..12 {
+            if model.transitions.is_empty() {
+                break;
+            }
+            // From values of any run, or from any values within their ends.
+            if random.chance(1, 3) {
+                for (value, variable) in values.iter_mut().zip(model.variables()) {
+                    *value = random.within(variable.ends().0, variable.ends().1);
+                }
+            }
+            let inside = values
+                .iter()
+                .zip(model.variables())
+                .all(|(&value, variable)| variable.ends().0 <= value && value <= variable.ends().1);
+            if !inside {
+                continue;
+            }
+            let transition = random.below(model.transitions.len());
+            let (mut history, mut n) = ([0; 1], 0);
+            let wanted = fired(&model, &values, transition);
+            let found = reference::fire(&file, &mut values, &mut history, &mut n, transition)
+                .map(|rounds| (values.clone(), rounds))
+                .map_err(|refusal| refusal.number());
+            assert_eq!(found, wanted);
+            match found {
+                Ok(_) => fires += 1,
+                Err(_) => refused += 1,
+            }
+        }
+    }
+    println!("{fires} fires, {refused} refused");
+    assert!(fires > 10_000 && refused > 3_000);
+}

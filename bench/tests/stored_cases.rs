@@ -1,0 +1,75 @@
+//! The stored cases through the reference implementation.
+
+use bench::program::gtsrun;
+use bench::reference::{self, ENGINE};
+use bench::stored::{self, Lent};
+
+#[test]
+fn checks() {
+    let cases = stored::checks(&stored::text("checks.txt"));
+    let (mut models, mut expressions) = (0, 0);
+    for (place, case) in cases.iter().enumerate() {
+        let found = reference::check(&case.model)
+            .map(|sizes| sizes.to_array())
+            .map_err(|refusal| refusal.number());
+        assert_eq!(found, case.want, "model {place}");
+        models += 1;
+        for expression in &case.expressions {
+            let found = reference::check_expression(
+                &case.model,
+                &expression.kinds,
+                &expression.parameters,
+                expression.wanted,
+            )
+            .map_or_else(|refusal| refusal.number(), |()| 0);
+            assert_eq!(found, expression.want, "an expression beside model {place}");
+            expressions += 1;
+        }
+    }
+    assert_eq!((models, expressions), (800, 368));
+}
+
+#[test]
+fn lists_of_calls() {
+    let cases = stored::lists(&stored::text("calls.txt"));
+    let mut calls = 0;
+    for (place, case) in cases.iter().enumerate() {
+        for model in [&case.model, &case.twin] {
+            let mut store = case.lent.store();
+            let mut lent = case.lent.clone();
+            for case in &case.calls {
+                let answer = case.call.perform(&ENGINE, model, &mut store);
+                assert!(
+                    case.want.holds(answer, &store),
+                    "list {place}: {:?} answers {answer}",
+                    case.call
+                );
+                if let Some(after) = &case.after {
+                    lent.clone_from(after);
+                }
+                assert_eq!(
+                    Lent::of(&store),
+                    lent,
+                    "list {place}: after {:?}",
+                    case.call
+                );
+                calls += 1;
+            }
+        }
+    }
+    assert_eq!((cases.len(), calls), (400, 2 * 5829));
+}
+
+#[test]
+fn programs() {
+    let cases = stored::programs(&stored::text("programs.txt"));
+    for (place, case) in cases.iter().enumerate() {
+        let output = gtsrun(&ENGINE, &case.model, &case.input);
+        assert_eq!(
+            output,
+            String::from_utf8_lossy(&case.output),
+            "program {place}"
+        );
+    }
+    assert_eq!(cases.len(), 500);
+}

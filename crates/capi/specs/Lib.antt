@@ -1,0 +1,2 @@
+-- Definitions of crate `capi`.
+pub mod Codes
