@@ -6,7 +6,7 @@ ghost use Prim.Native.Nat.{ℕ};
 ghost use Rattle.model.specs.Check.{verdict};
 ghost use Rattle.steps.specs.Runs.{run};
 ghost use Rattle.run.specs.Calls as calls;
-ghost use Rattle.steps.specs.Calls as steps;
+ghost use Rattle.inspection.specs.Looks as looks;
 ghost use Rattle.steps.specs.Answers.{onFile, onFileAnswer};
 ghost use Rattle.capi.specs.Codes.{coded, codedBy, codedRounds, codedNumber, codedSizes, PickCoded};
 use model::Checked;
@@ -107,7 +107,7 @@ pub extern "C" fn gts_marks(
     marks: &mut [u8],
 ) -> u8
     ensures { λ r. ⌜ coded r (now (marks .exit))
-        ≡ codedBy (onFile (verdict (now (model .entry))) (λ m. steps.marks m (run (now (values .entry)) (now (history .entry)) n) (now (marks .entry))) (now (marks .entry))) ⌝ }
+        ≡ codedBy (onFile (verdict (now (model .entry))) (λ m. looks.marks m (run (now (values .entry)) (now (history .entry)) n) (now (marks .entry))) (now (marks .entry))) ⌝ }
 {
     match run::marks(model, values, history, n, marks) {
         Answer::Refused(number) => number,
@@ -129,7 +129,7 @@ pub extern "C" fn gts_value(
     value: &mut i32,
 ) -> u8
     ensures { λ r. ⌜ coded r (now (value .exit))
-        ≡ codedNumber (now (value .entry)) (onFileAnswer (verdict (now (model .entry))) (λ m. steps.value m variable (run (now (values .entry)) (now (history .entry)) n))) ⌝ }
+        ≡ codedNumber (now (value .entry)) (onFileAnswer (verdict (now (model .entry))) (λ m. looks.value m variable (run (now (values .entry)) (now (history .entry)) n))) ⌝ }
 {
     match run::value(model, values, history, n, variable) {
         Answer::Refused(number) => number,

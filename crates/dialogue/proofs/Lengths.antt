@@ -14,7 +14,8 @@ use Rattle.model.specs.Check.Verdict.{refusal, accepted}
 use Rattle.engine.specs.Meanings.{Meaning, meaningOf}
 use Rattle.run.specs.declared.Call.the-variants as calls
 use Rattle.steps.specs.Runs.{Run, Store, Done}
-use Rattle.steps.specs.Calls.{initial, marks, marksFrom, marksOf, tooShort, holds}
+use Rattle.steps.specs.Calls.{initial, tooShort, holds}
+use Rattle.inspection.specs.Looks.{marks, marksFrom, marksOf}
 use Rattle.run.specs.Calls.{start, fire, undo}
 use Rattle.run.specs.Lists.{call, callBy, callOn}
 use Rattle.steps.proofs.Tests.{by-test}

@@ -52,43 +52,43 @@ fn truth(b: bool) -> Evaluation
     }
 }
 
-pub fn equal(x: i32, y: i32) -> Evaluation
+fn equal(x: i32, y: i32) -> Evaluation
     ensures { λ r. ⌜ r ≡ Evaluation.Value (boolean (eqZ x y)) ⌝ }
 {
     truth(x == y)
 }
 
-pub fn less(x: i32, y: i32) -> Evaluation
+fn less(x: i32, y: i32) -> Evaluation
     ensures { λ r. ⌜ r ≡ Evaluation.Value (boolean (ltZ x y)) ⌝ }
 {
     truth(x < y)
 }
 
-pub fn less_or_equal(x: i32, y: i32) -> Evaluation
+fn less_or_equal(x: i32, y: i32) -> Evaluation
     ensures { λ r. ⌜ r ≡ Evaluation.Value (boolean (leZ x y)) ⌝ }
 {
     truth(x <= y)
 }
 
-pub fn sum(x: i32, y: i32) -> Evaluation
+fn sum(x: i32, y: i32) -> Evaluation
     ensures { λ r. ⌜ r ≡ checked (x +ℤ y) ⌝ }
 {
     narrowed((x as i64) + (y as i64))
 }
 
-pub fn difference(x: i32, y: i32) -> Evaluation
+fn difference(x: i32, y: i32) -> Evaluation
     ensures { λ r. ⌜ r ≡ checked (x -ℤ y) ⌝ }
 {
     narrowed((x as i64) - (y as i64))
 }
 
-pub fn product(x: i32, y: i32) -> Evaluation
+fn product(x: i32, y: i32) -> Evaluation
     ensures { λ r. ⌜ r ≡ checked (x *ℤ y) ⌝ }
 {
     narrowed((x as i64) * (y as i64))
 }
 
-pub fn quotient(x: i32, y: i32) -> Evaluation
+fn quotient(x: i32, y: i32) -> Evaluation
     ensures { λ r. ⌜ r ≡ divided quotZ x y ⌝ }
 {
     if y == 0 {
@@ -97,7 +97,7 @@ pub fn quotient(x: i32, y: i32) -> Evaluation
     narrowed((x as i64) / (y as i64))
 }
 
-pub fn remainder(x: i32, y: i32) -> Evaluation
+fn remainder(x: i32, y: i32) -> Evaluation
     ensures { λ r. ⌜ r ≡ divided remZ x y ⌝ }
 {
     if y == 0 {

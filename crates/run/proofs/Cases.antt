@@ -19,7 +19,8 @@ use Rattle.engine.specs.Meanings.{Meaning}
 use Rattle.engine.specs.Firing.{Left, fired, begun}
 use Rattle.steps.specs.Runs.{Run, Answer, Done, run, answered}
 use Rattle.steps.specs.Runs.Answer.{refused, rounds, done, number}
-use Rattle.steps.specs.Calls.{tooShort, holds, answerOf, initial, replay, marksOf, marks, value}
+use Rattle.steps.specs.Calls.{tooShort, holds, answerOf, initial, replay}
+use Rattle.inspection.specs.Looks.{marksOf, marks, value}
 use Rattle.run.specs.Calls.{startedBy, start, firedBy, fire, undoneBy, undo}
 use Rattle.steps.proofs.Tests.{by-test}
 

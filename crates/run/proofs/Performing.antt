@@ -12,7 +12,7 @@ use Rattle.run.specs.declared.Call.the-variants.{Check, Start, Fire, Und
 use Rattle.steps.specs.Runs.{Run, Store, Answer, answered, store}
 use Rattle.steps.specs.Runs.Answer.{refused, sizes}
 use Rattle.run.specs.Calls as calls
-use Rattle.steps.specs.Calls as steps
+use Rattle.inspection.specs.Looks as looks
 use Rattle.run.specs.Lists.{onRun, onMarks, callOn, callBy}
 use Rattle.steps.specs.Answers.{onFile, onFileAnswer}
 use Rattle.steps.proofs.Tests.{clash}
@@ -63,20 +63,20 @@ module _ (call : Call) (s : Store) where
 
   -- ---- marks and value
 
-  pub marks-performed : (v : Verdict) (a : Answer) (left : List ℕ) → answered a left ≡ onFile v (λ m. steps.marks m (s .run) (s .marks)) (s .marks)
+  pub marks-performed : (v : Verdict) (a : Answer) (left : List ℕ) → answered a left ≡ onFile v (λ m. looks.marks m (s .run) (s .marks)) (s .marks)
       → call ≡ Marks → answered a (store (s .run) left) ≡ callBy v call s
   unfolding onFile callBy callOn
   marks-performed v a left e told = rw told (ap (onMarks s) e ∙ go v)
     where
-      go : (v : Verdict) → onMarks s (onFile v (λ m. steps.marks m (s .run) (s .marks)) (s .marks)) ≡ callBy v Marks s
+      go : (v : Verdict) → onMarks s (onFile v (λ m. looks.marks m (s .run) (s .marks)) (s .marks)) ≡ callBy v Marks s
       go (refusal n) = refl
       go (accepted z t) = refl
 
-  pub value-performed : (v : Verdict) (a : Answer) (x : ℕ) → a ≡ onFileAnswer v (λ m. steps.value m x (s .run)) → call ≡ Value x
+  pub value-performed : (v : Verdict) (a : Answer) (x : ℕ) → a ≡ onFileAnswer v (λ m. looks.value m x (s .run)) → call ≡ Value x
       → answered a s ≡ callBy v call s
   unfolding onFileAnswer callBy callOn
   value-performed v a x e told = rw told (ap (λ a. answered a s) e ∙ go v)
     where
-      go : (v : Verdict) → answered (onFileAnswer v (λ m. steps.value m x (s .run))) s ≡ callBy v (Value x) s
+      go : (v : Verdict) → answered (onFileAnswer v (λ m. looks.value m x (s .run))) s ≡ callBy v (Value x) s
       go (refusal n) = refl
       go (accepted z t) = refl

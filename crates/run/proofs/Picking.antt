@@ -21,7 +21,8 @@ use Rattle.run.specs.declared.Picked.{Picked}
 use Rattle.run.specs.declared.Picked.the-variants.{Refused, Transition, Nothing}
 use Rattle.steps.specs.Runs.{Run, Answer, Done, answered}
 use Rattle.steps.specs.Runs.Answer.{refused, done}
-use Rattle.steps.specs.Calls.{tooShort, holds, marksFrom, marksOf, marks}
+use Rattle.steps.specs.Calls.{tooShort, holds}
+use Rattle.inspection.specs.Looks.{marksFrom, marksOf, marks}
 use Rattle.run.specs.Picks.{Fireable, PickedFrom}
 use Rattle.steps.specs.declared.Answer as declared
 use Rattle.steps.specs.Answers.{seen, onFile}

@@ -13,7 +13,7 @@ use Rattle.steps.specs.Runs.{Run, Store, Answer, Done, answered, withRun, withM
 use Rattle.steps.specs.Runs.Answer.{refused, rounds, sizes}
 use Rattle.run.specs.declared.Picked.{Picked}
 use Rattle.run.specs.Calls as calls
-use Rattle.steps.specs.Calls as steps
+use Rattle.inspection.specs.Looks as looks
 use Rattle.run.specs.Picks.{PickedFrom}
 
 abbrev pub onRun : Store → Done Run → Done Store
@@ -28,8 +28,8 @@ callOn z m Check s = answered (sizes z) s
 callOn z m Start s = onRun s (calls.start m (s .run))
 callOn z m (Fire t) s = onRun s (calls.fire m t (s .run))
 callOn z m Undo s = onRun s (calls.undo m (s .run))
-callOn z m Marks s = onMarks s (steps.marks m (s .run) (s .marks))
-callOn z m (Value x) s = answered (steps.value m x (s .run)) s
+callOn z m Marks s = onMarks s (looks.marks m (s .run) (s .marks))
+callOn z m (Value x) s = answered (looks.value m x (s .run)) s
 
 unfoldable pub callBy : Verdict → Call → Store → Done Store
 callBy (refusal n) c s = answered (refused n) s

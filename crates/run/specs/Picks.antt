@@ -8,7 +8,8 @@ use lib.IntN.{ℤ}
 use lib.ListN.{getD}
 use Rattle.engine.specs.Meanings.{Meaning}
 use Rattle.steps.specs.Runs.{Run}
-use Rattle.steps.specs.Calls.{tooShort, holds, marksOf}
+use Rattle.steps.specs.Calls.{tooShort, holds}
+use Rattle.inspection.specs.Looks.{marksOf}
 use Rattle.run.specs.declared.Picked.{Picked}
 use Rattle.run.specs.declared.Picked.the-variants.{Refused, Transition, Nothing}
 

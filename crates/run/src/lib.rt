@@ -6,16 +6,15 @@ ghost use Prim.Native.Nat.{ℕ};
 ghost use Rattle.model.specs.Check.{verdict, answerOf};
 ghost use Rattle.steps.specs.Runs.{run, store, answered};
 ghost use Rattle.run.specs.Calls as calls;
-ghost use Rattle.steps.specs.Calls as steps;
+ghost use Rattle.inspection.specs.Looks as looks;
 ghost use Rattle.steps.specs.Answers.{seen, onFile, onFileAnswer};
 ghost use Rattle.run.specs.Lists.{PickedBy, Promise, CountBounded};
 ghost use Rattle.run.specs.Picks.{firstFireable};
+use inspection::Look;
 use model::Checked;
 use model::Model;
 use steps::Answer;
-use steps::Look;
 use steps::Move;
-use steps::inspect;
 use steps::moves;
 
 // A call, with its transition or variable number.
@@ -92,16 +91,16 @@ pub fn undo(model: &[u8], values: &mut [i32], history: &[u8], n: &mut usize) -> 
 // For each transition 1 if its guard is true, 0 false, 2 failed.
 pub fn marks(model: &[u8], values: &[i32], history: &[u8], n: usize, marks: &mut [u8]) -> Answer
     ensures { λ r. ⌜ answered (seen r) (now (marks .exit))
-        ≡ onFile (verdict (now (model .entry))) (λ m. steps.marks m (run (now (values .entry)) (now (history .entry)) n) (now (marks .entry))) (now (marks .entry)) ⌝ }
+        ≡ onFile (verdict (now (model .entry))) (λ m. looks.marks m (run (now (values .entry)) (now (history .entry)) n) (now (marks .entry))) (now (marks .entry)) ⌝ }
 {
-    inspect::inspect(model, values, history, n, marks, Look::Marks)
+    inspection::inspect(model, values, history, n, marks, Look::Marks)
 }
 
 // The value of a variable.
 pub fn value(model: &[u8], values: &[i32], history: &[u8], n: usize, variable: usize) -> Answer
-    ensures { λ r. ⌜ seen r ≡ onFileAnswer (verdict (now (model .entry))) (λ m. steps.value m variable (run (now (values .entry)) (now (history .entry)) n)) ⌝ }
+    ensures { λ r. ⌜ seen r ≡ onFileAnswer (verdict (now (model .entry))) (λ m. looks.value m variable (run (now (values .entry)) (now (history .entry)) n)) ⌝ }
 {
-    inspect::inspect(
+    inspection::inspect(
         model,
         values,
         history,

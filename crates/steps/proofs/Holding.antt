@@ -69,6 +69,20 @@ some-outside (v ∷ vs) (c ∷ cs) x (suc k) l h e =
     go true i = i
     go false i = refl
 
+pub same-lengths : (lows highs : List ℤ) (vs : List Variable) → lows ≡ map (λ v. v .low) vs → highs ≡ map (λ v. v .high) vs → length lows ≡ length highs
+same-lengths lows highs vs l u = ap length l ∙ length-map vs (λ v. v .low) ∙ sym (ap length u ∙ length-map vs (λ v. v .high))
+
+-- a variable without a value is not within its ends
+pub missing-outside : (vs : List Variable) (cs : List ℤ) (x : ℕ) → length cs < length vs → isNone (firstOutside vs cs x) ≡ false
+unfolding firstOutside isNone
+missing-outside [] cs x h = absurd (omega arith)
+missing-outside (v ∷ vs) [] x h = refl
+missing-outside (v ∷ vs) (c ∷ cs) x h = go (leZ (v .low) c && leZ c (v .high)) (missing-outside vs cs (suc x) (omega arith))
+  where
+    go : (t : Bool) → isNone (firstOutside vs cs (suc x)) ≡ false → isNone (cond t (firstOutside vs cs (suc x)) (some x)) ≡ false
+    go true i = i
+    go false i = refl
+
 module _ (lows highs values : List ℤ) (long : length lows ≤ length values) (vs : List Variable)
     (l : lows ≡ map (λ v. v .low) vs) (u : highs ≡ map (λ v. v .high) vs) where
   size : length lows ≡ length vs
@@ -123,3 +137,13 @@ not-both r false u e n = refl
 pub both : (r t u : Bool) → r ≡ t → not r ≡ false → u ≡ (t && u)
 both r true u e n = refl
 both r false u e n = absurd (true≢false (let z : true ≡ false = rw e at n in z))
+
+-- too few values, whatever the history
+pub too-few : (lows values : List ℤ) (vs : List Variable) (t : Bool) → lows ≡ map (λ v. v .low) vs → length values < length lows
+    → false ≡ (t && isNone (firstOutside vs values 0))
+too-few lows values vs t l h =
+    and-false t (missing-outside vs values 0 (omega (arith, ap length l ∙ length-map vs (λ v. v .low))))
+  where
+    and-false : (t : Bool) {u : Bool} → u ≡ false → false ≡ (t && u)
+    and-false true e = sym e
+    and-false false e = refl

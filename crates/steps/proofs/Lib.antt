@@ -3,8 +3,6 @@ pub mod Ends
 pub mod Holding
 pub mod Loading
 pub mod Longer
-pub mod LookTests
-pub mod MarksWritten
 pub mod MoveTests
 pub mod Parts
 pub mod Refiring

@@ -1,4 +1,4 @@
--- What the calls are made of, and marks and value, over the meaning of an accepted model. 01: "Every call goes 1 to 8, 9, 10, 11, 12, 20, 21,
+-- What the calls are made of, over the meaning of an accepted model. 01: "Every call goes 1 to 8, 9, 10, 11, 12, 20, 21,
 -- 22, 23 up, skipping those foreign to it".
 use mathlib.Core.Bool.{Bool, true, false, cond, not, _&&_}
 use mathlib.Core.List.{List, [], _∷_, _++_, map}
@@ -76,32 +76,3 @@ refire m (t ∷ ts) values = goOn (λ vs. refire m ts vs) (fired m t values) (fi
 -- the values after starting from these states and firing these transitions
 unfoldable pub replay : Meaning → List ℤ → List ℕ → List ℤ → Option (List ℤ)
 replay m ss ts values = goOn (λ vs. refire m ts vs) (begun m ss values) (begun m ss values .answer)
-
--- Marks: "for each transition 1 if its guard is true, 0 false, 2 failed, into a lent slice, cells from T on untouched"
-unfoldable pub markOf : Evaluation → ℕ
-markOf Unknown = 0
-markOf Failed = 2
-markOf (Value v) = cond (eqZ v (boolean true)) 1 0
-
-unfoldable pub marksFrom : Meaning → List ℤ → ℕ → ℕ → List ℕ
-marksFrom m values t zero = []
-marksFrom m values t (suc n) = markOf (m .guard t values) ∷ marksFrom m values (suc t) n
-
--- the marks over the values in use
-abbrev pub marksOf : Meaning → List ℤ → List ℕ
-marksOf m values = marksFrom m (take (length (m .declarations)) values) 0 (m .transitions)
-
-unfoldable pub marks : Meaning → Run → List ℕ → Done (List ℕ)
-marks m r old =
-    cond (tooShort m (r .values)) (answered (refused 9) old)
-    (cond (ltb (length old) (m .transitions)) (answered (refused 10) old)
-    (cond (not (holds m r)) (answered (refused 20) old)
-    (answered done (marksOf m (r .values) ++ drop (m .transitions) old))))
-
--- Value of a variable
-unfoldable pub value : Meaning → ℕ → Run → Answer
-value m x r =
-    cond (tooShort m (r .values)) (refused 9)
-    (cond (not (ltb x (length (m .declarations)))) (refused 12)
-    (cond (not (holds m r)) (refused 20)
-    (number (getD (r .values) x (pos 0)))))

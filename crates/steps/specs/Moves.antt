@@ -15,9 +15,7 @@ use Rattle.steps.specs.declared.Move.{Move}
 use Rattle.steps.specs.declared.Move.the-variants.{Start, Fire, Undo}
 use Rattle.steps.specs.Runs.{Run, Done, answered}
 use Rattle.steps.specs.Runs.Answer.{refused, done}
-use Rattle.steps.specs.declared.Look.{Look}
-use Rattle.steps.specs.declared.Look.the-variants.{Marks, Value}
-use Rattle.steps.specs.Calls.{tooShort, holds, answerOf, initial, replay, marks, value}
+use Rattle.steps.specs.Calls.{tooShort, holds, answerOf, initial, replay}
 
 -- the answer of firing, with the values that it leaves
 abbrev pub moved : Left → Done (List ℤ)
@@ -58,8 +56,3 @@ move m Undo r =
     (cond (not (holds m r)) (answered (refused 20) (r .values))
     (cond (eqb (r .count) 0) (answered (refused 22) (r .values))
     (replayed (r .values) (replay m (initial m) (take (r .count - 1) (r .history)) (r .values)))))
-
--- marks and value, over the marks slice
-unfoldable pub look : Meaning → Look → Run → List ℕ → Done (List ℕ)
-look m Marks r old = marks m r old
-look m (Value x) r old = answered (value m x r) old

@@ -1,8 +1,7 @@
-// Start, fire and undo as far as the values go, marks and value: on a model file.
+// Start, fire and undo as far as the values go: on a model file.
 
-pub mod inspect; // inspect.rt: marks and value
 pub mod moves; // moves.rt: start, fire and undo
-mod standing; // standing.rt: does a run hold
+pub mod standing; // standing.rt: does a run hold
 
 use model::Sizes;
 
@@ -20,10 +19,4 @@ pub enum Move {
     Start,
     Fire(usize),
     Undo,
-}
-
-// What is looked at.
-pub enum Look {
-    Marks,
-    Value(usize),
 }

@@ -53,11 +53,16 @@ pub fn holds(
     history: &[u8],
     n: usize,
 ) -> bool
-    requires { ⌜ (length (now lows) ≡ length (now highs)) × (length (now lows) ≤ length (now values)) ⌝ }
     ensures { λ r. ⌜ ((vs : List Variable) → now (lows .entry) ≡ map (λ v. v .low) vs → now (highs .entry) ≡ map (λ v. v .high) vs
         → r ≡ (historyHolds transitions n (now (history .entry)) && isNone (firstOutside vs (now (values .entry)) 0))) ⌝ }
 {
     if !history_holds(transitions, n, history) {
+        return false;
+    }
+    if lows.len() != highs.len() {
+        return false;
+    }
+    if values.len() < lows.len() {
         return false;
     }
     values_hold(lows, highs, values)

@@ -30,7 +30,7 @@ fn is_truth(parameter: i32) -> bool
     parameter == 1
 }
 
-// Is the parameter the number of one of the variables from `from` up to `past`.
+// Is the parameter a number from `from` up to `past`.
 fn is_between(parameter: i32, from: usize, past: usize) -> bool
     ensures { λ r. ⌜ r ≡ isTarget from past parameter ⌝ }
 {

@@ -1,6 +1,6 @@
 -- Marks, by looking at the decoded model.
 use borrow.Author.Needs.{needs}
-use Rattle.steps.specs.Moves.{look}
+use Rattle.inspection.specs.Looks.{look}
 use Rattle.run.proofs.marks.Statement.{statement}
 use Rattle.run.proofs.marks.Tie as tie
 

@@ -24,7 +24,7 @@ returns-2 c =
     (omega (arith, guards-count d, c .if2 .taken))
 
 holds-requires : tie.Need-holds-requires
-holds-requires c κs = let start = c .before .before .before .before .before .before .before .before in (lows-count (start .pre) ∙ sym (highs-count (start .pre)), c .before .before .if1 .left)
+holds-requires c κs = search needs
 
 same-length : tie.Need-same-length
 same-length c = search needs

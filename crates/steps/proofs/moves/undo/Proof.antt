@@ -20,7 +20,7 @@ returns c =
     λ d. undo-short (meaning d) (start .args .values .now) (start .args .history .now) (start .args .n) (omega (arith, lows-count d, c .if1 .taken))
 
 holds-requires : tie.Need-holds-requires
-holds-requires c κs = let start = c .before .before .before .before .before .before .before in (lows-count (start .pre) ∙ sym (highs-count (start .pre)), c .before .if1 .left)
+holds-requires c κs = search needs
 
 same-length : tie.Need-same-length
 same-length c = search needs
