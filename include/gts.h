@@ -1,8 +1,17 @@
-/* The calls on a run of a guarded transition system (libcapi.a).
+/* The calls on a run of a guarded transition system (libcapi.a, made by `rt staticlib capi`).
  *
- * Each answers 0 and its results, or the number of the refusal (README) and nothing lent is changed, results included.
- * A run is values, history and n. No two buffers or cells of one call may overlap, and no pointer may be NULL, also where
- * its length is 0. No function keeps a pointer or holds state. */
+ * A model is a file of S states, F flows, E events, T transitions and N nodes, lent as bytes to every call. A run is
+ *   values   int32_t, at least S + F of them: states, then flows; a Boolean is 0 or 1
+ *   history  uint8_t, a place for each recorded transition; its length is how many steps can be recorded
+ *   n        how many are recorded
+ * A caller keeps them from one call to the next. Any content will do: a call that cannot go on from it refuses.
+ *
+ * Each call answers 0 and its results, or one of the numbers below, and then nothing that was lent has changed, results
+ * included. Cells past those in use are neither looked at nor written. If several refusals apply, the one that is named
+ * first at the call is answered.
+ *
+ * No two buffers or cells of one call may overlap, and no pointer may be NULL, also where its length is 0. Lengths are
+ * counted in elements, not in bytes. No call keeps a pointer, holds state, takes memory from the heap or does not end. */
 #ifndef GTS_H
 #define GTS_H
 
@@ -13,25 +22,81 @@
 extern "C" {
 #endif
 
-/* The sizes S F E T N into the first five cells; under 5 cells is 10. */
+/* The version of this header: the first number rises when a call changes, the second when one is added. */
+#define GTS_VERSION_MAJOR 1
+#define GTS_VERSION_MINOR 0
+
+/* The largest model. */
+#define GTS_MAX_NODES 4000
+#define GTS_MAX_DEPTH 32
+#define GTS_MAX_VARIABLES 510   /* S + F: values of this length are long enough for every model */
+#define GTS_MAX_TRANSITIONS 255 /* T: marks of this length are long enough for every model */
+#define GTS_MAX_BYTES 20006     /* 6 + 5 N: no longer file is accepted */
+
+/* Least lengths. */
+#define GTS_SIZES 5 /* of `sizes`; of `values` it is S + F, of `marks` T, of `history` none */
+
+/* The stack that a call needs, in bytes: the most that was measured is 59,512 (README), rounded up. It does not grow
+ * with the model: recursion goes by depth, at most GTS_MAX_DEPTH. */
+#define GTS_STACK_BYTES 65536
+
+/* Why a call refuses. */
+enum gts_refusal {
+    GTS_DONE = 0,
+    /* the model */
+    GTS_FILE_TOO_SHORT = 1,      /* under 6 bytes */
+    GTS_TOO_MANY_NODES = 2,      /* N above 4,000 */
+    GTS_WRONG_LENGTH = 3,        /* not 6 + 5 N bytes */
+    GTS_NODE_MISSING = 4,        /* a node is due past the N-th */
+    GTS_TOO_DEEP = 5,            /* depth 33 */
+    GTS_KIND_NOT_ALLOWED = 6,    /* a kind is not allowed where it stands */
+    GTS_PARAMETER_NOT_ALLOWED = 7, /* a parameter or a variable is not allowed where it stands */
+    GTS_NODES_LEFT_OVER = 8,
+    /* what is lent */
+    GTS_VALUES_TOO_SHORT = 9,    /* under S + F */
+    GTS_SLICE_TOO_SHORT = 10,    /* marks under T, sizes under GTS_SIZES */
+    GTS_NO_SUCH_TRANSITION = 11, /* T or above */
+    GTS_NO_SUCH_VARIABLE = 12,   /* S + F or above */
+    /* the run */
+    GTS_RUN_NOT_VALID = 20,      /* n above the history's length, one of the first n entries T or above, or a value outside its ends */
+    GTS_HISTORY_FULL = 21,       /* n is the history's length */
+    GTS_NOTHING_TO_UNDO = 22,    /* n is 0 */
+    /* the step */
+    GTS_GUARD_FALSE = 23,
+    GTS_GUARD_FAILED = 24,       /* a divisor is 0, or a number is beyond 32 bits */
+    GTS_ACTION_FAILED = 25,
+    GTS_ACTION_OUTSIDE = 26,     /* a value outside its variable's ends */
+    GTS_ACTION_CONFLICT = 27,    /* two different values for one variable */
+    GTS_ASSERTION_FAILED = 28,
+    GTS_ASSERTION_OUTSIDE = 29,
+    GTS_ASSERTION_CONFLICT = 30,
+    GTS_REPLAY_REFUSED = 31      /* start, or one of the first n - 1 entries, cannot be fired again */
+};
+
+/* The sizes S F E T N into the first five cells of `sizes`. Refuses by 1 to 8, 10. */
 uint8_t gts_check(const uint8_t *model, size_t len, uint32_t *sizes, size_t sizes_len);
 
-/* The states initial, then the assertion; n = 0. */
+/* The states take their initial values, then the assertion gives the flows theirs; n becomes 0. `rounds` is how many
+ * rounds the assertion took, at most F + 1. Refuses by 1 to 8, 9, 28 to 30. */
 uint8_t gts_start(const uint8_t *model, size_t len, int32_t *values, size_t values_len, size_t *n, size_t *rounds);
 
-/* Guard, action, assertion, then the transition at place n of the history, n one higher. */
+/* Guard, action, assertion, then the transition at place n of the history, n one higher.
+ * Refuses by 1 to 8, 9, 11, 20, 21, 23 to 30. */
 uint8_t gts_fire(const uint8_t *model, size_t len, int32_t *values, size_t values_len, uint8_t *history, size_t history_len, size_t *n, size_t transition, size_t *rounds);
 
-/* Back to the values before the last recorded transition, n one lower. */
+/* The values become those of a start and of the first n - 1 entries of the history fired again; n one lower. The values
+ * that were there are replaced, not compared. Refuses by 1 to 8, 9, 20, 22, 31. */
 uint8_t gts_undo(const uint8_t *model, size_t len, int32_t *values, size_t values_len, const uint8_t *history, size_t history_len, size_t *n);
 
-/* For each transition 1 if its guard is true, 0 false, 2 failed. */
+/* For each transition 1 if its guard is true, 0 false, 2 failed, into the first T cells of `marks`.
+ * Refuses by 1 to 8, 9, 10, 20. */
 uint8_t gts_marks(const uint8_t *model, size_t len, const int32_t *values, size_t values_len, const uint8_t *history, size_t history_len, size_t n, uint8_t *marks, size_t marks_len);
 
-/* The value of a variable. */
+/* The value of a variable. Refuses by 1 to 8, 9, 12, 20. */
 uint8_t gts_value(const uint8_t *model, size_t len, const int32_t *values, size_t values_len, const uint8_t *history, size_t history_len, size_t n, size_t variable, int32_t *value);
 
-/* Some transition whose mark is 1: found is 1. Where there is none, found is 0 and transition keeps its content. */
+/* Some transition whose mark is 1: `found` is 1. Where there is none, `found` is 0 and `transition` keeps its content.
+ * Refuses by 1 to 8, 9, 20. */
 uint8_t gts_pick(const uint8_t *model, size_t len, const int32_t *values, size_t values_len, const uint8_t *history, size_t history_len, size_t n, size_t *transition, uint8_t *found);
 
 #ifdef __cplusplus

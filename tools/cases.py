@@ -23,15 +23,6 @@ def model(states, flows, events, transitions, nodes, count=None):
     return header + bytes(k for k, _ in nodes) + b''.join(little(p, 4) for _, p in nodes)
 
 
-def sorts_of(file):
-    """The sorts of the variables of an accepted model file."""
-    at, sorts = 6, []
-    for _ in range(file[0] + file[1]):
-        sorts.append(BOOLEAN if file[at] == 1 else NUMBER)
-        at += 1 if file[at] == 1 else 3
-    return sorts
-
-
 def case(part, answer, numbers, body):
     header = bytes([part, answer]) + b''.join(little(x, 2) for x in numbers) + little(len(body), 4)
     return header + body
@@ -41,9 +32,10 @@ def model_case(file, answer, sizes=(0, 0, 0, 0, 0)):
     return case(1, answer, sizes, file)
 
 
-def expression_case(kinds, parameters, sorts, wanted, answer):
-    body = bytes(kinds) + b''.join(little(p, 4) for p in parameters) + bytes(sorts)
-    return case(2, answer, (wanted, len(kinds), len(parameters), len(sorts), 0), body)
+def expression_case(kinds, parameters, file, wanted, answer):
+    """An expression handed beside the model of a file."""
+    body = bytes(kinds) + b''.join(little(p, 4) for p in parameters) + file
+    return case(2, answer, (wanted, len(kinds), len(parameters), len(file), 0), body)
 
 
 def numbers(words):
@@ -53,7 +45,7 @@ def numbers(words):
 
 def stored_checks(path):
     """The cases of checks.txt."""
-    cases, file, kinds, sorts = [], b'', None, []
+    cases, file, kinds = [], b'', None
     with open(path) as lines:
         for line in lines:
             words = line.split()
@@ -67,11 +59,10 @@ def stored_checks(path):
                 wanted = BOOLEAN if words[1] == 'boolean' else NUMBER
             elif kinds is not None:
                 answer = 0 if words[1] == 'ok' else int(words[2])
-                cases.append(expression_case(kinds, parameters, sorts, wanted, answer))
+                cases.append(expression_case(kinds, parameters, file, wanted, answer))
             elif words[1] == 'no':
                 cases.append(model_case(file, int(words[2])))
             else:
-                sorts = sorts_of(file)
                 cases.append(model_case(file, 0, [int(w) for w in words[2:]]))
     return cases
 
@@ -240,11 +231,20 @@ def edges():
         (6, BOOLEAN, [SKIP]),
         (6, BOOLEAN, [FLAG]),
     ]
+    both = model(2, 0, 0, 0, [FLAG] + RANGE + [SKIP])
+    none = model(0, 0, 0, 0, [SKIP])
     for answer, wanted, nodes in outside:
-        cases.append(expression_case([k for k, _ in nodes], [p for _, p in nodes], [BOOLEAN, NUMBER], wanted, answer))
-    cases.append(expression_case([33], [], [], BOOLEAN, 3))
-    cases.append(expression_case([], [0], [], BOOLEAN, 3))
-    cases.append(expression_case([33, 33], [1], [], BOOLEAN, 3))
+        cases.append(expression_case([k for k, _ in nodes], [p for _, p in nodes], both, wanted, answer))
+    cases.append(expression_case([33], [], none, BOOLEAN, 3))
+    cases.append(expression_case([], [0], none, BOOLEAN, 3))
+    cases.append(expression_case([33, 33], [1], none, BOOLEAN, 3))
+    # the model's refusal comes first, whatever the expression is
+    cases.append(expression_case([33], [1], b'', BOOLEAN, 1))
+    cases.append(expression_case([33], [], bytes(5), BOOLEAN, 1))
+    cases.append(expression_case([33], [], bytes([0, 0, 0, 0, 161, 15]), BOOLEAN, 2))
+    cases.append(expression_case([], [], bytes(6), BOOLEAN, 4))
+    cases.append(expression_case([99], [0], model(1, 0, 0, 0, [(1, 2), SKIP]), BOOLEAN, 7))
+    cases.append(expression_case([33], [2], model(0, 0, 0, 0, [SKIP, SKIP]), BOOLEAN, 8))
     return cases
 
 

@@ -17,6 +17,7 @@ use model::Sizes;
 use run::Call;
 use run::Picked;
 use steps::Answer;
+use syntax::nodes;
 
 // How many lists and calls were carried out, and how many calls differed.
 struct Tally {
@@ -31,10 +32,27 @@ enum Outcome {
     Counted(Tally),
 }
 
-// What a call comes to: the end of the file, or whether all is as stored.
-enum Compared {
+// A stored call that was read: the end of the file, or how many bytes follow its header.
+enum Fetched {
     End,
-    Equal(bool),
+    Bytes(usize),
+}
+
+// The forms of an answer, as a call's header has them.
+impl Tally {
+    const REFUSED: u8 = 0;
+
+    const ROUNDS: u8 = 1;
+
+    const DONE: u8 = 2;
+
+    const VALUE: u8 = 3;
+
+    const SIZES: u8 = 4;
+
+    const TRANSITION: u8 = 5;
+
+    const NOTHING: u8 = 6;
 }
 
 fn wide(byte: u8) -> usize
@@ -189,14 +207,14 @@ fn is_number(head: &[u8; 32], form: u8, number: usize) -> bool {
 }
 
 fn is_value(head: &[u8; 32], value: i32) -> bool {
-    if head[1] != 3 {
+    if head[1] != Tally::VALUE {
         return false;
     }
     signed(four(head, 16)) == value
 }
 
 fn is_sizes(head: &[u8; 32], sizes: Sizes) -> bool {
-    if head[1] != 4 {
+    if head[1] != Tally::SIZES {
         return false;
     }
     if sizes.states != wide(head[16]) {
@@ -216,9 +234,9 @@ fn is_sizes(head: &[u8; 32], sizes: Sizes) -> bool {
 
 fn is_answer(head: &[u8; 32], answer: Answer) -> bool {
     match answer {
-        Answer::Refused(number) => is_number(head, 0, wide(number)),
-        Answer::Rounds(count) => is_number(head, 1, count),
-        Answer::Done => is_number(head, 2, 0),
+        Answer::Refused(number) => is_number(head, Tally::REFUSED, wide(number)),
+        Answer::Rounds(count) => is_number(head, Tally::ROUNDS, count),
+        Answer::Done => is_number(head, Tally::DONE, 0),
         Answer::Number(value) => is_value(head, value),
         Answer::Sizes(sizes) => is_sizes(head, sizes),
     }
@@ -226,16 +244,128 @@ fn is_answer(head: &[u8; 32], answer: Answer) -> bool {
 
 fn is_picked(head: &[u8; 32], allowed: &[u8], picked: Picked) -> bool {
     match picked {
-        Picked::Refused(number) => is_number(head, 0, wide(number)),
+        Picked::Refused(number) => is_number(head, Tally::REFUSED, wide(number)),
         Picked::Transition(transition) => {
-            if head[1] == 5 {
+            if head[1] == Tally::TRANSITION {
                 is_among(transition, allowed)
             } else {
                 false
             }
         }
-        Picked::Nothing => is_number(head, 6, 0),
+        Picked::Nothing => is_number(head, Tally::NOTHING, 0),
     }
+}
+
+// Prints a space and a number.
+fn tell_number(number: usize) {
+    io::write_all(STDOUT_FILENO, b" ");
+    io::print_decimal(STDOUT_FILENO, number as u64);
+}
+
+// Prints a space and a signed number.
+fn tell_value(value: i32) {
+    if value < 0 {
+        io::write_all(STDOUT_FILENO, b" -");
+        io::print_decimal(STDOUT_FILENO, nodes::magnitude(value) as u64);
+    } else {
+        tell_number(nodes::magnitude(value));
+    }
+}
+
+// Prints the form of an answer.
+fn tell_form(form: u8) {
+    match form {
+        0 => {
+            io::write_all(STDOUT_FILENO, b" refused");
+        }
+        1 => {
+            io::write_all(STDOUT_FILENO, b" rounds");
+        }
+        2 => {
+            io::write_all(STDOUT_FILENO, b" done");
+        }
+        3 => {
+            io::write_all(STDOUT_FILENO, b" value");
+        }
+        4 => {
+            io::write_all(STDOUT_FILENO, b" sizes");
+        }
+        5 => {
+            io::write_all(STDOUT_FILENO, b" transition");
+        }
+        _ => {
+            io::write_all(STDOUT_FILENO, b" nothing");
+        }
+    }
+}
+
+// Prints the wanted answer. Sizes are told as the header packs them; of pick, how many transitions it may answer.
+fn tell_wanted(head: &[u8; 32]) {
+    io::write_all(STDOUT_FILENO, b"wanted");
+    let form = head[1];
+    tell_form(form);
+    if form == Tally::VALUE {
+        tell_value(signed(four(head, 16)));
+        return;
+    }
+    if form == Tally::TRANSITION {
+        io::write_all(STDOUT_FILENO, b", one of");
+        tell_number(two(head, 2));
+        return;
+    }
+    tell_number(eight(head, 16));
+}
+
+// Prints a form and a number that came in place of the wanted answer.
+fn tell_came(form: u8, number: usize) {
+    io::write_all(STDOUT_FILENO, b", came");
+    tell_form(form);
+    tell_number(number);
+    io::write_all(STDOUT_FILENO, b"; ");
+}
+
+// Prints an answer that came in place of the wanted one. Of sizes the number of nodes is told.
+fn tell_answer(answer: Answer) {
+    match answer {
+        Answer::Refused(number) => tell_came(Tally::REFUSED, wide(number)),
+        Answer::Rounds(count) => tell_came(Tally::ROUNDS, count),
+        Answer::Done => tell_came(Tally::DONE, 0),
+        Answer::Number(value) => {
+            io::write_all(STDOUT_FILENO, b", came value");
+            tell_value(value);
+            io::write_all(STDOUT_FILENO, b"; ");
+        }
+        Answer::Sizes(sizes) => tell_came(Tally::SIZES, sizes.nodes),
+    }
+}
+
+// Prints what pick answered in place of the wanted answer.
+fn tell_picked(picked: Picked) {
+    match picked {
+        Picked::Refused(number) => tell_came(Tally::REFUSED, wide(number)),
+        Picked::Transition(transition) => tell_came(Tally::TRANSITION, transition),
+        Picked::Nothing => tell_came(Tally::NOTHING, 0),
+    }
+}
+
+// Is the answer the stored one? If not, both are told.
+fn is_wanted(head: &[u8; 32], answer: Answer) -> bool {
+    if is_answer(head, answer) {
+        return true;
+    }
+    tell_wanted(head);
+    tell_answer(answer);
+    false
+}
+
+// Is what pick answered one of the stored? If not, both are told.
+fn is_wanted_pick(head: &[u8; 32], allowed: &[u8], picked: Picked) -> bool {
+    if is_picked(head, allowed, picked) {
+        return true;
+    }
+    tell_wanted(head);
+    tell_picked(picked);
+    false
 }
 
 // The stored call, pick excepted.
@@ -264,9 +394,9 @@ fn is_answered(
 ) -> bool {
     if head[0] == 6 {
         let count = *n;
-        return is_picked(head, allowed, run::pick(model, values, history, count));
+        return is_wanted_pick(head, allowed, run::pick(model, values, history, count));
     }
-    is_answer(
+    is_wanted(
         head,
         run::perform(call_of(head), model, values, history, n, marks),
     )
@@ -289,41 +419,37 @@ fn is_equal(
     let answered = is_answered(head, &body[0..past], model, values, history, n, marks);
     let count = *n;
     if count != eight(head, 24) {
+        io::write_all(STDOUT_FILENO, b"wanted n");
+        tell_number(eight(head, 24));
+        io::write_all(STDOUT_FILENO, b", came");
+        tell_number(count);
+        io::write_all(STDOUT_FILENO, b"; ");
         return false;
     }
     if !is_same_store(&body[past..], values, history, marks) {
+        io::write_all(STDOUT_FILENO, b"a value, an entry or a mark is another; ");
         return false;
     }
     answered
 }
 
-// Reads a call and carries it out.
-fn next_call(
-    fd: i32,
-    store: usize,
-    body: &mut [u8],
-    model: &[u8],
-    values: &mut [i32],
-    history: &mut [u8],
-    n: &mut usize,
-    marks: &mut [u8],
-) -> Compared
+// Reads the header of a call and what follows it, a store of so many bytes included.
+fn read_call(fd: i32, store: usize, head: &mut [u8; 32], body: &mut [u8]) -> Fetched
     requires { ⌜ store < 1000000 ⌝ }
 {
-    let mut head = [0u8; 32];
-    let read = io::read_full(fd, &mut head);
+    let read = io::read_full(fd, head);
     if read < 32 {
-        return Compared::End;
+        return Fetched::End;
     }
-    let bytes = two(&head, 2) + store;
+    let bytes = two(head, 2) + store;
     if body.len() < bytes {
-        return Compared::End;
+        return Fetched::End;
     }
     let filled = io::read_full(fd, &mut body[0..bytes]);
     if filled < bytes {
-        return Compared::End;
+        return Fetched::End;
     }
-    Compared::Equal(is_equal(&head, &body[0..bytes], model, values, history, n, marks))
+    Fetched::Bytes(bytes)
 }
 
 // The tally with one call more; a call that differs is told.
@@ -354,7 +480,6 @@ fn all_calls(
     count: usize,
     first: usize,
     store: usize,
-    body: &mut [u8],
     model: &[u8],
     values: &mut [i32],
     history: &mut [u8],
@@ -363,14 +488,30 @@ fn all_calls(
 ) -> Outcome
     requires { ⌜ store < 1000000 ⌝ }
 {
+    let mut head = [0u8; 32];
+    let mut body = [0u8; 4096];
     let mut n = first;
     let mut tally = before;
     let mut left = count;
     while 0 < left {
         left -= 1;
-        match next_call(fd, store, body, model, values, history, &mut n, marks) {
-            Compared::End => return Outcome::End,
-            Compared::Equal(is_same) => tally = counted(tally, is_same),
+        match read_call(fd, store, &mut head, &mut body) {
+            Fetched::End => return Outcome::End,
+            Fetched::Bytes(bytes) => {
+                if 4096 < bytes {
+                    return Outcome::End;
+                }
+                let is_same = is_equal(
+                    &head,
+                    &body[0..bytes],
+                    model,
+                    values,
+                    history,
+                    &mut n,
+                    marks,
+                );
+                tally = counted(tally, is_same);
+            }
         }
     }
     Outcome::Counted(tally)
@@ -410,22 +551,11 @@ fn from_beginning(
         return Outcome::End;
     }
     load(body, values, history, marks);
-    all_calls(
-        fd,
-        count,
-        n,
-        store,
-        body,
-        model,
-        values,
-        history,
-        marks,
-        tally,
-    )
+    all_calls(fd, count, n, store, model, values, history, marks, tally)
 }
 
 // A list on a run that is made of parts of local arrays, with the stored lengths.
-fn one_list(fd: i32, head: &[u8; 32], model: &[u8], body: &mut [u8], tally: Tally) -> Outcome {
+fn one_list(fd: i32, head: &[u8; 32], model: &[u8], tally: Tally) -> Outcome {
     let variables = two(head, 8);
     let places = two(head, 10);
     let transitions = two(head, 12);
@@ -441,11 +571,12 @@ fn one_list(fd: i32, head: &[u8; 32], model: &[u8], body: &mut [u8], tally: Tall
     let mut values = [0i32; 512];
     let mut history = [0u8; 512];
     let mut marks = [0u8; 512];
+    let mut body = [0u8; 4096];
     from_beginning(
         fd,
         two(head, 14),
         eight(head, 24),
-        body,
+        &mut body,
         model,
         &mut values[0..variables],
         &mut history[0..places],
@@ -464,14 +595,7 @@ fn begun(tally: Tally) -> Tally {
 }
 
 // Reads a list and carries it out on its model, or on its twin.
-fn next_list(
-    fd: i32,
-    of_twin: bool,
-    model: &mut [u8],
-    twin: &mut [u8],
-    body: &mut [u8],
-    tally: Tally,
-) -> Outcome {
+fn next_list(fd: i32, of_twin: bool, model: &mut [u8], twin: &mut [u8], tally: Tally) -> Outcome {
     let mut head = [0u8; 32];
     let read = io::read_full(fd, &mut head);
     if read < 32 {
@@ -494,14 +618,14 @@ fn next_list(
         return Outcome::End;
     }
     if of_twin {
-        one_list(fd, &head, &twin[0..second], body, begun(tally))
+        one_list(fd, &head, &twin[0..second], begun(tally))
     } else {
-        one_list(fd, &head, &model[0..first], body, begun(tally))
+        one_list(fd, &head, &model[0..first], begun(tally))
     }
 }
 
 // All lists of the file. The turns fall, so the loop ends whatever the file holds.
-fn all_lists(fd: i32, of_twin: bool, model: &mut [u8], twin: &mut [u8], body: &mut [u8]) -> Tally {
+fn all_lists(fd: i32, of_twin: bool, model: &mut [u8], twin: &mut [u8]) -> Tally {
     let mut tally = Tally {
         lists: 0,
         calls: 0,
@@ -510,7 +634,7 @@ fn all_lists(fd: i32, of_twin: bool, model: &mut [u8], twin: &mut [u8], body: &m
     let mut turns: u64 = 1000000;
     while 0 < turns {
         turns -= 1;
-        match next_list(fd, of_twin, model, twin, body, tally) {
+        match next_list(fd, of_twin, model, twin, tally) {
             Outcome::End => return tally,
             Outcome::Counted(next) => tally = next,
         }
@@ -526,8 +650,7 @@ fn carried_out(of_twin: bool) -> Tally {
     }
     let mut model = [0u8; 24576];
     let mut twin = [0u8; 24576];
-    let mut body = [0u8; 4096];
-    let tally = all_lists(fd, of_twin, &mut model, &mut twin, &mut body);
+    let tally = all_lists(fd, of_twin, &mut model, &mut twin);
     libc::close(fd);
     tally
 }

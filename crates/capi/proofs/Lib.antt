@@ -1,3 +1,4 @@
--- Laws that the proofs of the functions cite.
-pub mod Following
+-- Laws that the proofs of the functions cite, and the theorem.
+pub mod Coding
+pub mod Reached
 pub mod Sizing

@@ -1,34 +1,82 @@
 // The calls on a run for C: 0 and the results, or the number of the refusal and nothing that was lent changed.
 
 ghost use mathlib.Core.Path.{_≡_};
-ghost use mathlib.Core.List.{List};
-ghost use Prim.Native.Nat.{ℕ};
-ghost use Rattle.model.specs.Check.{verdict};
-ghost use Rattle.steps.specs.Runs.{run};
-ghost use Rattle.run.specs.Calls as calls;
-ghost use Rattle.inspection.specs.Looks as looks;
-ghost use Rattle.steps.specs.Answers.{onFile, onFileAnswer};
-ghost use Rattle.capi.specs.Codes.{coded, codedBy, codedRounds, codedNumber, codedSizes, PickCoded};
+ghost use Rattle.steps.specs.Answers.{seen};
+ghost use Rattle.capi.specs.Codes.{codeOf, roundsOr, numberOr};
+ghost use Rattle.capi.specs.Promises.{CheckCoded, StartCoded, FireCoded, UndoCoded, MarksCoded, ValueCoded, PickCoded};
 use model::Checked;
 use run::Picked;
 use steps::Answer;
 
-// The five sizes S F E T N; under 5 cells is 10.
+// The cells of the sizes S F E T N.
+const STATES: usize = 0;
+
+const FLOWS: usize = 1;
+
+const EVENTS: usize = 2;
+
+const TRANSITIONS: usize = 3;
+
+const NODES: usize = 4;
+
+// How many they are.
+const SIZE_CELLS: usize = 5;
+
+// The code of an answer: the number of the refusal, else 0.
+fn code_of(answer: Answer) -> u8
+    ensures { λ r. ⌜ r ≡ codeOf (seen answer) ⌝ }
+{
+    match answer {
+        Answer::Refused(number) => number,
+        Answer::Rounds(_) => 0,
+        Answer::Done => 0,
+        Answer::Number(_) => 0,
+        Answer::Sizes(_) => 0,
+    }
+}
+
+// The round count where one is answered, else what stood there.
+fn rounds_or(old: usize, answer: Answer) -> usize
+    ensures { λ r. ⌜ r ≡ roundsOr old (seen answer) ⌝ }
+{
+    match answer {
+        Answer::Refused(_) => old,
+        Answer::Rounds(count) => count,
+        Answer::Done => old,
+        Answer::Number(_) => old,
+        Answer::Sizes(_) => old,
+    }
+}
+
+// The value where one is answered, else what stood there.
+fn number_or(old: i32, answer: Answer) -> i32
+    ensures { λ r. ⌜ r ≡ numberOr old (seen answer) ⌝ }
+{
+    match answer {
+        Answer::Refused(_) => old,
+        Answer::Rounds(_) => old,
+        Answer::Done => old,
+        Answer::Number(found) => found,
+        Answer::Sizes(_) => old,
+    }
+}
+
+// The five sizes; under 5 cells is 10.
 #[no_mangle]
 pub extern "C" fn gts_check(model: &[u8], sizes: &mut [u32]) -> u8
-    ensures { λ r. ⌜ coded r (now (sizes .exit)) ≡ codedSizes (now (sizes .entry)) (verdict (now (model .entry))) ⌝ }
+    ensures { λ r. ⌜ CheckCoded (now (model .entry)) (now (sizes .entry)) r (now (sizes .exit)) ⌝ }
 {
     match run::check(model) {
         Checked::Refused(number) => number,
         Checked::Accepted(found) => {
-            if sizes.len() < 5 {
+            if sizes.len() < SIZE_CELLS {
                 return 10;
             }
-            sizes[0] = found.states as u32;
-            sizes[1] = found.flows as u32;
-            sizes[2] = found.events as u32;
-            sizes[3] = found.transitions as u32;
-            sizes[4] = found.nodes as u32;
+            sizes[STATES] = found.states as u32;
+            sizes[FLOWS] = found.flows as u32;
+            sizes[EVENTS] = found.events as u32;
+            sizes[TRANSITIONS] = found.transitions as u32;
+            sizes[NODES] = found.nodes as u32;
             0
         }
     }
@@ -42,19 +90,13 @@ pub extern "C" fn gts_start(
     n: &mut usize,
     rounds: &mut usize,
 ) -> u8
-    ensures { λ r. ⌜ ((history : List ℕ) → coded r (run (now (values .exit)) history (now (n .exit)), now (rounds .exit))
-        ≡ codedRounds (now (rounds .entry)) (onFile (verdict (now (model .entry))) (λ m. calls.start m (run (now (values .entry)) history (now (n .entry)))) (run (now (values .entry)) history (now (n .entry))))) ⌝ }
+    ensures { λ r. ⌜ StartCoded (now (model .entry)) (now (values .entry)) (now (n .entry)) (now (rounds .entry)) r
+        (now (values .exit)) (now (n .exit)) (now (rounds .exit)) ⌝ }
 {
-    match run::start(model, values, n) {
-        Answer::Refused(number) => number,
-        Answer::Rounds(count) => {
-            *rounds = count;
-            0
-        }
-        Answer::Done => 0,
-        Answer::Number(_) => 0,
-        Answer::Sizes(_) => 0,
-    }
+    let old = *rounds;
+    let answer = run::start(model, values, n);
+    *rounds = rounds_or(old, answer);
+    code_of(answer)
 }
 
 // Fire of a transition, with the round count.
@@ -67,34 +109,21 @@ pub extern "C" fn gts_fire(
     transition: usize,
     rounds: &mut usize,
 ) -> u8
-    ensures { λ r. ⌜ coded r (run (now (values .exit)) (now (history .exit)) (now (n .exit)), now (rounds .exit))
-        ≡ codedRounds (now (rounds .entry)) (onFile (verdict (now (model .entry))) (λ m. calls.fire m transition (run (now (values .entry)) (now (history .entry)) (now (n .entry)))) (run (now (values .entry)) (now (history .entry)) (now (n .entry)))) ⌝ }
+    ensures { λ r. ⌜ FireCoded (now (model .entry)) (now (values .entry)) (now (history .entry)) (now (n .entry)) transition (now (rounds .entry)) r
+        (now (values .exit)) (now (history .exit)) (now (n .exit)) (now (rounds .exit)) ⌝ }
 {
-    match run::fire(model, values, history, n, transition) {
-        Answer::Refused(number) => number,
-        Answer::Rounds(count) => {
-            *rounds = count;
-            0
-        }
-        Answer::Done => 0,
-        Answer::Number(_) => 0,
-        Answer::Sizes(_) => 0,
-    }
+    let old = *rounds;
+    let answer = run::fire(model, values, history, n, transition);
+    *rounds = rounds_or(old, answer);
+    code_of(answer)
 }
 
 // Undo of the last recorded transition.
 #[no_mangle]
 pub extern "C" fn gts_undo(model: &[u8], values: &mut [i32], history: &[u8], n: &mut usize) -> u8
-    ensures { λ r. ⌜ coded r (run (now (values .exit)) (now (history .entry)) (now (n .exit)))
-        ≡ codedBy (onFile (verdict (now (model .entry))) (λ m. calls.undo m (run (now (values .entry)) (now (history .entry)) (now (n .entry)))) (run (now (values .entry)) (now (history .entry)) (now (n .entry)))) ⌝ }
+    ensures { λ r. ⌜ UndoCoded (now (model .entry)) (now (values .entry)) (now (history .entry)) (now (n .entry)) r (now (values .exit)) (now (n .exit)) ⌝ }
 {
-    match run::undo(model, values, history, n) {
-        Answer::Refused(number) => number,
-        Answer::Rounds(_) => 0,
-        Answer::Done => 0,
-        Answer::Number(_) => 0,
-        Answer::Sizes(_) => 0,
-    }
+    code_of(run::undo(model, values, history, n))
 }
 
 // For each transition 1 if its guard is true, 0 false, 2 failed.
@@ -106,16 +135,9 @@ pub extern "C" fn gts_marks(
     n: usize,
     marks: &mut [u8],
 ) -> u8
-    ensures { λ r. ⌜ coded r (now (marks .exit))
-        ≡ codedBy (onFile (verdict (now (model .entry))) (λ m. looks.marks m (run (now (values .entry)) (now (history .entry)) n) (now (marks .entry))) (now (marks .entry))) ⌝ }
+    ensures { λ r. ⌜ MarksCoded (now (model .entry)) (now (values .entry)) (now (history .entry)) n (now (marks .entry)) r (now (marks .exit)) ⌝ }
 {
-    match run::marks(model, values, history, n, marks) {
-        Answer::Refused(number) => number,
-        Answer::Rounds(_) => 0,
-        Answer::Done => 0,
-        Answer::Number(_) => 0,
-        Answer::Sizes(_) => 0,
-    }
+    code_of(run::marks(model, values, history, n, marks))
 }
 
 // The value of a variable.
@@ -128,19 +150,12 @@ pub extern "C" fn gts_value(
     variable: usize,
     value: &mut i32,
 ) -> u8
-    ensures { λ r. ⌜ coded r (now (value .exit))
-        ≡ codedNumber (now (value .entry)) (onFileAnswer (verdict (now (model .entry))) (λ m. looks.value m variable (run (now (values .entry)) (now (history .entry)) n))) ⌝ }
+    ensures { λ r. ⌜ ValueCoded (now (model .entry)) (now (values .entry)) (now (history .entry)) n variable (now (value .entry)) r (now (value .exit)) ⌝ }
 {
-    match run::value(model, values, history, n, variable) {
-        Answer::Refused(number) => number,
-        Answer::Rounds(_) => 0,
-        Answer::Done => 0,
-        Answer::Number(found) => {
-            *value = found;
-            0
-        }
-        Answer::Sizes(_) => 0,
-    }
+    let old = *value;
+    let answer = run::value(model, values, history, n, variable);
+    *value = number_or(old, answer);
+    code_of(answer)
 }
 
 // Some fireable transition: found is 1; where there is none found is 0 and the transition stays.
@@ -153,8 +168,8 @@ pub extern "C" fn gts_pick(
     transition: &mut usize,
     found: &mut u8,
 ) -> u8
-    ensures { λ r. ⌜ PickCoded (verdict (now (model .entry))) (run (now (values .entry)) (now (history .entry)) n)
-        (now (transition .entry), now (found .entry)) (coded r (now (transition .exit), now (found .exit))) ⌝ }
+    ensures { λ r. ⌜ PickCoded (now (model .entry)) (now (values .entry)) (now (history .entry)) n (now (transition .entry)) (now (found .entry)) r
+        (now (transition .exit)) (now (found .exit)) ⌝ }
 {
     match run::pick(model, values, history, n) {
         Picked::Refused(number) => number,

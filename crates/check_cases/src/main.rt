@@ -3,8 +3,8 @@
 // A case is a header of 16 bytes and a body; numbers stand low byte first. Header: the part of the check (1 a model, 2 an
 // expression handed outside a model), the wanted answer (a refusal's number, 0 for none), five numbers of two bytes, and the
 // body's length in four bytes. The five numbers of a model are its sizes; those of an expression are its sort (1 Boolean, 2
-// number) and its counts of kinds, parameters and variables, which stand in the body in this order, a parameter in
-// four bytes and a variable's sort in one.
+// number) and its counts of kinds and parameters and the length of the model that it is handed beside, which stand in the
+// body in this order, a parameter in four bytes.
 ghost use Prim.Native.Nat.{_+_, _*_, _≤_, _<_};
 ghost use lib.ListN.{length};
 use libc::STDOUT_FILENO;
@@ -101,9 +101,9 @@ fn model_answer(head: &[u8; 16], body: &[u8]) -> u8 {
     }
 }
 
-// The refusal of an expression; 0 if it is accepted.
-fn given_answer(kinds: &[u8], parameters: &[i32], sorts: &[u8], wanted: Sort) -> u8 {
-    match model::check::check_expression(kinds, parameters, sorts, wanted) {
+// The refusal of an expression handed beside a model; 0 if it is accepted.
+fn given_answer(kinds: &[u8], parameters: &[i32], file: &[u8], wanted: Sort) -> u8 {
+    match decoding::check_expression(file, kinds, parameters, wanted) {
         Given::Refused(number) => number,
         Given::Accepted => 0,
     }
@@ -114,14 +114,14 @@ fn first_answer(
     kinds: &[u8],
     parameters: &[i32; 6000],
     count: usize,
-    sorts: &[u8],
+    file: &[u8],
     wanted: Sort,
 ) -> u8 {
     let parameters: &[i32] = parameters;
     if parameters.len() < count {
         return 254;
     }
-    given_answer(kinds, &parameters[0..count], sorts, wanted)
+    given_answer(kinds, &parameters[0..count], file, wanted)
 }
 
 // The same of the expression in a body; 254 where the body is none.

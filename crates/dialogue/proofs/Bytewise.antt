@@ -1,53 +1,73 @@
--- An input taken byte by byte, six bytes of each line kept, is answered as its lines are.
+-- An input taken byte by byte is answered as its lines are, and how it is cut into parts does not matter.
 use mathlib.Core.Path.{_≡_, refl, sym, ap, _∙_}
 use mathlib.Core.Bool.{Bool, true, false, cond}
-use mathlib.Core.List.{List, [], _∷_, _++_, append-nil}
-use Prim.Native.Nat.{ℕ, zero, suc}
+use mathlib.Core.List.{List, [], _∷_, _++_, append-nil, append-assoc, flatten}
+use Prim.Native.Nat.{ℕ}
 use lib.Dec.{eqb}
 use lib.ListN.{take}
-use Rattle.steps.specs.Runs.{Store}
-use Rattle.console.specs.Commands.{commandOf}
-use Rattle.console.proofs.Commands.{command-of-first}
-use Rattle.dialogue.specs.Replies.{Turn, reply, replied, turn, turned, closing, turns, linesAfter, replies}
-use Rattle.dialogue.specs.Theorems.{AnsweredByLines}
-
-take-take-append : {A : Type 0} (n : ℕ) (l x : List A) → take n (take n l ++ x) ≡ take n (l ++ x)
-take-take-append zero l x = refl
-take-take-append (suc n) [] x = refl
-take-take-append (suc n) (a ∷ l) x = ap (λ r. a ∷ r) (take-take-append n l x)
+use Rattle.results.specs.Results.{answered}
+use Rattle.standing.specs.Runs.{Store}
+use Rattle.commands.specs.Commands.{commandOf}
+use Rattle.commands.proofs.Commands.{command-of-first}
+use Rattle.lines.specs.Lines.{feedByte}
+use Rattle.replies.specs.Replies.{reply}
+use Rattle.dialogue.specs.Sizes.{keptBytes}
+use Rattle.dialogue.specs.Transcript.{linesAfter, replies}
+use Rattle.dialogue.specs.Turns.{Progress, Turn, progress, ended, turn, after, turns, parts, closing, closingBy}
+use Rattle.dialogue.specs.Theorems.{AnsweredByLines, PartsAsWhole}
+use Rattle.dialogue.proofs.Scanning.{take-take-append, turn-ended, turn-kept}
 
 module _ (m : List ℕ) where
-  -- the first six bytes of a line are answered as the line is
-  first-answered : (l : List ℕ) (s : Store) → reply m (commandOf (take 6 l)) s ≡ reply m (commandOf l) s
+  -- what is printed by a turn and the end after it
+  abbrev pub toEnd : Turn → List ℕ
+  toEnd t = t .answer ++ closing m (t .left) .answer
+
+  -- the first bytes of a line are answered as the line is
+  first-answered : (l : List ℕ) (s : Store) → reply m (commandOf (take keptBytes l)) s ≡ reply m (commandOf l) s
   first-answered l s = ap (λ c. reply m c s) (sym (command-of-first l))
 
-  turn-ended : (byte : ℕ) (kept : List ℕ) (s : Store) → eqb byte 10 ≡ true → turn m byte kept s ≡ turned [] (reply m (commandOf kept) s)
-  unfolding turn
-  turn-ended byte kept s e = rw e
+  pub after-to-end : (t u : Turn) → toEnd (after t u) ≡ t .answer ++ toEnd u
+  after-to-end t u = append-assoc (t .answer) (u .answer) (closing m (u .left) .answer)
 
-  turn-kept : (byte : ℕ) (kept : List ℕ) (s : Store) → eqb byte 10 ≡ false → turn m byte kept s ≡ turned (take 6 (kept ++ (byte ∷ []))) (replied [] s)
-  unfolding turn
-  turn-kept byte kept s e = rw e
+  abbrev onward : List ℕ → Turn → List ℕ
+  onward input t = t .answer ++ toEnd (turns m input (t .left))
 
-  abbrev after : Turn → List ℕ → List ℕ
-  after t input = t .reply .text ++ turns m input (t .kept) (t .reply .left)
-
-  answered : (input begun : List ℕ) (s : Store) → turns m input (take 6 begun) s ≡ replies m (linesAfter input begun) s
-  unfolding turns replies linesAfter closing
-  answered [] [] s = refl
-  answered [] (b ∷ begun) s = ap (λ r. r .text) (first-answered (b ∷ begun) s) ∙ sym (append-nil (reply m (commandOf (b ∷ begun)) s .text))
-  answered (byte ∷ input) begun s = by (eqb byte 10) refl (answered input)
+  by-lines : (input begun : List ℕ) (s : Store) → toEnd (turns m input (progress (take keptBytes begun) s)) ≡ replies m (linesAfter input begun) s
+  unfolding turns replies linesAfter closingBy
+  by-lines [] [] s = refl
+  by-lines [] (b ∷ begun) s = ap (λ r. r .answer) (first-answered (b ∷ begun) s) ∙ sym (append-nil (reply m (commandOf (b ∷ begun)) s .answer))
+  by-lines (byte ∷ input) begun s =
+      let t = turn m byte (progress (take keptBytes begun) s) in
+      after-to-end t (turns m input (t .left)) ∙ by (eqb byte feedByte) refl (by-lines input)
     where
-      by : (t : Bool) → eqb byte 10 ≡ t
-          → ((begun : List ℕ) (s : Store) → turns m input (take 6 begun) s ≡ replies m (linesAfter input begun) s)
-          → after (turn m byte (take 6 begun) s) input ≡ replies m (cond t (begun ∷ linesAfter input []) (linesAfter input (begun ++ (byte ∷ [])))) s
+      by : (t : Bool) → eqb byte feedByte ≡ t
+          → ((begun : List ℕ) (s : Store) → toEnd (turns m input (progress (take keptBytes begun) s)) ≡ replies m (linesAfter input begun) s)
+          → onward input (turn m byte (progress (take keptBytes begun) s))
+          ≡ replies m (cond t (begun ∷ linesAfter input []) (linesAfter input (begun ++ (byte ∷ [])))) s
       by true e rest =
-          ap (λ t. after t input) (turn-ended byte (take 6 begun) s e ∙ ap (turned []) (first-answered begun s))
-          ∙ ap (λ x. reply m (commandOf begun) s .text ++ x) (rest [] (reply m (commandOf begun) s .left))
+          ap (onward input) (turn-ended m byte (take keptBytes begun) s e ∙ ap ended (first-answered begun s))
+          ∙ ap (λ x. reply m (commandOf begun) s .answer ++ x) (rest [] (reply m (commandOf begun) s .left))
       by false e rest =
-          ap (λ t. after t input) (turn-kept byte (take 6 begun) s e)
-          ∙ ap (λ k. turns m input k s) (take-take-append 6 begun (byte ∷ []))
+          ap (onward input) (turn-kept m byte (take keptBytes begun) s e)
+          ∙ ap (λ k. toEnd (turns m input (progress k s))) (take-take-append keptBytes begun (byte ∷ []))
           ∙ rest (begun ++ (byte ∷ [])) s
 
+  turns-append : (a b : List ℕ) (s : Progress) → turns m (a ++ b) s ≡ after (turns m a s) (turns m b (turns m a s .left))
+  unfolding turns
+  turns-append [] b s = refl
+  turns-append (byte ∷ a) b s =
+      let t = turn m byte s in
+      let u = turns m a (t .left) in
+      let v = turns m b (u .left) in
+      ap (after t) (turns-append a b (t .left)) ∙ ap (λ x. answered x (v .left)) (sym (append-assoc (t .answer) (u .answer) (v .answer)))
+
+  pub parts-joined : (ps : List (List ℕ)) (s : Progress) → parts m ps s ≡ turns m (flatten ps) s
+  unfolding parts turns flatten
+  parts-joined [] s = refl
+  parts-joined (p ∷ ps) s = ap (after (turns m p s)) (parts-joined ps (turns m p s .left)) ∙ sym (turns-append p (flatten ps) s)
+
 pub answered-by-lines : AnsweredByLines
-answered-by-lines m input s = answered m input [] s
+answered-by-lines m input s = by-lines m input [] s
+
+pub parts-as-whole : PartsAsWhole
+parts-as-whole m ps s = parts-joined m ps s

@@ -13,7 +13,7 @@ use Rattle.model.specs.declared.Sized.the-variants.{Refused, Read}
 use Rattle.model.specs.Sizes.{byteLayout, maxNodes, littleAt, sizesIn, sized}
 use Rattle.model.specs.Check.{verdict, verdictIn}
 use Rattle.model.specs.Check.Verdict.{refusal, accepted}
-use Rattle.dialogue.specs.Program.{fileBytes}
+use Rattle.dialogue.specs.Sizes.{longestFile, fileBytes}
 use Rattle.dialogue.specs.Theorems.{LongFileRefused, VerdictOfFirst}
 
 -- the number of nodes that a file's header has
@@ -31,7 +31,7 @@ unfolding verdictIn
 two-or-three m true rest h = refl
 two-or-three m false rest h = rw (h refl)
 
-pub long-file : (m : List ℕ) → 20006 < length m → verdict m ≡ cond (ltb maxNodes (nodesIn m)) (refusal 2) (refusal 3)
+pub long-file : (m : List ℕ) → longestFile < length m → verdict m ≡ cond (ltb maxNodes (nodesIn m)) (refusal 2) (refusal 3)
 unfolding verdict sized nodesIn
 long-file m h =
     rw (le-ltb (length m) 6 (omega arith))
@@ -42,11 +42,11 @@ long-file m h =
     rw (ne-eqb (length m) (6 + 5 * sizesIn byteLayout m .nodes) (omega arith))))
 
 pub verdict-of-first : VerdictOfFirst
-verdict-of-first m = by (ltb 20006 (length m)) refl
+verdict-of-first m = by (ltb longestFile (length m)) refl
   where
-    by : (t : Bool) → ltb 20006 (length m) ≡ t → verdict m ≡ verdict (take fileBytes m)
+    by : (t : Bool) → ltb longestFile (length m) ≡ t → verdict m ≡ verdict (take fileBytes m)
     by true e =
-        let long : 20006 < length m = ltb-true 20006 (length m) e in
+        let long : longestFile < length m = ltb-true longestFile (length m) e in
         long-file m long ∙ rw (← nodes-of-first fileBytes m (omega arith))
         (sym (long-file (take fileBytes m) (rw (length-take-le fileBytes m (omega arith)) (omega arith))))
     by false e = ap verdict (sym (take-all fileBytes m (omega (arith, ltb-false))))

@@ -1,8 +1,10 @@
 -- Proofs of crate `dialogue`: what the functions are proved by, then the statements of specs/.
-pub mod Answering
 pub mod Kept
+pub mod Scanning
+pub mod FirstCells
 pub mod RunSizes
 pub mod Files
 pub mod Bytewise
-pub mod Lengths
-pub mod Program
+pub mod Pieces
+pub mod Printed
+pub mod Order

@@ -1,5 +1,10 @@
--- Definitions and statements of crate `dialogue`, in document 01's order.
-pub mod Replies
-pub mod Printing
+-- Definitions and statements of crate `dialogue`.
+-- 01's own:
+pub mod Sizes
+pub mod Transcript
+-- how the code goes about it:
+pub mod Turns
+pub mod Cells
 pub mod Program
+-- statements:
 pub mod Theorems

@@ -1,55 +1,57 @@
--- What a program prints that is made of these functions, by their promises: it reads the file, asks for the dimensions of the run, opens it
--- and takes the input byte by byte to its end, with one slice for all lines. Each line that is written is printed.
+-- What a program prints that is made of these functions, by their promises: it reads the file, opens the run, takes the input part by part,
+-- each part piece by piece (a piece ends with a line feed, or where the part ends), and closes, with one slice for all lines. After each
+-- call it prints the text at the beginning of the slice.
 use mathlib.Core.Bool.{cond}
-use mathlib.Core.List.{List, [], _∷_, _++_}
-use Prim.Native.Nat.{ℕ}
-use lib.ListN.{take}
+use mathlib.Core.List.{List, [], _∷_, _++_, map, flatten}
+use Prim.Native.Nat.{ℕ, zero, suc, _+_}
+use lib.Dec.{ltb}
+use lib.IntN.{pos}
+use lib.ListN.{length, take, drop, replicate}
+use Rattle.results.specs.Results.{Answered}
+use Rattle.model.specs.Sizes.{maxVariables, maxTransitions}
 use Rattle.model.specs.Check.{verdict}
-use Rattle.steps.specs.Runs.{Store}
-use Rattle.console.specs.declared.Written.{Written}
-use Rattle.console.specs.declared.Written.the-variants.{Length, TooShort}
-use Rattle.console.specs.Lines.{refusalText, room, markWidth, Output, lineInto}
+use Rattle.standing.specs.Runs.{Store, run, store}
+use Rattle.replies.specs.Replies.{opening, isStarted}
 use Rattle.dialogue.specs.declared.Dimensions.{Dimensions}
-use Rattle.dialogue.specs.declared.Dimensions.the-variants.{Refused, Known}
-use Rattle.dialogue.specs.Replies.{opening, turn, closing, fresh}
-use Rattle.dialogue.specs.Printing.{Printed, replyInto, OpenedInto, openInto, turnInto, dimensionsOf}
+use Rattle.dialogue.specs.Sizes.{places}
+use Rattle.dialogue.specs.Turns.{Progress, progress, turns, closing, toLineFeed, firstLine}
+use Rattle.dialogue.specs.Cells.{dimensionsOf, inUse, into}
 
--- how many bytes are read of the file: one more than 6 + 5 * 4,000, which no accepted file exceeds
-abbrev pub fileBytes : ℕ
-fileBytes = 20007
+-- the text at the beginning of a slice
+abbrev pub textIn : Answered ℕ (List ℕ) → List ℕ
+textIn a = take (a .answer) (a .left)
 
--- how many bytes the slice for the lines has: 24 + 12 * 510, room for 510 values
-abbrev pub lineBytes : ℕ
-lineBytes = 6144
+-- what the calls of `take_line` take of a part, each from the place where the one before it ended, while bytes are left; at most `calls` of them
+unfoldable pub piecesFrom : ℕ → List ℕ → ℕ → List (List ℕ)
+piecesFrom zero part from = []
+piecesFrom (suc calls) part from =
+    cond (ltb from (length part)) (firstLine (drop from part) ∷ piecesFrom calls part (from + toLineFeed (drop from part))) []
 
--- the line at the beginning of a slice; none if it was too short
-unfoldable pub lineIn : Written → List ℕ → List ℕ
-lineIn (Length n) out = take n out
-lineIn TooShort out = []
+-- each call takes a byte at least, so there are no more calls than bytes
+abbrev pub pieces : List ℕ → List (List ℕ)
+pieces part = piecesFrom (length part) part 0
 
-abbrev pub printedLine : Printed → List ℕ
-printedLine p = lineIn (p .answer) (p .cells)
+-- the pieces of all parts
+abbrev pub piecesOf : List (List ℕ) → List (List ℕ)
+piecesOf ps = flatten (map pieces ps)
 
--- `step` for each byte of the input, `close` at its end
-unfoldable pub stepsText : List ℕ → List ℕ → List ℕ → List ℕ → Store → List ℕ
-stepsText m [] kept out s = printedLine (replyInto out s (closing m kept s))
-stepsText m (byte ∷ input) kept out s =
-    let t = turnInto out s kept (turn m byte kept s) in
-    printedLine (t .printed) ++ stepsText m input (t .kept) (t .printed .cells) (t .printed .left)
+-- the pieces of the input, then its end
+unfoldable pub piecesText : List ℕ → List (List ℕ) → List ℕ → Progress → List ℕ
+piecesText m [] out s = textIn (into out (closing m s) .answer)
+piecesText m (p ∷ ps) out s =
+    let t = into out (turns m p s) in
+    textIn (t .answer) ++ piecesText m ps (t .answer .left) (t .left)
+
+-- the arrays before the start: 0 in every cell
+abbrev pub empty : Store
+empty = store (run (replicate maxVariables (pos 0)) (replicate places 0) 0) (replicate maxTransitions 0)
 
 -- "It stops after a refused start."
-unfoldable pub afterOpening : List ℕ → List ℕ → OpenedInto → List ℕ
-afterOpening m input o =
-    printedLine (o .printed) ++ cond (o .isStarted) (stepsText m input [] (o .printed .cells) (o .printed .left)) []
+unfoldable pub openText : List ℕ → Dimensions → List (List ℕ) → List ℕ → List ℕ
+openText m d ps out =
+    let o = into out (opening m (inUse d empty)) in
+    textIn (o .answer) ++ cond (isStarted m (inUse d empty)) (piecesText m (piecesOf ps) (o .answer .left) (progress [] (o .left))) []
 
-abbrev pub refusalLine : Output → List ℕ
-refusalLine o = lineIn (o .answer) (o .cells)
-
-unfoldable pub programBy : Dimensions → List ℕ → List ℕ → List ℕ → List ℕ
-programBy (Refused n) m input out = refusalLine (lineInto (room markWidth 0) (refusalText n) out)
-programBy (Known values marks) m input out =
-    afterOpening m input (openInto out (fresh values marks) (opening m (fresh values marks)))
-
--- by the bytes that were read of the file, the input and the slice for the lines
-abbrev pub programText : List ℕ → List ℕ → List ℕ → List ℕ
-programText m input out = programBy (dimensionsOf (verdict m)) m input out
+-- by the bytes kept of the file, the parts of the input and the slice for the lines
+abbrev pub programText : List ℕ → List (List ℕ) → List ℕ → List ℕ
+programText m ps out = openText m (dimensionsOf (length m) (verdict m)) ps out

@@ -1,29 +1,46 @@
 -- The statements on what is printed. Proved in proofs/.
 use mathlib.Core.Path.{_≡_}
-use mathlib.Core.List.{List, []}
-use Prim.Native.Nat.{ℕ, _≤_, _<_}
+use mathlib.Core.List.{List, [], _++_, flatten}
+use Prim.Native.Nat.{ℕ, _<_}
 use lib.ListN.{length, take}
 use Rattle.model.specs.declared.Sizes.{Sizes}
 use Rattle.model.specs.Trees.{System}
 use Rattle.model.specs.Check.{verdict}
 use Rattle.model.specs.Check.Verdict.{accepted}
-use Rattle.model.specs.Theorems.{Bytes}
-use Rattle.steps.specs.Runs.{Store}
-use Rattle.dialogue.specs.Replies.{transcript, turns, replies, linesOf}
-use Rattle.dialogue.specs.Program.{fileBytes, lineBytes, programText}
+use Rattle.model.specs.Theorems.{Bytes, ShuffledFile}
+use Rattle.standing.specs.Runs.{Store}
+use Rattle.dialogue.specs.Sizes.{longestFile, fileBytes}
+use Rattle.dialogue.specs.Transcript.{transcript, replies, linesOf}
+use Rattle.dialogue.specs.Turns.{Progress, progress, turns, parts, closing}
+use Rattle.dialogue.specs.Program.{pieces, programText}
 
 -- no accepted file is longer than 6 + 5 * 4,000 bytes, so the first 20,007 bytes tell a file's check
 abbrev pub LongFileRefused : Type 0
-LongFileRefused = (m : List ℕ) → 20006 < length m → (s : Sizes) (t : System) → verdict m ≡ accepted s t → ⊥
+LongFileRefused = (m : List ℕ) → longestFile < length m → (s : Sizes) (t : System) → verdict m ≡ accepted s t → ⊥
 
 abbrev pub VerdictOfFirst : Type 0
 VerdictOfFirst = (m : List ℕ) → verdict m ≡ verdict (take fileBytes m)
 
--- taken byte by byte, six bytes of each line kept, an input is answered as its lines are
+-- taken byte by byte to its end, the first bytes of each line kept, an input is answered as its lines are
 abbrev pub AnsweredByLines : Type 0
-AnsweredByLines = (m input : List ℕ) (s : Store) → turns m input [] s ≡ replies m (linesOf input) s
+AnsweredByLines =
+    (m input : List ℕ) (s : Store)
+    → turns m input (progress [] s) .answer ++ closing m (turns m input (progress [] s) .left) .answer ≡ replies m (linesOf input) s
 
--- what a program keeps is enough: 20,007 bytes of the file, six of each line, and a slice of 6,144 bytes for the lines. By the promises
--- of the functions it then prints 01's transcript of the whole file and the whole input, and no line is ever too long for the slice
+-- how the input is cut into parts does not matter
+abbrev pub PartsAsWhole : Type 0
+PartsAsWhole = (m : List ℕ) (ps : List (List ℕ)) (s : Progress) → parts m ps s ≡ turns m (flatten ps) s
+
+-- no byte of a part is lost or taken twice
+abbrev pub PiecesOfPart : Type 0
+PiecesOfPart = (part : List ℕ) → flatten (pieces part) ≡ part
+
+-- what a program keeps is enough: 20,007 bytes of the file and six of each line. By the promises of the functions it prints 01's transcript
+-- of the whole file and the whole input, however this is cut into parts and whatever the slice for the lines holds: that every line fits it
+-- is in the promises of the functions
 abbrev pub TranscriptOfKept : Type 0
-TranscriptOfKept = (m input out : List ℕ) → Bytes m → lineBytes ≤ length out → programText (take fileBytes m) input out ≡ transcript m input
+TranscriptOfKept = (m : List ℕ) (ps : List (List ℕ)) (out : List ℕ) → Bytes m → programText (take fileBytes m) ps out ≡ transcript m (flatten ps)
+
+-- 01, demand 3, for what the user sees: a shuffled model prints the same
+abbrev pub TranscriptIndependent : Type 0
+TranscriptIndependent = (m m′ input : List ℕ) → Bytes m → ShuffledFile m m′ → transcript m′ input ≡ transcript m input

@@ -6,24 +6,27 @@ use mathlib.Core.List.{List, _++_}
 use Prim.Native.Nat.{ℕ, _+_, _-_, _≤_}
 use native.Mathlib.Omega.{arith}
 use lib.IntN.{ℤ, pos}
-use lib.ListN.{length, take, drop, replicate, length-append, length-take, length-map}
+use lib.ListN.{length, take, drop, replicate, length-append, length-take}
 use lib.Seq.{take-at, take-take}
 use Rattle.model.specs.Trees.{System, variables}
 use Rattle.interpreter.specs.declared.Fault.{Fault}
-use Rattle.engine.specs.declared.Finding.{Finding}
-use Rattle.engine.specs.declared.Finding.the-variants.{Clear, Faulty}
-use Rattle.engine.specs.declared.Firing.the-variants.{ActionFault}
-use Rattle.engine.specs.Actions.{Acted, act}
-use Rattle.engine.specs.Actions.Acted.{faulty, states}
-use Rattle.engine.specs.Propagation.{settle}
-use Rattle.engine.specs.Meanings.{meaningOf}
-use Rattle.engine.specs.Firing.{Left, leaves, written, leftBySettling, leftByActing}
-use Rattle.engine.specs.Cells.{leavesStates, statesByActing, PropagationStands, ActionStands, TransitionStands}
+use Rattle.semantics.specs.declared.Finding.{Finding}
+use Rattle.semantics.specs.declared.Finding.the-variants.{Clear, Faulty}
+use Rattle.semantics.specs.declared.Firing.the-variants.{ActionFault}
+use Rattle.semantics.specs.Actions.{Acted, act}
+use Rattle.semantics.specs.Actions.Acted.{faulty, states}
+use Rattle.semantics.specs.Propagation.{settle}
+use Rattle.semantics.specs.Meanings.{meaningOf}
+use Rattle.semantics.specs.Firing.{Left, leftBySettling, leftByActing}
+use Rattle.propagation.specs.Cells.{statesByActing, PropagationStands, ActionStands}
+use Rattle.results.specs.Results.{answered, over}
+use Rattle.propagation.proofs.Columns.{row-count}
+use Rattle.engine.specs.Cells.{TransitionStands}
 
 -- ---- by what the action comes to
 
-faulty-by : (t : System) (old ss new : List ℤ) (x : Acted) (f : Fault) → leavesStates (Faulty f) new ≡ statesByActing ss x
-    → leaves (ActionFault f) old ≡ leftByActing (meaningOf t) old x
+faulty-by : (t : System) (old ss new : List ℤ) (x : Acted) (f : Fault) → answered (Faulty f) new ≡ statesByActing ss x
+    → answered (ActionFault f) old ≡ leftByActing (meaningOf t) old x
 unfolding statesByActing leftByActing
 faulty-by t old ss new (faulty g) f e =
     let a : Faulty f ≡ Faulty g = ap (λ l. l .answer) e in
@@ -32,23 +35,23 @@ faulty-by t old ss new (states n) f e =
     let a : Faulty f ≡ Clear = ap (λ l. l .answer) e in
     let z : true ≡ false = cc in absurd (true≢false z)
 
-clear-by : (t : System) (old ss new : List ℤ) (x : Acted) → leavesStates Clear new ≡ statesByActing ss x
+clear-by : (t : System) (old ss new : List ℤ) (x : Acted) → answered Clear new ≡ statesByActing ss x
     → leftBySettling old (settle t new) ≡ leftByActing (meaningOf t) old x
 unfolding statesByActing leftByActing meaningOf
 clear-by t old ss new (faulty g) e =
     let a : Clear ≡ Faulty g = ap (λ l. l .answer) e in
     let z : true ≡ false = cc in absurd (true≢false z)
-clear-by t old ss new (states n) e = rw (ap (λ l. l .states) e)
+clear-by t old ss new (states n) e = rw (ap (λ l. l .left) e)
 
 -- ---- the states in an array of their own: stored, acted on, entered
 
-module _ {ks : List ℕ} {ps : List ℤ} {nexts : List ℕ} {lows highs firsts cs values : List ℤ} {assertion at s : ℕ}
-    (t : TransitionStands ks ps nexts lows highs firsts cs values assertion at s) where
+module _ {ks : List ℕ} {ps : List ℤ} {nexts : List ℕ} {rows : List (List ℤ)} {cs values : List ℤ} {assertion at s : ℕ}
+    (t : TransitionStands ks ps nexts rows cs values assertion at s) where
   pub length-all : length (variables (t .system)) ≡ s + length (t .system .flows)
   length-all = length-append (t .system .states) (t .system .flows) ∙ omega (arith, t .stateCells)
 
-  pub length-firsts : length firsts ≡ length (variables (t .system))
-  length-firsts = ap length (t .firstValues) ∙ length-map (variables (t .system)) (λ v. v .first)
+  pub length-rows : length rows ≡ length (variables (t .system))
+  length-rows = row-count (variables (t .system)) (t .rowsHeld)
 
   pub states-within : s ≤ length values
   states-within = omega (arith, length-all, t .room)
@@ -59,14 +62,14 @@ module _ {ks : List ℕ} {ps : List ℤ} {nexts : List ℕ} {lows highs firsts c
   pub few-states : length (take s values) ≤ 510
   few-states = omega (arith, length-states, t .stateCells, t .wellFormed .states)
 
-  module _ (array : List ℤ) (stored : array ≡ written (take s values) (replicate 510 (pos 0))) where
+  module _ (array : List ℤ) (stored : array ≡ over (take s values) (replicate 510 (pos 0))) where
     pub old-states : take s array ≡ take s values
     old-states = ap (take s) stored ∙ take-at (take s values) _ s (sym length-states)
 
     pub length-old : s ≡ length (take s array)
     length-old = length-states ∙ ap length (sym old-states)
 
-    abbrev pub action-stands : ActionStands ks ps nexts lows highs cs (take s array) at
+    abbrev pub action-stands : ActionStands ks ps nexts rows cs (take s array) at
     action-stands =
         record {
           system = t .system;
@@ -75,8 +78,7 @@ module _ {ks : List ℕ} {ps : List ℤ} {nexts : List ℕ} {lows highs firsts c
           scoped = t .scoped;
           stands = t .actionStands;
           places = t .places;
-          lowEnds = t .lowEnds;
-          highEnds = t .highEnds;
+          rowsHeld = t .rowsHeld;
           known = t .known;
           long = ap length (t .held) ∙ simp length-take (omega (arith, t .room));
           states =
@@ -97,7 +99,7 @@ module _ {ks : List ℕ} {ps : List ℤ} {nexts : List ℕ} {lows highs firsts c
       pub length-taken : s ≡ length (take s (new ++ drop s array))
       length-taken = sym (ap length new-states ∙ length-new)
 
-      abbrev pub propagation-stands : PropagationStands ks ps nexts lows highs firsts assertion (length (take s (new ++ drop s array))) (length firsts - length (take s (new ++ drop s array)))
+      abbrev pub propagation-stands : PropagationStands ks ps nexts rows assertion (length (take s (new ++ drop s array))) (length rows - length (take s (new ++ drop s array)))
       propagation-stands =
           record {
             assertion =
@@ -106,24 +108,22 @@ module _ {ks : List ℕ} {ps : List ℤ} {nexts : List ℕ} {lows highs firsts c
                   wellFormed = t .wellFormed;
                   stands = t .assertionStands;
                   places = t .places;
-                  lowEnds = t .lowEnds;
-                  highEnds = t .highEnds;
+                  rowsHeld = t .rowsHeld;
                 };
-            firstValues = t .firstValues;
             stateCells = sym length-taken ∙ t .stateCells;
-            flowCells = omega (arith, length-taken, length-firsts, length-all);
+            flowCells = omega (arith, length-taken, length-rows, length-all);
           }
 
-      pub room-for-all : length firsts ≤ length values
-      room-for-all = omega (arith, length-firsts, t .room)
+      pub room-for-all : length rows ≤ length values
+      room-for-all = omega (arith, length-rows, t .room)
 
-      module _ (x : Finding) (acted : leavesStates x new ≡ statesByActing (take s array) (act (t .system) (t .action) cs)) where
+      module _ (x : Finding) (acted : answered x new ≡ statesByActing (take s array) (act (t .system) (t .action) cs)) where
         pub carried-faulty : (f : Fault) → x ≡ Faulty f
-            → leaves (ActionFault f) values ≡ leftByActing (meaningOf (t .system)) values (act (t .system) (t .action) cs)
-        carried-faulty f e = faulty-by (t .system) values (take s array) new (act (t .system) (t .action) cs) f (ap (λ x. leavesStates x new) (sym e) ∙ acted)
+            → answered (ActionFault f) values ≡ leftByActing (meaningOf (t .system)) values (act (t .system) (t .action) cs)
+        carried-faulty f e = faulty-by (t .system) values (take s array) new (act (t .system) (t .action) cs) f (ap (λ x. answered x new) (sym e) ∙ acted)
 
         pub carried-clear : x ≡ Clear → (left : Left) → left ≡ leftBySettling values (settle (t .system) (take s (new ++ drop s array)))
             → left ≡ leftByActing (meaningOf (t .system)) values (act (t .system) (t .action) cs)
         carried-clear e left h =
             h ∙ ap (λ ss. leftBySettling values (settle (t .system) ss)) new-states
-            ∙ clear-by (t .system) values (take s array) new (act (t .system) (t .action) cs) (ap (λ x. leavesStates x new) (sym e) ∙ acted)
+            ∙ clear-by (t .system) values (take s array) new (act (t .system) (t .action) cs) (ap (λ x. answered x new) (sym e) ∙ acted)

@@ -3,29 +3,33 @@
 use mathlib.Core.Path.{_≡_, refl, sym, ap, _∙_}
 use mathlib.Core.Bool.{true, false, true≢false}
 use mathlib.Core.List.{List, [], _∷_, _++_, append-assoc}
-use mathlib.Core.Option.{Option, some, none}
+use mathlib.Core.Option.{some}
 use Prim.Native.Nat.{ℕ, zero, suc, _+_, _-_, _≤_, min}
 use native.Mathlib.Nat.{not-suc-le-zero, le-of-suc-le-suc}
 use native.Mathlib.Omega.{arith}
 use lib.IntN.{ℤ}
-use lib.ListN.{length, take, drop, getElem?, length-append, length-take, length-drop, length-map, take-append-drop}
+use lib.ListN.{length, take, drop, getElem?, length-append, length-take, length-drop, take-append-drop}
 use lib.Seq.{drop-at, drop-drop}
 use Rattle.model.specs.Trees.{Instruction, Variable, System, variables}
 use Rattle.model.specs.WellFormed.{WellFormed}
 use Rattle.interpreter.specs.declared.Fault.{Fault}
-use Rattle.engine.specs.declared.Propagated.{Propagated}
-use Rattle.engine.specs.declared.Propagated.the-variants.{Refused, Settled}
-use Rattle.engine.specs.declared.Firing.the-variants.{AssertionFault, Fired}
-use Rattle.interpreter.specs.Expressions.{Valuation, knownFrom}
+use Rattle.semantics.specs.declared.Propagated.{Propagated}
+use Rattle.semantics.specs.declared.Propagated.the-variants.{Refused, Settled}
+use Rattle.semantics.specs.declared.Firing.the-variants.{AssertionFault, Fired}
+use Rattle.expressions.specs.Expressions.{Valuation, knownFrom}
 use Rattle.interpreter.specs.Instructions.{firstOf}
-use Rattle.engine.specs.Actions.{cells, valueOr0}
-use Rattle.engine.specs.Propagation.{Reached, Settled as Settling, resetBy, finishedBy, finish, settledFrom, settle}
-use Rattle.engine.specs.Propagation.Settled.{refused, settled}
-use Rattle.engine.specs.Firing.{leaves, written, leftBySettling}
-use Rattle.engine.specs.Cells.{cellsOver, leavesFlows, flowsBySettling, PropagationStands}
-use Rattle.engine.proofs.Derived.{derived-extends}
-use Rattle.engine.proofs.Rounds.{Outcome, outcome, assertion-targets, rounds-bounded-tree}
-use Rattle.engine.proofs.Rounds.Outcome.{fault, rest}
+use Rattle.semantics.specs.Actions.{cells, valueOr0}
+use Rattle.semantics.specs.Propagation.{Reached, Settled as Settling, resetBy, finish, settledFrom, settle}
+use Rattle.semantics.specs.Propagation.Settled.{refused, settled}
+use Rattle.semantics.specs.Firing.{leftBySettling}
+use Rattle.propagation.specs.Cells.{flowsBySettling, PropagationStands}
+use Rattle.engine.specs.Cells.{cellsOver}
+use Rattle.results.specs.Results.{answered, over}
+use Rattle.propagation.proofs.Columns.{row-count}
+use Rattle.propagation.proofs.Propagating.{rows-counted}
+use Rattle.semantics.proofs.Derived.{derived-extends}
+use Rattle.semantics.proofs.Rounds.{Outcome, outcome, assertion-targets, finished, rounds-bounded-tree}
+use Rattle.semantics.proofs.Rounds.Outcome.{fault, rest}
 
 -- ---- values over the cells of an array
 
@@ -34,18 +38,18 @@ take-least zero l = let e : min 0 (length l) ≡ 0 = omega arith in rw e
 take-least (suc m) [] = let e : min (suc m) 0 ≡ 0 = omega arith in rw e
 take-least (suc m) (a ∷ l) = let e : min (suc m) (suc (length l)) ≡ suc (min m (length l)) = omega arith in rw e (ap (λ l. a ∷ l) (take-least m l))
 
-module _ (values cs : List ℤ) (count m n : ℕ) (most : m ≡ min count 510) (few : n ≡ min m (length values)) where
+module _ (values cs : List ℤ) (m n : ℕ) (few : n ≡ min m (length values)) where
   pub length-few : n ≡ length (take n values)
   length-few = simp length-take (omega arith)
 
-  pub few-fit : length cs ≡ 510 → length (take n values) ≤ length cs
+  pub few-fit : m ≤ length cs → length (take n values) ≤ length cs
   few-fit h = simp length-take (omega arith)
 
-  pub widened : length cs ≡ 510 → {new : List ℤ} → new ≡ written (take n values) cs → new ≡ cellsOver values count cs
+  pub widened : (count : ℕ) → m ≡ min count (length cs) → {new : List ℤ} → new ≡ over (take n values) cs → new ≡ cellsOver values count cs
   unfolding cellsOver
-  widened h {new} e =
-      let k : take n values ≡ take (min count (length cs)) values = rw (few, take-least m values, most, h) in
-      e ∙ ap (λ l. written l cs) k
+  widened count most e =
+      let k : take n values ≡ take (min count (length cs)) values = rw (few, take-least m values, most) in
+      e ∙ ap (λ l. over l cs) k
 
 -- ---- what settles keeps the states
 
@@ -58,11 +62,6 @@ cells-known ρ (v ∷ ss) (suc n) x l h =
     let e : x + 0 ≡ x = omega arith in
     rw (ap ρ (sym e) ∙ h 0 v refl)
     (ap (λ l. v ∷ l) (cells-known ρ ss n (suc x) (le-of-suc-le-suc l) (λ k w g. let e : suc x + k ≡ x + suc k = omega arith in rw e (h (suc k) w g))))
-
-finished-values : (c : ℕ) (cs : List ℤ) (o : Option Fault) (count : ℕ) (values : List ℤ) → finishedBy c cs o ≡ settled count values → cs ≡ values
-unfolding finishedBy
-finished-values c cs none count values e = cc
-finished-values c cs (some f) count values e = let z : true ≡ false = cc in absurd (true≢false z)
 
 pub settled-states : (t : System) → WellFormed t → (ss : List ℤ) → length ss ≡ length (t .states) → (count : ℕ) (new : List ℤ)
     → settle t ss ≡ settled count new → take (length ss) new ≡ ss
@@ -84,7 +83,7 @@ settled-states t w ss long count new e = go _ (outcome vs i S F (assertion-targe
     go : (r : Reached) → Outcome vs i F (knownFrom ss) r → settledFrom vs i r ≡ settled count new → take (length ss) new ≡ ss
     go r (fault τ d f) e = let z : true ≡ false = cc in absurd (true≢false z)
     go r (rest {c} {τ} d a l u) e =
-        rw (← finished-values c (cells (resetBy vs τ) (length vs) 0) _ count new e)
+        rw (← finished c (cells (resetBy vs τ) (length vs) 0) _ count new e .1)
         (cells-known (resetBy vs τ) ss (length vs) 0 (omega (arith, length-append (t .states) (t .flows)))
         (λ k v g. let z : 0 + k ≡ k = omega arith in rw z (kept k v (derived-extends i (knownFrom ss) τ d k v g))))
       where
@@ -104,50 +103,43 @@ with-same : (s n : ℕ) (old : List ℤ) → withFlows s n old (flowPart s n old
 with-same s n old = rw (take-append-drop (n - s) (drop s old)) (take-append-drop s old)
 
 stored : (s n : ℕ) (old ss new : List ℤ) → s ≤ n → n ≤ length old → length ss ≡ s → take s new ≡ ss → length new ≡ n
-    → written ss (withFlows s n old (drop s new)) ≡ written new old
+    → over ss (withFlows s n old (drop s new)) ≡ over new old
 stored s n old ss new l u h t k =
     let e : s + (n - s) ≡ n = omega arith in
     let front : length (take s old) ≡ s = simp length-take (omega arith) in
     rw (h, drop-at (take s old) (drop s new ++ drop (n - s) (drop s old)) s front, drop-drop (n - s) s old, e, k, ← append-assoc ss (drop s new) (drop n old), ← t, take-append-drop s new)
 
-module _ {ks : List ℕ} {ps : List ℤ} {nexts : List ℕ} {lows highs firsts : List ℤ} {at : ℕ} (ss old : List ℤ)
-    (p : PropagationStands ks ps nexts lows highs firsts at (length ss) (length firsts - length ss)) (room : length firsts ≤ length old) where
-  pub states-first : length ss ≤ length firsts
-  states-first =
-      omega (
-        arith,
-        p .stateCells,
-        ap length (p .firstValues),
-        length-map (variables (p .assertion .system)) (λ v. v .first),
-        length-append (p .assertion .system .states) (p .assertion .system .flows),
-      )
+module _ {ks : List ℕ} {ps : List ℤ} {nexts : List ℕ} {rows : List (List ℤ)} {at : ℕ} (ss old : List ℤ)
+    (p : PropagationStands ks ps nexts rows at (length ss) (length rows - length ss)) (room : length rows ≤ length old) where
+  pub states-first : length ss ≤ length rows
+  states-first = omega (arith, p .stateCells, rows-counted (p .assertion))
 
-  pub length-flow-part : length (flowPart (length ss) (length firsts) old) ≡ length firsts - length ss
+  pub length-flow-part : length (flowPart (length ss) (length rows) old) ≡ length rows - length ss
   length-flow-part = simp (length-take, length-drop) (omega arith)
 
-  abbrev pub part-stands : PropagationStands ks ps nexts lows highs firsts at (length ss) (length (flowPart (length ss) (length firsts) old))
+  abbrev pub part-stands : PropagationStands ks ps nexts rows at (length ss) (length (flowPart (length ss) (length rows) old))
   part-stands =
-      record { assertion = p .assertion; firstValues = p .firstValues; stateCells = p .stateCells; flowCells = length-flow-part ∙ p .flowCells }
+      record { assertion = p .assertion; stateCells = p .stateCells; flowCells = length-flow-part ∙ p .flowCells }
 
-  length-settled : (count : ℕ) (new : List ℤ) → settle (p .assertion .system) ss ≡ settled count new → length new ≡ length firsts
+  length-settled : (count : ℕ) (new : List ℤ) → settle (p .assertion .system) ss ≡ settled count new → length new ≡ length rows
   length-settled count new e =
       rounds-bounded-tree (p .assertion .system) (p .assertion .wellFormed) ss count new e .2
-      ∙ sym (ap length (p .firstValues) ∙ length-map (variables (p .assertion .system)) (λ v. v .first))
+      ∙ sym (row-count (variables (p .assertion .system)) (p .assertion .rowsHeld))
 
-  refused-by : (x : Settling) (f : Fault) (flows : List ℤ) → leavesFlows (Refused f) flows ≡ flowsBySettling (length ss) (flowPart (length ss) (length firsts) old) x
-      → leaves (AssertionFault f) (withFlows (length ss) (length firsts) old flows) ≡ leftBySettling old x
+  refused-by : (x : Settling) (f : Fault) (flows : List ℤ) → answered (Refused f) flows ≡ flowsBySettling (length ss) (flowPart (length ss) (length rows) old) x
+      → answered (AssertionFault f) (withFlows (length ss) (length rows) old flows) ≡ leftBySettling old x
   unfolding flowsBySettling leftBySettling
   refused-by (refused g) f flows e =
       let a : Refused f ≡ Refused g = ap (λ l. l .answer) e in
       let b : f ≡ g = cc in
-      rw (b, ap (λ l. l .flows) e, with-same (length ss) (length firsts) old)
+      rw (b, ap (λ l. l .left) e, with-same (length ss) (length rows) old)
   refused-by (settled c new) f flows e =
       let a : Refused f ≡ Settled c = ap (λ l. l .answer) e in
       let z : true ≡ false = cc in absurd (true≢false z)
 
   settled-by : (x : Settling) → settle (p .assertion .system) ss ≡ x → (count : ℕ) (flows : List ℤ)
-      → leavesFlows (Settled count) flows ≡ flowsBySettling (length ss) (flowPart (length ss) (length firsts) old) x
-      → leaves (Fired count) (written ss (withFlows (length ss) (length firsts) old flows)) ≡ leftBySettling old x
+      → answered (Settled count) flows ≡ flowsBySettling (length ss) (flowPart (length ss) (length rows) old) x
+      → answered (Fired count) (over ss (withFlows (length ss) (length rows) old flows)) ≡ leftBySettling old x
   unfolding flowsBySettling leftBySettling
   settled-by (refused g) k count flows e =
       let a : Settled count ≡ Refused g = ap (λ l. l .answer) e in
@@ -157,24 +149,24 @@ module _ {ks : List ℕ} {ps : List ℤ} {nexts : List ℕ} {lows highs firsts :
       let b : count ≡ c = cc in
       rw (
         b,
-        ap (λ l. l .flows) e,
-        stored (length ss) (length firsts) old ss new states-first room refl
+        ap (λ l. l .left) e,
+        stored (length ss) (length rows) old ss new states-first room refl
             (settled-states (p .assertion .system) (p .assertion .wellFormed) ss (p .stateCells) c new k) (length-settled c new k),
       )
 
-  pub states-fit : (flows : List ℤ) → length flows ≡ length (flowPart (length ss) (length firsts) old)
-      → length ss ≤ length (withFlows (length ss) (length firsts) old flows)
+  pub states-fit : (flows : List ℤ) → length flows ≡ length (flowPart (length ss) (length rows) old)
+      → length ss ≤ length (withFlows (length ss) (length rows) old flows)
   states-fit flows e =
       simp (length-append, length-take, length-drop) (omega (arith, e, length-flow-part, states-first))
 
   module _ (r : Propagated) (flows : List ℤ)
-      (left : leavesFlows r flows ≡ flowsBySettling (length ss) (flowPart (length ss) (length firsts) old) (settle (p .assertion .system) ss)) where
+      (left : answered r flows ≡ flowsBySettling (length ss) (flowPart (length ss) (length rows) old) (settle (p .assertion .system) ss)) where
     pub enter-refused : (f : Fault) → r ≡ Refused f
-        → leaves (AssertionFault f) (withFlows (length ss) (length firsts) old flows) ≡ leftBySettling old (settle (p .assertion .system) ss)
-    enter-refused f k = refused-by (settle (p .assertion .system) ss) f flows (ap (λ r. leavesFlows r flows) (sym k) ∙ left)
+        → answered (AssertionFault f) (withFlows (length ss) (length rows) old flows) ≡ leftBySettling old (settle (p .assertion .system) ss)
+    enter-refused f k = refused-by (settle (p .assertion .system) ss) f flows (ap (λ r. answered r flows) (sym k) ∙ left)
 
-    pub enter-settled : (count : ℕ) → r ≡ Settled count → (new : List ℤ) → new ≡ written ss (withFlows (length ss) (length firsts) old flows)
-        → leaves (Fired count) new ≡ leftBySettling old (settle (p .assertion .system) ss)
+    pub enter-settled : (count : ℕ) → r ≡ Settled count → (new : List ℤ) → new ≡ over ss (withFlows (length ss) (length rows) old flows)
+        → answered (Fired count) new ≡ leftBySettling old (settle (p .assertion .system) ss)
     enter-settled count k new h =
-        ap (leaves (Fired count)) h
-        ∙ settled-by (settle (p .assertion .system) ss) refl count flows (ap (λ r. leavesFlows r flows) (sym k) ∙ left)
+        ap (answered (Fired count)) h
+        ∙ settled-by (settle (p .assertion .system) ss) refl count flows (ap (λ r. answered r flows) (sym k) ∙ left)

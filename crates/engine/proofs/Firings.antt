@@ -1,4 +1,4 @@
--- Guards, firing and starting on a loaded model: what the code answers and leaves is as the definitions `fired` and `begun` have it.
+-- Guards, firing and starting on a loaded model: what the code answers and answered is as the definitions `fired` and `begun` have it.
 use mathlib.Core.Path.{_≡_, refl, sym, ap, subst, _∙_}
 use mathlib.Core.Bool.{Bool, true, false, true≢false}
 use mathlib.Core.List.{List}
@@ -8,7 +8,7 @@ use native.Mathlib.Omega.{arith}
 use borrow.Author.Tests.{lt-ltb, le-ltb, ltb-true, ltb-false, eq-eqb, ne-eqb}
 use lib.Dec.{ltb}
 use lib.IntN.{ℤ, pos}
-use lib.ListN.{length, take, getD, getElem?, replicate, length-append, length-take, length-map}
+use lib.ListN.{length, take, getD, getElem?, replicate, length-append, length-take}
 use lib.Seq.{take-at}
 use lib.Signed.{mag}
 use mir.Syntax.{w32}
@@ -18,29 +18,33 @@ use Rattle.evaluation.specs.declared.Evaluation.the-variants.{Unknown, Failed, 
 use Rattle.evaluation.proofs.Signed.{one-fits, equal-bits, other-bits}
 use Rattle.model.specs.declared.Model.{Model}
 use Rattle.model.specs.Trees.{Expression, Transition, variables}
-use Rattle.model.specs.Decoding.{ExpressionAt, InstructionAt, sizeOfExpression}
-use Rattle.interpreter.specs.declared.Evaluated.{Evaluated}
-use Rattle.engine.specs.declared.Firing.the-variants.{Disabled, GuardFailed}
-use Rattle.interpreter.specs.Expressions.{evaluate}
-use Rattle.engine.specs.Actions.{act}
-use Rattle.engine.specs.Propagation.{settle}
-use Rattle.engine.specs.Meanings.{meaningOf, guardIn, actionIn}
-use Rattle.engine.specs.Firing.{Left, leaves, written, leftBySettling, leftByActing, leftByGuard, fired, begun}
-use Rattle.engine.specs.Cells.{Loaded, AllRepresentable, PropagationStands, TransitionStands}
-use Rattle.interpreter.specs.Cells.{valuationOf, evaluatedAs, ExpressionStands}
-use Rattle.interpreter.proofs.Cells.{no-element}
-use Rattle.interpreter.proofs.Evaluating.{expression-within}
-use Rattle.engine.proofs.Valuations.{known-values}
-use Rattle.engine.proofs.Loading.{element-below, loaded-well-formed, loaded-states, loaded-flows, loaded-places, loaded-guards, loaded-guard, loaded-action, loaded-scoped, loaded-assertion, assertion-stands}
+use Rattle.model.specs.Standing.{ExpressionAt, InstructionAt, sizeOfExpression}
+use Rattle.expressions.specs.declared.Evaluated.{Evaluated}
+use Rattle.semantics.specs.declared.Firing.the-variants.{Disabled, GuardFailed}
+use Rattle.expressions.specs.Expressions.{Valuation, evaluate}
+use Rattle.semantics.specs.Actions.{act}
+use Rattle.semantics.specs.Propagation.{settle}
+use Rattle.semantics.specs.Meanings.{guardIn, guardOver, actionIn, meaningOf}
+use Rattle.semantics.specs.Firing.{Left, leftBySettling, leftByActing, leftByGuard, fired, begun}
+use Rattle.propagation.specs.Cells.{AllRepresentable, PropagationStands}
+use Rattle.results.specs.Results.{answered, over}
+use Rattle.engine.specs.Cells.{Loaded, TransitionStands}
+use Rattle.expressions.specs.Cells.{valuationOf, evaluatedAs, ExpressionStands}
+use Rattle.expressions.proofs.Cells.{no-element}
+use Rattle.expressions.proofs.Evaluating.{expression-within}
+use Rattle.semantics.proofs.Knowing.{element-below}
+use Rattle.propagation.proofs.Columns.{row-count}
+use Rattle.propagation.proofs.Valuations.{known-values}
+use Rattle.engine.proofs.Loading.{loaded-well-formed, loaded-states, loaded-flows, loaded-places, loaded-guards, loaded-guard, loaded-action, loaded-scoped, loaded-assertion, assertion-stands}
 
-module _ {model : Model} {kinds : List ℕ} {parameters : List ℤ} {sorts : List ℕ} {lows highs firsts : List ℤ} {nexts guards : List ℕ}
-    (d : Loaded model kinds parameters sorts lows highs firsts nexts guards) where
+module _ {model : Model} {kinds : List ℕ} {parameters : List ℤ} {rows : List (List ℤ)} {nexts guards : List ℕ}
+    (d : Loaded model kinds parameters rows nexts guards) where
   pub length-all : length (variables (d .decoded .system)) ≡ model .sizes .states + model .sizes .flows
   length-all =
       length-append (d .decoded .system .states) (d .decoded .system .flows) ∙ omega (arith, loaded-states d, loaded-flows d)
 
-  pub length-firsts : length firsts ≡ model .sizes .states + model .sizes .flows
-  length-firsts = ap length (d .decoded .firstsDecoded) ∙ length-map (variables (d .decoded .system)) (λ v. v .first) ∙ length-all
+  pub length-rows : length rows ≡ model .sizes .states + model .sizes .flows
+  length-rows = row-count (variables (d .decoded .system)) (d .decoded .variablesDecoded) ∙ length-all
 
   pub few-variables : model .sizes .states + model .sizes .flows ≤ 510
   few-variables = omega (arith, loaded-states d, loaded-flows d, loaded-well-formed d .states, loaded-well-formed d .flows)
@@ -48,33 +52,32 @@ module _ {model : Model} {kinds : List ℕ} {parameters : List ℤ} {sorts : Lis
   -- ---- guards
 
   module _ (k : ℕ) where
-    pub guard-stands : k < length guards → ExpressionStands kinds parameters nexts (getD guards k 0)
+    pub guard-stands : k < length guards → ExpressionStands kinds parameters (getD guards k 0)
     guard-stands h =
         let t = element-below (d .decoded .system .transitions) k (omega (arith, loaded-guards d)) in
-        record { expression = t .0 .guard; stands = loaded-guard d k (t .0) (t .1); places = loaded-places d }
+        record { expression = t .0 .guard; stands = loaded-guard d k (t .0) (t .1) }
 
-    pub guard-missing : length guards ≤ k → (values : List ℤ) → Unknown ≡ meaningOf (d .decoded .system) .guard k values
-    unfolding meaningOf guardIn
-    guard-missing h values = rw (no-element (d .decoded .system .transitions) k (omega (arith, loaded-guards d)))
+    pub guard-missing : length guards ≤ k → (σ : Valuation) → Unknown ≡ guardOver (d .decoded .system) k σ
+    unfolding guardIn
+    guard-missing h σ = rw (no-element (d .decoded .system .transitions) k (omega (arith, loaded-guards d)))
 
-    pub guard-evaluated : k < length guards → (values : List ℤ) → AllRepresentable values → (r : Evaluated)
-        → ((e : Expression) → ExpressionAt kinds parameters e (getD guards k 0)
-        → r ≡ evaluatedAs (evaluate e (valuationOf values)) (getD guards k 0 + sizeOfExpression e))
-        → r .evaluation ≡ meaningOf (d .decoded .system) .guard k values
-    unfolding meaningOf guardIn
-    guard-evaluated h values known r e =
+    pub guard-evaluated : k < length guards → (σ : Valuation) (r : Evaluated)
+        → ((e : Expression) → ExpressionAt kinds parameters e (getD guards k 0) → r ≡ evaluatedAs (evaluate e σ) (getD guards k 0 + sizeOfExpression e))
+        → r .evaluation ≡ guardOver (d .decoded .system) k σ
+    unfolding guardIn
+    guard-evaluated h σ r e =
         let t = element-below (d .decoded .system .transitions) k (omega (arith, loaded-guards d)) in
-        ap (λ r. r .evaluation) (e (t .0 .guard) (loaded-guard d k (t .0) (t .1))) ∙ rw (t .1, known-values values known)
+        ap (λ r. r .evaluation) (e (t .0 .guard) (loaded-guard d k (t .0) (t .1))) ∙ rw (t .1)
 
   -- ---- starting
 
   module _ (ss old : List ℤ) where
-    pub begin-short : length old < model .sizes .states + model .sizes .flows → leaves Disabled old ≡ begun (meaningOf (d .decoded .system)) ss old
+    pub begin-short : length old < model .sizes .states + model .sizes .flows → answered Disabled old ≡ begun (meaningOf (d .decoded .system)) ss old
     unfolding begun meaningOf
     begin-short h = rw (lt-ltb (length old) (length (variables (d .decoded .system))) (omega (arith, length-all)))
 
     pub begin-other : model .sizes .states + model .sizes .flows ≤ length old → (length ss ≡ model .sizes .states → ⊥)
-        → leaves Disabled old ≡ begun (meaningOf (d .decoded .system)) ss old
+        → answered Disabled old ≡ begun (meaningOf (d .decoded .system)) ss old
     unfolding begun meaningOf
     begin-other h n =
         rw (
@@ -83,17 +86,16 @@ module _ {model : Model} {kinds : List ℕ} {parameters : List ℤ} {sorts : Lis
         )
 
     module _ (room : model .sizes .states + model .sizes .flows ≤ length old) (long : length ss ≡ model .sizes .states) where
-      abbrev pub begin-stands : PropagationStands kinds parameters nexts lows highs firsts (model .assertion) (length ss) (length firsts - length ss)
+      abbrev pub begin-stands : PropagationStands kinds parameters nexts rows (model .assertion) (length ss) (length rows - length ss)
       begin-stands =
           record {
             assertion = assertion-stands d;
-            firstValues = d .decoded .firstsDecoded;
             stateCells = long ∙ loaded-states d;
-            flowCells = omega (arith, length-firsts, long, loaded-flows d);
+            flowCells = omega (arith, length-rows, long, loaded-flows d);
           }
 
-      pub begin-room : length firsts ≤ length old
-      begin-room = omega (arith, length-firsts)
+      pub begin-room : length rows ≤ length old
+      begin-room = omega (arith, length-rows)
 
       pub begin-entered : (left : Left) → left ≡ leftBySettling old (settle (d .decoded .system) ss)
           → left ≡ begun (meaningOf (d .decoded .system)) ss old
@@ -112,7 +114,7 @@ module _ {model : Model} {kinds : List ℕ} {parameters : List ℤ} {sorts : Lis
   action-of k t e values = rw e
 
   module _ (k : ℕ) (old : List ℤ) where
-    pub fire-short : length old < model .sizes .states + model .sizes .flows → leaves Disabled old ≡ fired (meaningOf (d .decoded .system)) k old
+    pub fire-short : length old < model .sizes .states + model .sizes .flows → answered Disabled old ≡ fired (meaningOf (d .decoded .system)) k old
     unfolding fired meaningOf
     fire-short h = rw (lt-ltb (length old) (length (variables (d .decoded .system))) (omega (arith, length-all)))
 
@@ -124,7 +126,7 @@ module _ {model : Model} {kinds : List ℕ} {parameters : List ℤ} {sorts : Lis
       pub values-fit : length (take (model .sizes .states + model .sizes .flows) old) ≤ 510
       values-fit = omega (arith, length-values, few-variables)
 
-      module _ (array : List ℤ) (held : array ≡ written (take (model .sizes .states + model .sizes .flows) old) (replicate 510 (pos 0))) where
+      module _ (array : List ℤ) (held : array ≡ over (take (model .sizes .states + model .sizes .flows) old) (replicate 510 (pos 0))) where
         pub same-values : take (model .sizes .states + model .sizes .flows) array ≡ take (model .sizes .states + model .sizes .flows) old
         same-values = ap (take (model .sizes .states + model .sizes .flows)) held ∙ take-at _ _ _ (sym length-values)
 
@@ -135,26 +137,25 @@ module _ {model : Model} {kinds : List ℕ} {parameters : List ℤ} {sorts : Lis
         held-within = omega (arith, length-held, length-take (model .sizes .states + model .sizes .flows) array)
 
         module _ (known : AllRepresentable (take (model .sizes .states + model .sizes .flows) old)) (x : Evaluation)
-            (guarded : AllRepresentable (take (model .sizes .states + model .sizes .flows) array)
-            → x ≡ meaningOf (d .decoded .system) .guard k (take (model .sizes .states + model .sizes .flows) array)) where
+            (guarded : x ≡ guardOver (d .decoded .system) k (valuationOf (take (model .sizes .states + model .sizes .flows) array))) where
           pub known-held : AllRepresentable (take (model .sizes .states + model .sizes .flows) array)
           known-held = rw same-values known
 
           by-guard : leftByGuard (meaningOf (d .decoded .system)) k old x ≡ fired (meaningOf (d .decoded .system)) k old
           unfolding fired meaningOf
           by-guard =
-              rw (guarded known-held, same-values, ← length-all, le-ltb (length old) (length (variables (d .decoded .system))) (omega (arith, length-all)))
+              rw (guarded, known-values (take (model .sizes .states + model .sizes .flows) array) known-held, same-values, ← length-all, le-ltb (length old) (length (variables (d .decoded .system))) (omega (arith, length-all)))
 
-          pub fire-unknown : x ≡ Unknown → leaves Disabled old ≡ fired (meaningOf (d .decoded .system)) k old
+          pub fire-unknown : x ≡ Unknown → answered Disabled old ≡ fired (meaningOf (d .decoded .system)) k old
           unfolding leftByGuard
           fire-unknown e = rw e at by-guard
 
-          pub fire-failed : x ≡ Failed → leaves GuardFailed old ≡ fired (meaningOf (d .decoded .system)) k old
+          pub fire-failed : x ≡ Failed → answered GuardFailed old ≡ fired (meaningOf (d .decoded .system)) k old
           unfolding leftByGuard
           fire-failed e = rw e at by-guard
 
           module _ (v : ℤ) (fits : mag v < 2 ^ 31) (is : x ≡ Value v) where
-            pub fire-false : (ofZ w32 v ≡ 1 → ⊥) → leaves Disabled old ≡ fired (meaningOf (d .decoded .system)) k old
+            pub fire-false : (ofZ w32 v ≡ 1 → ⊥) → answered Disabled old ≡ fired (meaningOf (d .decoded .system)) k old
             unfolding leftByGuard
             fire-false n = rw (is, other-bits w32 {x = v} {y = pos 1} (record { sfits = fits }) one-fits n) at by-guard
 
@@ -164,7 +165,7 @@ module _ {model : Model} {kinds : List ℕ} {parameters : List ℤ} {sorts : Lis
                 by : (t : Bool) → ltb k (length guards) ≡ t → k < length guards
                 by true e = ltb-true k (length guards) e
                 by false e =
-                    let u : Unknown ≡ Value v = guard-missing k (ltb-false k (length guards) e) _ ∙ sym (guarded known-held) ∙ is in
+                    let u : Unknown ≡ Value v = guard-missing k (ltb-false k (length guards) e) _ ∙ sym guarded ∙ is in
                     let z : true ≡ false = cc in absurd (true≢false z)
 
             pub transition : (t : Transition) × (getElem? (d .decoded .system .transitions) k ≡ some t)
@@ -175,7 +176,7 @@ module _ {model : Model} {kinds : List ℕ} {parameters : List ℤ} {sorts : Lis
                 rw (loaded-places d .long) (expression-within kinds parameters (transition .0 .guard) (getD guards k 0) (loaded-guard d k (transition .0) (transition .1)) .0)
 
             abbrev pub fire-stands : {place : ℕ} → place ≡ getD nexts (getD guards k 0) 0
-                → TransitionStands kinds parameters nexts lows highs firsts (take (model .sizes .states + model .sizes .flows) array) old
+                → TransitionStands kinds parameters nexts rows (take (model .sizes .states + model .sizes .flows) array) old
                 (model .assertion) place (model .sizes .states)
             fire-stands p =
                 record {
@@ -186,9 +187,7 @@ module _ {model : Model} {kinds : List ℕ} {parameters : List ℤ} {sorts : Lis
                   actionStands = subst (λ m. InstructionAt kinds parameters (transition .0 .action) m) (sym p) (loaded-action d k (transition .0) (transition .1));
                   assertionStands = loaded-assertion d;
                   places = loaded-places d;
-                  lowEnds = d .decoded .lowsDecoded;
-                  highEnds = d .decoded .highsDecoded;
-                  firstValues = d .decoded .firstsDecoded;
+                  rowsHeld = d .decoded .variablesDecoded;
                   stateCells = loaded-states d;
                   room = omega (arith, length-all);
                   held = same-values ∙ ap (λ n. take n old) (sym length-all);

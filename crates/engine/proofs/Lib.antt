@@ -1,21 +1,4 @@
-pub mod Growth
-pub mod Effects
-pub mod Counting
-pub mod Derived
-pub mod Rounds
-pub mod Sequential
-pub mod Rows
-pub mod Alike
-pub mod Shuffling
-pub mod Gathering
-pub mod Scoping
-pub mod Accepted
-pub mod Overwriting
-pub mod Valuations
-pub mod Reading
-pub mod Propagating
-pub mod Settling
-pub mod Acting
+-- Proofs of crate `engine`: what the functions are proved by.
 pub mod Entering
 pub mod Carrying
 pub mod Loading

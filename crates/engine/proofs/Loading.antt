@@ -1,40 +1,25 @@
 -- What the functions on a loaded model use of it: it is well formed, its trees stand at the decoded places, and the next places
 -- lead past them.
-use mathlib.Core.Path.{_≡_, refl, ap, subst}
-use mathlib.Core.List.{List, [], _∷_}
+use mathlib.Core.Path.{_≡_, ap}
+use mathlib.Core.List.{List}
 use mathlib.Core.Option.{some}
-use Prim.Native.Nat.{ℕ, zero, suc, _+_, _<_}
-use native.Mathlib.Nat.{not-suc-le-zero, le-of-suc-le-suc}
-use native.Mathlib.Omega.{arith}
+use Prim.Native.Nat.{ℕ, _+_}
 use lib.IntN.{ℤ}
 use lib.ListN.{length, getD, getElem?}
 use Rattle.model.specs.declared.Model.{Model}
 use Rattle.model.specs.Trees.{Transition, variables}
-use Rattle.model.specs.WellFormed.{WellFormed, Scoped, GuardedBy, All, sizesOf, encode}
+use Rattle.model.specs.WellFormed.{WellFormed, Scoped, GuardedBy, sizesOf, encode}
 use Rattle.model.specs.Check.{actionScope}
-use Rattle.model.specs.Decoding.{ExpressionAt, InstructionAt, sizeOfExpression}
+use Rattle.model.specs.Standing.{ExpressionAt, InstructionAt, sizeOfExpression}
 use Rattle.model.proofs.CheckExact.{check-exact}
-use Rattle.model.proofs.Decoded.{decoded-nexts, decoded-expression-next, decoded-instruction-next, decoded-assertion, decoded-guards, decoded-transition}
-use Rattle.engine.specs.Cells.{Loaded, AssertionStands}
+use Rattle.decoding.proofs.Decoded.{decoded-nexts, decoded-expression-next, decoded-instruction-next, decoded-assertion, decoded-guards, decoded-transition}
+use Rattle.semantics.proofs.Knowing.{element-all}
+use Rattle.propagation.specs.Cells.{AssertionStands}
+use Rattle.engine.specs.Cells.{Loaded}
 use Rattle.interpreter.specs.Cells.{NextPlaces}
 
--- ---- lists
-
-pub element-below : {A : Type 0} (l : List A) (k : ℕ) → k < length l → (a : A) × (getElem? l k ≡ some a)
-element-below [] k h = absurd (not-suc-le-zero h)
-element-below (a ∷ l) zero h = (a, refl)
-element-below (a ∷ l) (suc k) h = element-below l k (le-of-suc-le-suc h)
-
-element-all : {A : Type 0} (P : A → Type 0) (l : List A) (k : ℕ) (a : A) → All P l → getElem? l k ≡ some a → P a
-unfolding All
-element-all P [] k a h e = let z : _≡_ {A = ℕ} 0 1 = cc in absurd (omega arith)
-element-all P (b ∷ l) zero a h e = let z : b ≡ a = cc in subst P z (h .0)
-element-all P (b ∷ l) (suc k) a h e = element-all P l k a (h .1) e
-
--- ---- a loaded model
-
-module _ {model : Model} {kinds : List ℕ} {parameters : List ℤ} {sorts : List ℕ} {lows highs firsts : List ℤ} {nexts guards : List ℕ}
-    (d : Loaded model kinds parameters sorts lows highs firsts nexts guards) where
+module _ {model : Model} {kinds : List ℕ} {parameters : List ℤ} {rows : List (List ℤ)} {nexts guards : List ℕ}
+    (d : Loaded model kinds parameters rows nexts guards) where
   pub exact : (d .file ≡ encode (d .decoded .system)) × (model .sizes ≡ sizesOf (d .decoded .system)) × WellFormed (d .decoded .system)
   exact = check-exact (d .file) (d .bytes) (model .sizes) (d .decoded .system) .0 (d .decoded .checked)
 
@@ -50,24 +35,24 @@ module _ {model : Model} {kinds : List ℕ} {parameters : List ℤ} {sorts : Lis
   pub loaded-places : NextPlaces kinds parameters nexts
   loaded-places =
       record {
-        long = decoded-nexts (d .file) model kinds parameters sorts lows highs firsts nexts guards (d .decoded);
-        expression = decoded-expression-next (d .file) model kinds parameters sorts lows highs firsts nexts guards (d .decoded);
-        instruction = decoded-instruction-next (d .file) model kinds parameters sorts lows highs firsts nexts guards (d .decoded);
+        long = decoded-nexts (d .file) model kinds parameters rows nexts guards (d .decoded);
+        expression = decoded-expression-next (d .file) model kinds parameters rows nexts guards (d .decoded);
+        instruction = decoded-instruction-next (d .file) model kinds parameters rows nexts guards (d .decoded);
       }
 
   pub loaded-assertion : InstructionAt kinds parameters (d .decoded .system .assertion) (model .assertion)
-  loaded-assertion = decoded-assertion (d .file) model kinds parameters sorts lows highs firsts nexts guards (d .decoded)
+  loaded-assertion = decoded-assertion (d .file) model kinds parameters rows nexts guards (d .decoded)
 
   pub loaded-guards : length guards ≡ length (d .decoded .system .transitions)
-  loaded-guards = decoded-guards (d .file) model kinds parameters sorts lows highs firsts nexts guards (d .decoded)
+  loaded-guards = decoded-guards (d .file) model kinds parameters rows nexts guards (d .decoded)
 
   -- the transition with this number
   module _ (k : ℕ) (t : Transition) (is : getElem? (d .decoded .system .transitions) k ≡ some t) where
     pub loaded-guard : ExpressionAt kinds parameters (t .guard) (getD guards k 0)
-    loaded-guard = decoded-transition (d .file) model kinds parameters sorts lows highs firsts nexts guards (d .decoded) k t is .guard
+    loaded-guard = decoded-transition (d .file) model kinds parameters rows nexts guards (d .decoded) k t is .guard
 
     action-after : InstructionAt kinds parameters (t .action) (getD guards k 0 + sizeOfExpression (t .guard))
-    action-after = decoded-transition (d .file) model kinds parameters sorts lows highs firsts nexts guards (d .decoded) k t is .action
+    action-after = decoded-transition (d .file) model kinds parameters rows nexts guards (d .decoded) k t is .action
 
     -- the action stands where the guard's next place leads
     pub loaded-action : InstructionAt kinds parameters (t .action) (getD nexts (getD guards k 0) 0)
@@ -78,13 +63,12 @@ module _ {model : Model} {kinds : List ℕ} {parameters : List ℤ} {sorts : Lis
         element-all (GuardedBy (d .decoded .system .events) (actionScope (sizesOf (d .decoded .system)) (variables (d .decoded .system))))
         (d .decoded .system .transitions) k t (loaded-well-formed .guarded) is .action
 
-  abbrev pub assertion-stands : AssertionStands kinds parameters nexts lows highs (model .assertion)
+  abbrev pub assertion-stands : AssertionStands kinds parameters nexts rows (model .assertion)
   assertion-stands =
       record {
         system = d .decoded .system;
         wellFormed = loaded-well-formed;
         stands = loaded-assertion;
         places = loaded-places;
-        lowEnds = d .decoded .lowsDecoded;
-        highEnds = d .decoded .highsDecoded;
+        rowsHeld = d .decoded .variablesDecoded;
       }

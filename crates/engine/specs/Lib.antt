@@ -1,9 +1,3 @@
--- Definitions and statements of crate `engine`, in document 01's order.
-pub mod Actions
-pub mod Propagation
-pub mod Sequential
-pub mod Meanings
-pub mod Firing
+-- Definitions of crate `engine`: what its functions are lent.
+-- how the code goes about it:
 pub mod Cells
-pub mod Theorems
-pub mod Rows

@@ -1,27 +1,3 @@
-// What actions and the assertion come to.
+// What firing a transition and starting come to, on the slices of a decoded model.
 
-mod propagation; // propagation.rt: actions, and the rounds of the assertion
 pub mod transitions; // transitions.rt: guards, firing, starting
-
-use interpreter::Fault;
-
-// Whether a fault was found.
-pub enum Finding {
-    Clear,
-    Faulty(Fault),
-}
-
-// What the assertion comes to: a fault, or the round count.
-pub enum Propagated {
-    Refused(Fault),
-    Settled(usize),
-}
-
-// What firing comes to: the guard is not true, it failed, a fault in the action or in the assertion, or the round count.
-pub enum Firing {
-    Disabled,
-    GuardFailed,
-    ActionFault(Fault),
-    AssertionFault(Fault),
-    Fired(usize),
-}

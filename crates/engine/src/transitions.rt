@@ -3,36 +3,29 @@
 ghost use mathlib.Core.Path.{_≡_};
 ghost use Prim.Native.Nat.{_-_, _≤_, _<_, min};
 ghost use lib.ListN.{length, getD};
-ghost use Rattle.engine.specs.Actions.{act};
-ghost use Rattle.engine.specs.Propagation.{settle};
-ghost use Rattle.engine.specs.Cells.{Loaded, AllRepresentable, PropagationStands, TransitionStands, cellsOver};
-ghost use Rattle.engine.specs.Firing.{leaves, written, leftBySettling, leftByActing, fired, begun};
-ghost use Rattle.engine.specs.Meanings.{meaningOf};
-use super::Finding;
-use super::Firing;
-use super::Propagated;
-use super::propagation;
+ghost use Rattle.results.specs.Results.{answered};
+ghost use Rattle.expressions.specs.Cells.{valuationOf};
+ghost use Rattle.semantics.specs.Actions.{act};
+ghost use Rattle.semantics.specs.Propagation.{settle};
+ghost use Rattle.semantics.specs.Meanings.{guardOver, meaningOf};
+ghost use Rattle.semantics.specs.Firing.{leftBySettling, leftByActing, fired, begun};
+ghost use Rattle.propagation.specs.Cells.{PropagationStands};
+ghost use Rattle.engine.specs.Cells.{Loaded, TransitionStands, cellsOver};
 use evaluation::Evaluation;
-use interpreter::expressions;
 use model::Model;
+use semantics::Finding;
+use semantics::Firing;
+use semantics::Propagated;
 use syntax::Cursor;
 
+// What a true expression comes to.
+const TRUE: i32 = 1;
+
+// The lesser number.
 fn least(a: usize, b: usize) -> usize
     ensures { λ r. ⌜ r ≡ min a b ⌝ }
 {
     if a < b { a } else { b }
-}
-
-// The first values become these.
-fn store(from: &[i32], to: &mut [i32])
-    requires { ⌜ length (now from) ≤ length (now to) ⌝ }
-    ensures { λ _. ⌜ now (to .exit) ≡ written (now (from .entry)) (now (to .entry)) ⌝ }
-{
-    let mut i = 0;
-    while i < from.len() {
-        to[i] = from[i];
-        i += 1;
-    }
 }
 
 // The first values as cells, as many as there are variables; the cells from there on stay.
@@ -43,30 +36,26 @@ pub fn widen(values: &[i32], count: usize, cells: &mut [i64; Model::MAX_VARIABLE
     propagation::overwrite(&values[..n], cells);
 }
 
-// The guard of a transition over the values of all variables, held as cells.
+// The guard of a transition over cells.
 pub fn guard(
     model: Model,
     kinds: &[u8],
     parameters: &[i32],
-    sorts: &[u8],
-    lows: &[i32],
-    highs: &[i32],
-    firsts: &[i32],
+    variables: &[[i32; 3]],
     nexts: &[u16],
     guards: &[u16],
     cells: &[i64],
     transition: usize,
 ) -> Evaluation
-    requires { ⌜ Loaded model (now kinds) (now parameters) (now sorts) (now lows) (now highs) (now firsts) (now nexts) (now guards) ⌝ }
-    ensures { λ r. ⌜ ((d : Loaded model (now (kinds .entry)) (now (parameters .entry)) (now (sorts .entry)) (now (lows .entry)) (now (highs .entry)) (now (firsts .entry)) (now (nexts .entry)) (now (guards .entry)))
-        → AllRepresentable (now (cells .entry))
-        → r ≡ meaningOf (d .decoded .system) .guard transition (now (cells .entry))) ⌝ }
+    requires { ⌜ Loaded model (now kinds) (now parameters) (now variables) (now nexts) (now guards) ⌝ }
+    ensures { λ r. ⌜ ((d : Loaded model (now (kinds .entry)) (now (parameters .entry)) (now (variables .entry)) (now (nexts .entry)) (now (guards .entry)))
+        → r ≡ guardOver (d .decoded .system) transition (valuationOf (now (cells .entry)))) ⌝ }
 {
     if guards.len() <= transition {
         return Evaluation::Unknown;
     }
     let at = guards[transition] as usize;
-    let r = expressions::evaluate(kinds, parameters, nexts, cells, Cursor { at });
+    let r = expressions::evaluate(kinds, parameters, cells, Cursor { at });
     r.evaluation
 }
 
@@ -75,33 +64,29 @@ fn enter(
     kinds: &[u8],
     parameters: &[i32],
     nexts: &[u16],
-    lows: &[i32],
-    highs: &[i32],
-    firsts: &[i32],
+    variables: &[[i32; 3]],
     assertion: usize,
     states: &[i32],
     values: &mut [i32],
 ) -> Firing
-    requires { ⌜ PropagationStands (now kinds) (now parameters) (now nexts) (now lows) (now highs) (now firsts) assertion (length (now states)) (length (now firsts) - length (now states)) × (length (now firsts) ≤ length (now values)) ⌝ }
-    ensures { λ r. ⌜ ((p : PropagationStands (now (kinds .entry)) (now (parameters .entry)) (now (nexts .entry)) (now (lows .entry)) (now (highs .entry)) (now (firsts .entry)) assertion (length (now (states .entry))) (length (now (firsts .entry)) - length (now (states .entry))))
-        → leaves r (now (values .exit)) ≡ leftBySettling (now (values .entry)) (settle (p .assertion .system) (now (states .entry)))) ⌝ }
+    requires { ⌜ PropagationStands (now kinds) (now parameters) (now nexts) (now variables) assertion (length (now states)) (length (now variables) - length (now states)) × (length (now variables) ≤ length (now values)) ⌝ }
+    ensures { λ r. ⌜ ((p : PropagationStands (now (kinds .entry)) (now (parameters .entry)) (now (nexts .entry)) (now (variables .entry)) assertion (length (now (states .entry))) (length (now (variables .entry)) - length (now (states .entry))))
+        → answered r (now (values .exit)) ≡ leftBySettling (now (values .entry)) (settle (p .assertion .system) (now (states .entry)))) ⌝ }
 {
     let s = states.len();
-    let n = firsts.len();
+    let n = variables.len();
     match propagation::propagate(
         kinds,
         parameters,
         nexts,
-        lows,
-        highs,
-        firsts,
+        variables,
         assertion,
         states,
         &mut values[s..n],
     ) {
         Propagated::Refused(fault) => Firing::AssertionFault(fault),
         Propagated::Settled(count) => {
-            store(states, values);
+            propagation::store(states, values);
             Firing::Fired(count)
         }
     }
@@ -112,27 +97,24 @@ fn carry_out(
     kinds: &[u8],
     parameters: &[i32],
     nexts: &[u16],
-    lows: &[i32],
-    highs: &[i32],
-    firsts: &[i32],
+    variables: &[[i32; 3]],
     assertion: usize,
     cells: &[i64],
     action: usize,
     s: usize,
     values: &mut [i32],
 ) -> Firing
-    requires { ⌜ TransitionStands (now kinds) (now parameters) (now nexts) (now lows) (now highs) (now firsts) (now cells) (now values) assertion action s ⌝ }
-    ensures { λ r. ⌜ ((t : TransitionStands (now (kinds .entry)) (now (parameters .entry)) (now (nexts .entry)) (now (lows .entry)) (now (highs .entry)) (now (firsts .entry)) (now (cells .entry)) (now (values .entry)) assertion action s)
-        → leaves r (now (values .exit)) ≡ leftByActing (meaningOf (t .system)) (now (values .entry)) (act (t .system) (t .action) (now (cells .entry)))) ⌝ }
+    requires { ⌜ TransitionStands (now kinds) (now parameters) (now nexts) (now variables) (now cells) (now values) assertion action s ⌝ }
+    ensures { λ r. ⌜ ((t : TransitionStands (now (kinds .entry)) (now (parameters .entry)) (now (nexts .entry)) (now (variables .entry)) (now (cells .entry)) (now (values .entry)) assertion action s)
+        → answered r (now (values .exit)) ≡ leftByActing (meaningOf (t .system)) (now (values .entry)) (act (t .system) (t .action) (now (cells .entry)))) ⌝ }
 {
     let mut states = [0i32; Model::MAX_VARIABLES];
-    store(&values[..s], &mut states);
+    propagation::store(&values[..s], &mut states);
     match propagation::act(
         kinds,
         parameters,
         nexts,
-        lows,
-        highs,
+        variables,
         cells,
         action,
         &mut states[..s],
@@ -142,9 +124,7 @@ fn carry_out(
             kinds,
             parameters,
             nexts,
-            lows,
-            highs,
-            firsts,
+            variables,
             assertion,
             &states[..s],
             values,
@@ -166,18 +146,15 @@ pub fn fire(
     model: Model,
     kinds: &[u8],
     parameters: &[i32],
-    sorts: &[u8],
-    lows: &[i32],
-    highs: &[i32],
-    firsts: &[i32],
+    variables: &[[i32; 3]],
     nexts: &[u16],
     guards: &[u16],
     values: &mut [i32],
     transition: usize,
 ) -> Firing
-    requires { ⌜ Loaded model (now kinds) (now parameters) (now sorts) (now lows) (now highs) (now firsts) (now nexts) (now guards) ⌝ }
-    ensures { λ r. ⌜ ((d : Loaded model (now (kinds .entry)) (now (parameters .entry)) (now (sorts .entry)) (now (lows .entry)) (now (highs .entry)) (now (firsts .entry)) (now (nexts .entry)) (now (guards .entry)))
-        → leaves r (now (values .exit)) ≡ fired (meaningOf (d .decoded .system)) transition (now (values .entry))) ⌝ }
+    requires { ⌜ Loaded model (now kinds) (now parameters) (now variables) (now nexts) (now guards) ⌝ }
+    ensures { λ r. ⌜ ((d : Loaded model (now (kinds .entry)) (now (parameters .entry)) (now (variables .entry)) (now (nexts .entry)) (now (guards .entry)))
+        → answered r (now (values .exit)) ≡ fired (meaningOf (d .decoded .system)) transition (now (values .entry))) ⌝ }
 {
     let n = model.sizes.states + model.sizes.flows;
     if values.len() < n {
@@ -189,10 +166,7 @@ pub fn fire(
         model,
         kinds,
         parameters,
-        sorts,
-        lows,
-        highs,
-        firsts,
+        variables,
         nexts,
         guards,
         &cells[..n],
@@ -201,16 +175,14 @@ pub fn fire(
         Evaluation::Unknown => Firing::Disabled,
         Evaluation::Failed => Firing::GuardFailed,
         Evaluation::Value(v) => {
-            if v != 1 {
+            if v != TRUE {
                 return Firing::Disabled;
             }
             carry_out(
                 kinds,
                 parameters,
                 nexts,
-                lows,
-                highs,
-                firsts,
+                variables,
                 model.assertion,
                 &cells[..n],
                 action_place(nexts, guards, transition),
@@ -226,18 +198,15 @@ pub fn begin(
     model: Model,
     kinds: &[u8],
     parameters: &[i32],
-    sorts: &[u8],
-    lows: &[i32],
-    highs: &[i32],
-    firsts: &[i32],
+    variables: &[[i32; 3]],
     nexts: &[u16],
     guards: &[u16],
     states: &[i32],
     values: &mut [i32],
 ) -> Firing
-    requires { ⌜ Loaded model (now kinds) (now parameters) (now sorts) (now lows) (now highs) (now firsts) (now nexts) (now guards) ⌝ }
-    ensures { λ r. ⌜ ((d : Loaded model (now (kinds .entry)) (now (parameters .entry)) (now (sorts .entry)) (now (lows .entry)) (now (highs .entry)) (now (firsts .entry)) (now (nexts .entry)) (now (guards .entry)))
-        → leaves r (now (values .exit)) ≡ begun (meaningOf (d .decoded .system)) (now (states .entry)) (now (values .entry))) ⌝ }
+    requires { ⌜ Loaded model (now kinds) (now parameters) (now variables) (now nexts) (now guards) ⌝ }
+    ensures { λ r. ⌜ ((d : Loaded model (now (kinds .entry)) (now (parameters .entry)) (now (variables .entry)) (now (nexts .entry)) (now (guards .entry)))
+        → answered r (now (values .exit)) ≡ begun (meaningOf (d .decoded .system)) (now (states .entry)) (now (values .entry))) ⌝ }
 {
     let s = model.sizes.states;
     let n = s + model.sizes.flows;
@@ -251,9 +220,7 @@ pub fn begin(
         kinds,
         parameters,
         nexts,
-        lows,
-        highs,
-        firsts,
+        variables,
         model.assertion,
         states,
         values,

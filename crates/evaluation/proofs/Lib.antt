@@ -2,4 +2,3 @@
 pub mod Rows
 pub mod Laws
 pub mod Signed
-pub mod Operators

@@ -1,71 +1,77 @@
 // Reads the model in the file model.gts, starts it and answers the lines of standard input.
 
-ghost use Prim.Native.Nat.{_≤_};
-ghost use lib.ListN.{length};
-use console::Written;
 use dialogue::Dimensions;
 use dialogue::Line;
-use dialogue::replies;
+use dialogue::Program;
+use dialogue::exchange;
 use libc::STDIN_FILENO;
 use libc::STDOUT_FILENO;
 use model::Model;
 
-// The first bytes of the file, one more than an accepted file can have; none if it cannot be read.
-fn read_model(buffer: &mut [u8]) -> usize
-    ensures { λ r. ⌜ r ≤ length (now (buffer .exit)) ⌝ }
-{
+// Bytes of the input read at a time.
+const PART: usize = 4096;
+
+// The first bytes of the file; none if it cannot be read.
+fn read_model(file: &mut [u8; Program::FILE_BYTES]) -> usize {
     let fd = os::open_read(b"model.gts");
     if fd < 0 {
         return 0;
     }
-    let length = io::read_full(fd, buffer);
+    let bytes = io::read_full(fd, file);
     libc::close(fd);
-    length
+    bytes
 }
 
-// Prints the line that was written at the beginning of the slice.
-fn print(written: Written, out: &[u8]) {
-    let Written::Length(length) = written else {
-        return;
-    };
-    if length <= out.len() {
-        io::write_all(STDOUT_FILENO, &out[0..length]);
-    }
+// Prints the line at the beginning of the array.
+fn print(out: &[u8; Program::LINE_BYTES], length: usize) {
+    io::write_all(STDOUT_FILENO, exchange::first(out, length));
 }
 
 // Answers each line that a part of the input ends; the line that it begins.
 fn answer_part(
-    part: &[u8],
     begun: Line,
-    model: &[u8],
-    values: &mut [i32],
-    history: &mut [u8],
+    part: &[u8],
+    file: &[u8; Program::FILE_BYTES],
+    dimensions: Dimensions,
+    values: &mut [i32; Model::MAX_VARIABLES],
+    history: &mut [u8; Program::PLACES],
     n: &mut usize,
-    marks: &mut [u8],
-    out: &mut [u8],
+    marks: &mut [u8; Model::MAX_TRANSITIONS],
+    out: &mut [u8; Program::LINE_BYTES],
 ) -> Line {
     let mut line = begun;
-    let mut i = 0;
-    while i < part.len() {
-        let step = replies::step(line, part[i], model, values, history, n, marks, out);
-        let written = step.written;
-        print(written, out);
-        line = step.line;
-        i += 1;
+    let mut at = 0;
+    while at < part.len() {
+        let taken = exchange::take_line(
+            line,
+            part,
+            at,
+            file,
+            dimensions,
+            values,
+            history,
+            n,
+            marks,
+            out,
+        );
+        print(out, taken.length);
+        line = taken.line;
+        at = taken.next;
     }
     line
 }
 
 // Answers the lines of standard input. The turns fall, so the loop ends whatever the input is.
 fn answer_all(
-    model: &[u8],
-    values: &mut [i32],
-    history: &mut [u8],
+    file: &[u8; Program::FILE_BYTES],
+    dimensions: Dimensions,
+    values: &mut [i32; Model::MAX_VARIABLES],
+    history: &mut [u8; Program::PLACES],
     n: &mut usize,
-    marks: &mut [u8],
-    out: &mut [u8],
+    marks: &mut [u8; Model::MAX_TRANSITIONS],
+    out: &mut [u8; Program::LINE_BYTES],
 ) {
-    let mut part = [0u8; 4096];
+    let mut part = [0u8; PART];
     let mut line = Line::empty();
     let mut turns = u64::MAX;
     while 0 < turns {
@@ -75,59 +81,55 @@ fn answer_all(
             break;
         }
         let count = io::count(got, &part);
-        line = answer_part(&part[0..count], line, model, values, history, n, marks, out);
+        line = answer_part(
+            line,
+            &part[0..count],
+            file,
+            dimensions,
+            values,
+            history,
+            n,
+            marks,
+            out,
+        );
     }
-    let written = replies::close(line, model, values, history, n, marks, out);
-    print(written, out);
+    let length = exchange::close(line, file, dimensions, values, history, n, marks, out);
+    print(out, length);
 }
 
-// Starts the run and, unless that is refused, answers the input. 6,144 bytes are room for every line of a run.
-fn serve(model: &[u8], values: &mut [i32], marks: &mut [u8]) {
-    let mut history = [0u8; 200];
-    let mut n: usize = 0;
-    let mut out = [0u8; 6144];
-    let opening = replies::open(model, values, &mut history, &mut n, marks, &mut out);
-    let written = opening.written;
-    print(written, &out);
-    if opening.is_started {
-        answer_all(model, values, &mut history, &mut n, marks, &mut out);
-    }
-}
-
-// Prints the refusal of the model.
-fn refuse(number: u8) {
-    let mut out = [0u8; 32];
-    let written = console::refusal_line(number, &mut out);
-    print(written, &out);
-}
-
-// Runs the model on parts of the arrays, as long as its run is.
-fn serve_parts(
-    model: &[u8],
-    variables: usize,
-    transitions: usize,
-    values: &mut [i32],
-    marks: &mut [u8],
-)
-    requires { ⌜ (variables ≤ length (now values)) × (transitions ≤ length (now marks)) ⌝ }
-{
-    serve(model, &mut values[0..variables], &mut marks[0..transitions]);
-}
-
-// Runs the model on arrays of the largest sizes.
-fn run_model(model: &[u8]) {
+// Starts the run and, unless that is refused, answers the input.
+fn serve(file: &[u8; Program::FILE_BYTES], bytes: usize) {
     let mut values = [0i32; Model::MAX_VARIABLES];
+    let mut history = [0u8; Program::PLACES];
+    let mut n: usize = 0;
     let mut marks = [0u8; Model::MAX_TRANSITIONS];
-    match replies::dimensions(model) {
-        Dimensions::Refused(number) => refuse(number),
-        Dimensions::Known(variables, transitions) => {
-            serve_parts(model, variables, transitions, &mut values, &mut marks);
-        }
+    let mut out = [0u8; Program::LINE_BYTES];
+    let opening = exchange::open(
+        file,
+        bytes,
+        &mut values,
+        &mut history,
+        &mut n,
+        &mut marks,
+        &mut out,
+    );
+    print(&out, opening.length);
+    if opening.is_started {
+        let dimensions = opening.dimensions;
+        answer_all(
+            file,
+            dimensions,
+            &mut values,
+            &mut history,
+            &mut n,
+            &mut marks,
+            &mut out,
+        );
     }
 }
 
 fn main() {
-    let mut buffer = [0u8; 20007];
-    let length = read_model(&mut buffer);
-    run_model(&buffer[0..length]);
+    let mut file = [0u8; Program::FILE_BYTES];
+    let bytes = read_model(&mut file);
+    serve(&file, bytes);
 }

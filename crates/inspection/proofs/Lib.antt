@@ -1,3 +1,3 @@
 -- Proofs of crate `inspection`: what the functions are proved by.
-pub mod LookTests
+pub mod QueryTests
 pub mod MarksWritten

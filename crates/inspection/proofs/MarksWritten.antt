@@ -2,7 +2,7 @@
 use mathlib.Core.Path.{_≡_, refl, sym, ap, _∙_, subst}
 use mathlib.Core.Bool.{Bool, true, false, true≢false, _&&_}
 use mathlib.Core.List.{List, [], _∷_, _++_}
-use mathlib.Core.Logic.{_⊎_, inl, inr}
+use mathlib.Core.Logic.{inl, inr}
 use Prim.Native.Nat.{ℕ, zero, suc, _+_, _≤_, _<_, min}
 use native.Mathlib.Nat.{not-suc-le-zero, le-of-suc-le-suc}
 use native.Mathlib.Numerals.{add-one}
@@ -19,13 +19,16 @@ use Rattle.model.specs.Trees.{Variable, variables}
 use Rattle.model.specs.WellFormed.{All, Declared}
 use Rattle.model.proofs.CompleteRows.{leZ-trans}
 use Rattle.model.proofs.CheckExact.{check-exact}
-use Rattle.engine.specs.Cells.{Loaded, AllRepresentable, cellsOver}
-use Rattle.engine.specs.Meanings.{Meaning, meaningOf}
-use Rattle.steps.specs.Runs.{run}
-use Rattle.steps.specs.Calls.{holds, historyHolds, firstOutside, isNone}
-use Rattle.inspection.specs.Looks.{markOf, marksFrom, marksOf}
+use Rattle.propagation.specs.Cells.{AllRepresentable}
+use Rattle.propagation.proofs.Valuations.{known-values}
+use Rattle.engine.specs.Cells.{Loaded, cellsOver}
+use Rattle.expressions.specs.Cells.{valuationOf}
+use Rattle.semantics.specs.Meanings.{Meaning, guardOver, meaningOf}
+use Rattle.standing.specs.Runs.{run}
+use Rattle.standing.specs.Holding.{holds, historyHolds, firstOutside, isNone}
+use Rattle.inspection.specs.Queries.{markOf, marksFrom, marksOf}
 use Rattle.steps.proofs.Tests.{by-test, both, each}
-use Rattle.steps.proofs.Slices.{meaning, lows-count, few-variables}
+use Rattle.steps.proofs.Slices.{meaning, rows-count, guards-count, few-variables}
 
 -- ---- the values of a run that holds are numbers of 32 bits
 
@@ -98,28 +101,38 @@ module _ (m : Meaning) (values : List ℤ) (old : List ℕ) where
 
 -- ---- the cells that the guards are evaluated over
 
-module _ {model : Model} {kinds : List ℕ} {parameters : List ℤ} {sorts : List ℕ} {lows highs firsts : List ℤ} {nexts guards : List ℕ}
-    (d : Loaded model kinds parameters sorts lows highs firsts nexts guards) (values : List ℤ) where
-  pub numbers-held : (history : List ℕ) (n : ℕ) → holds (meaning d) (run values history n) ≡ true → AllRepresentable (take (length lows) values)
+module _ {model : Model} {kinds : List ℕ} {parameters : List ℤ} {rows : List (List ℤ)} {nexts guards : List ℕ}
+    (d : Loaded model kinds parameters rows nexts guards) (values : List ℤ) where
+  -- what the code's test of the marks' length tells
+  pub few-marks : (old : List ℕ) → length old < length guards → length old < meaning d .transitions
+  few-marks old h = omega (arith, guards-count d)
+
+  pub enough-marks : (old : List ℕ) → length guards ≤ length old → meaning d .transitions ≤ length old
+  enough-marks old h = omega (arith, guards-count d)
+
+  pub numbers-held : (history : List ℕ) (n : ℕ) → holds (meaning d) (run values history n) ≡ true → AllRepresentable (take (length rows) values)
   unfolding meaningOf
   numbers-held history n e =
       let system = d .decoded .system in
-      rw (lows-count d)
+      rw (rows-count d)
       (used-representable (variables system) (check-exact (d .file) (d .bytes) (model .sizes) system .0 (d .decoded .checked) .2 .declared) values 0
       (second-of (historyHolds (length (system .transitions)) n history) _ e))
 
-  module _ (cells array : List ℤ) (long : length array ≡ 510) (enough : length lows ≤ length values) (is : cells ≡ cellsOver values (length lows) array) where
-    pub cells-hold : take (length lows) cells ≡ take (length lows) values
+  module _ (cells array : List ℤ) (long : length array ≡ 510) (enough : length rows ≤ length values) (is : cells ≡ cellsOver values (length rows) array) where
+    cells-hold : take (length rows) cells ≡ take (length rows) values
     unfolding cellsOver
     cells-hold =
-        let all : min (length lows) (length array) ≡ length lows = omega (arith, few-variables d, long) in
-        ap (take (length lows)) is ∙ rw all (take-at (take (length lows) values) _ (length lows) (length-take-le (length lows) values enough))
+        let all : min (length rows) (length array) ≡ length rows = omega (arith, few-variables d, long) in
+        ap (take (length rows)) is ∙ rw all (take-at (take (length rows) values) _ (length rows) (length-take-le (length rows) values enough))
 
-    pub cells-part : length lows ≡ length (take (length lows) cells)
-    cells-part = sym (ap length cells-hold ∙ length-take-le (length lows) values enough)
+    pub cells-part : length rows ≡ length (take (length rows) cells)
+    cells-part = sym (ap length cells-hold ∙ length-take-le (length rows) values enough)
 
-    pub guard-marked : AllRepresentable (take (length lows) values) → (i : ℕ) (g : Evaluation)
-        → (AllRepresentable (take (length lows) cells) → g ≡ meaning d .guard i (take (length lows) cells))
-        → (x : ℕ) → x ≡ markOf g → x ≡ markOf (meaning d .guard i (take (length lows) values))
+    -- the cells hold numbers of 32 bits, so the guard over them is the guard over the values
+    pub guard-marked : AllRepresentable (take (length rows) values) → (i : ℕ) (g : Evaluation)
+        → g ≡ guardOver (d .decoded .system) i (valuationOf (take (length rows) cells))
+        → (x : ℕ) → x ≡ markOf g → x ≡ markOf (meaning d .guard i (take (length rows) values))
+    unfolding meaningOf
     guard-marked numbers i g e x marked =
-        marked ∙ ap markOf (e (subst AllRepresentable (sym cells-hold) numbers) ∙ ap (λ l. meaning d .guard i l) cells-hold)
+        marked ∙ ap markOf (e ∙ ap (λ l. guardOver (d .decoded .system) i (valuationOf l)) cells-hold
+        ∙ ap (guardOver (d .decoded .system) i) (known-values (take (length rows) values) numbers))

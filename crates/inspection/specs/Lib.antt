@@ -1,2 +1,3 @@
--- Definitions of crate `inspection`, in document 01's order.
-pub mod Looks
+-- Definitions of crate `inspection`.
+-- 01's own:
+pub mod Queries

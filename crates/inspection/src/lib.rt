@@ -1,33 +1,27 @@
 // Marks and value: on a model file.
 
 ghost use mathlib.Core.Path.{_≡_};
-ghost use mathlib.Core.List.{List};
-ghost use Prim.Native.Nat.{ℕ, _≤_};
-ghost use lib.ListN.{length};
 ghost use Rattle.model.specs.Check.{verdict};
 ghost use Rattle.engine.specs.Cells.{Loaded};
-ghost use Rattle.engine.specs.Meanings.{meaningOf};
-ghost use Rattle.steps.specs.Runs.{run, answered};
-ghost use Rattle.inspection.specs.Looks as looks;
-ghost use Rattle.steps.specs.Answers.{seen, onFile};
-ghost use Rattle.inspection.specs.Looks.{look};
+ghost use Rattle.standing.specs.Runs.{run, answered};
+ghost use Rattle.steps.specs.Answers.{seen, onFile, OnLoaded};
+ghost use Rattle.inspection.specs.Queries as queries;
+ghost use Rattle.inspection.specs.Queries.{queryOn};
+use decoding::Prepared;
 use engine::transitions;
 use evaluation::Evaluation;
 use model::Model;
-use model::Prepared;
-use model::decode;
 use steps::Answer;
-use steps::standing;
 
-// What is looked at.
-pub enum Look {
+// What is asked of a run.
+pub enum Query {
     Marks,
     Value(usize),
 }
 
 // 1 true, 0 false, 2 failed.
 fn mark_of(guard: Evaluation) -> u8
-    ensures { λ r. ⌜ r ≡ looks.markOf guard ⌝ }
+    ensures { λ r. ⌜ r ≡ queries.markOf guard ⌝ }
 {
     match guard {
         Evaluation::Unknown => 0,
@@ -36,14 +30,12 @@ fn mark_of(guard: Evaluation) -> u8
     }
 }
 
+// 9, 10, 20, then each guard over the values.
 fn marks_loaded(
     loaded: Model,
     kinds: &[u8],
     parameters: &[i32],
-    sorts: &[u8],
-    lows: &[i32],
-    highs: &[i32],
-    firsts: &[i32],
+    variables: &[[i32; 3]],
     nexts: &[u16],
     guards: &[u16],
     values: &[i32],
@@ -51,50 +43,46 @@ fn marks_loaded(
     n: usize,
     marks: &mut [u8],
 ) -> Answer
-    requires { ⌜ Loaded loaded (now kinds) (now parameters) (now sorts) (now lows) (now highs) (now firsts) (now nexts) (now guards) ⌝ }
-    ensures { λ r. ⌜ ((d : Loaded loaded (now (kinds .entry)) (now (parameters .entry)) (now (sorts .entry)) (now (lows .entry)) (now (highs .entry)) (now (firsts .entry)) (now (nexts .entry)) (now (guards .entry)))
-        → answered (seen r) (now (marks .exit)) ≡ looks.marks (meaningOf (d .decoded .system)) (run (now (values .entry)) (now (history .entry)) n) (now (marks .entry))) ⌝ }
+    requires { ⌜ Loaded loaded (now kinds) (now parameters) (now variables) (now nexts) (now guards) ⌝ }
+    ensures { λ r. ⌜ OnLoaded loaded (now (kinds .entry)) (now (parameters .entry)) (now (variables .entry)) (now (nexts .entry)) (now (guards .entry)) (λ m.
+        answered (seen r) (now (marks .exit)) ≡ queries.marks m (run (now (values .entry)) (now (history .entry)) n) (now (marks .entry))) ⌝ }
 {
-    let variables = lows.len();
-    if values.len() < variables {
+    let count = variables.len();
+    if values.len() < count {
         return Answer::Refused(9);
     }
     if marks.len() < guards.len() {
         return Answer::Refused(10);
     }
-    if !standing::holds(guards.len(), lows, highs, values, history, n) {
+    if !standing::holds(guards.len(), variables, values, history, n) {
         return Answer::Refused(20);
     }
     let mut cells = [0i64; Model::MAX_VARIABLES];
-    transitions::widen(values, variables, &mut cells);
+    transitions::widen(values, count, &mut cells);
     let mut i = 0;
     while i < guards.len() {
-        marks[i] = mark_of(transitions::guard(
+        let guard = transitions::guard(
             loaded,
             kinds,
             parameters,
-            sorts,
-            lows,
-            highs,
-            firsts,
+            variables,
             nexts,
             guards,
-            &cells[..variables],
+            &cells[..count],
             i,
-        ));
+        );
+        marks[i] = mark_of(guard);
         i += 1;
     }
     Answer::Done
 }
 
+// 9, 12, 20, then the value.
 fn value(
     loaded: Model,
     kinds: &[u8],
     parameters: &[i32],
-    sorts: &[u8],
-    lows: &[i32],
-    highs: &[i32],
-    firsts: &[i32],
+    variables: &[[i32; 3]],
     nexts: &[u16],
     guards: &[u16],
     values: &[i32],
@@ -102,51 +90,47 @@ fn value(
     n: usize,
     variable: usize,
 ) -> Answer
-    requires { ⌜ Loaded loaded (now kinds) (now parameters) (now sorts) (now lows) (now highs) (now firsts) (now nexts) (now guards) ⌝ }
-    ensures { λ r. ⌜ ((d : Loaded loaded (now (kinds .entry)) (now (parameters .entry)) (now (sorts .entry)) (now (lows .entry)) (now (highs .entry)) (now (firsts .entry)) (now (nexts .entry)) (now (guards .entry)))
-        → seen r ≡ looks.value (meaningOf (d .decoded .system)) variable (run (now (values .entry)) (now (history .entry)) n)) ⌝ }
+    requires { ⌜ Loaded loaded (now kinds) (now parameters) (now variables) (now nexts) (now guards) ⌝ }
+    ensures { λ r. ⌜ OnLoaded loaded (now (kinds .entry)) (now (parameters .entry)) (now (variables .entry)) (now (nexts .entry)) (now (guards .entry)) (λ m.
+        seen r ≡ queries.value m variable (run (now (values .entry)) (now (history .entry)) n)) ⌝ }
 {
-    if values.len() < lows.len() {
+    if values.len() < variables.len() {
         return Answer::Refused(9);
     }
-    if lows.len() <= variable {
+    if variables.len() <= variable {
         return Answer::Refused(12);
     }
-    if !standing::holds(guards.len(), lows, highs, values, history, n) {
+    if !standing::holds(guards.len(), variables, values, history, n) {
         return Answer::Refused(20);
     }
-    Answer::Number(values[variable])
+    let held = values[variable];
+    Answer::Number(held)
 }
 
+// One of the two, on a decoded model.
 fn dispatch(
     loaded: Model,
     kinds: &[u8],
     parameters: &[i32],
-    sorts: &[u8],
-    lows: &[i32],
-    highs: &[i32],
-    firsts: &[i32],
+    variables: &[[i32; 3]],
     nexts: &[u16],
     guards: &[u16],
     values: &[i32],
     history: &[u8],
     n: usize,
     marks: &mut [u8],
-    what: Look,
+    query: Query,
 ) -> Answer
-    requires { ⌜ Loaded loaded (now kinds) (now parameters) (now sorts) (now lows) (now highs) (now firsts) (now nexts) (now guards) ⌝ }
-    ensures { λ r. ⌜ ((d : Loaded loaded (now (kinds .entry)) (now (parameters .entry)) (now (sorts .entry)) (now (lows .entry)) (now (highs .entry)) (now (firsts .entry)) (now (nexts .entry)) (now (guards .entry)))
-        → answered (seen r) (now (marks .exit)) ≡ look (meaningOf (d .decoded .system)) what (run (now (values .entry)) (now (history .entry)) n) (now (marks .entry))) ⌝ }
+    requires { ⌜ Loaded loaded (now kinds) (now parameters) (now variables) (now nexts) (now guards) ⌝ }
+    ensures { λ r. ⌜ OnLoaded loaded (now (kinds .entry)) (now (parameters .entry)) (now (variables .entry)) (now (nexts .entry)) (now (guards .entry)) (λ m.
+        answered (seen r) (now (marks .exit)) ≡ queryOn m query (run (now (values .entry)) (now (history .entry)) n) (now (marks .entry))) ⌝ }
 {
-    match what {
-        Look::Marks => marks_loaded(
+    match query {
+        Query::Marks => marks_loaded(
             loaded,
             kinds,
             parameters,
-            sorts,
-            lows,
-            highs,
-            firsts,
+            variables,
             nexts,
             guards,
             values,
@@ -154,14 +138,11 @@ fn dispatch(
             n,
             marks,
         ),
-        Look::Value(variable) => value(
+        Query::Value(variable) => value(
             loaded,
             kinds,
             parameters,
-            sorts,
-            lows,
-            highs,
-            firsts,
+            variables,
             nexts,
             guards,
             values,
@@ -172,55 +153,48 @@ fn dispatch(
     }
 }
 
-// Decodes the model and looks.
+// Decodes the model and answers.
 pub fn inspect(
     model: &[u8],
     values: &[i32],
     history: &[u8],
     n: usize,
     marks: &mut [u8],
-    what: Look,
+    query: Query,
 ) -> Answer
     ensures { λ r. ⌜ answered (seen r) (now (marks .exit))
-        ≡ onFile (verdict (now (model .entry))) (λ m. look m what (run (now (values .entry)) (now (history .entry)) n) (now (marks .entry))) (now (marks .entry)) ⌝ }
+        ≡ onFile (verdict (now (model .entry))) (λ m. queryOn m query (run (now (values .entry)) (now (history .entry)) n) (now (marks .entry))) (now (marks .entry)) ⌝ }
 {
     let mut parameters = [0i32; Model::MAX_NODES];
     let mut sorts = [0u8; Model::MAX_VARIABLES];
-    let mut lows = [0i32; Model::MAX_VARIABLES];
-    let mut highs = [0i32; Model::MAX_VARIABLES];
-    let mut firsts = [0i32; Model::MAX_VARIABLES];
+    let mut variables = [[0i32; 3]; Model::MAX_VARIABLES];
     let mut nexts = [0u16; Model::MAX_NODES];
     let mut guards = [0u16; Model::MAX_TRANSITIONS];
-    match decode::prepare(
+    match decoding::prepare(
         model,
         &mut parameters,
         &mut sorts,
-        &mut lows,
-        &mut highs,
-        &mut firsts,
+        &mut variables,
         &mut nexts,
         &mut guards,
     ) {
         Prepared::Refused(number) => Answer::Refused(number),
         Prepared::Ready(loaded) => {
             let nodes = loaded.sizes.nodes;
-            let variables = loaded.sizes.states + loaded.sizes.flows;
-            let count = loaded.sizes.transitions;
+            let count = loaded.sizes.states + loaded.sizes.flows;
+            let transitions = loaded.sizes.transitions;
             dispatch(
                 loaded,
-                decode::kinds_of(model, nodes),
+                decoding::kinds_of(model, nodes),
                 &parameters[..nodes],
-                &sorts[..variables],
-                &lows[..variables],
-                &highs[..variables],
-                &firsts[..variables],
+                &variables[..count],
                 &nexts[..nodes],
-                &guards[..count],
+                &guards[..transitions],
                 values,
                 history,
                 n,
                 marks,
-                what,
+                query,
             )
         }
     }

@@ -12,10 +12,10 @@ use Rattle.evaluation.specs.Numbers.{eqZ, boolean}
 use Rattle.model.specs.Trees.{Instruction, Instructions, count}
 use Rattle.model.specs.Trees.Instruction.{skip, assign, ifThen, block}
 use Rattle.model.specs.Trees.Instructions.{none, more}
-use Rattle.model.specs.Decoding.{InstructionAt, InstructionsAt, sizeOfExpression, sizeOf, sizeOfAll}
+use Rattle.model.specs.Standing.{InstructionAt, InstructionsAt, sizeOfExpression, sizeOf, sizeOfAll}
 use Rattle.interpreter.specs.declared.Gathered.{Gathered}
 use Rattle.interpreter.specs.declared.Step.{Step}
-use Rattle.interpreter.specs.Expressions.{Valuation, evaluate}
+use Rattle.expressions.specs.Expressions.{Valuation, evaluate}
 use Rattle.interpreter.specs.Instructions.{Effect, effects, effectsOfAll, under}
 use Rattle.interpreter.specs.Cells.{NextPlaces, InstructionStands, TargetsBelow, AllTargetsBelow}
 use Rattle.interpreter.specs.Gathering.{Gathering, gathering, stepped, steppedBy, gather, gatherAll, atOnce, dueAfter, chosenBranch}
@@ -184,17 +184,17 @@ module _ (ks : List ℕ) (ps : List ℤ) where
             by (more j is) e f = absurd (omega arith)
 
         module _ (d : 0 < due) where
-          pub next-stands : (nexts : List ℕ) {l u g : ℕ} → TargetsBelow i l → TargetsBelow i u → TargetsBelow i g → NextPlaces ks ps nexts
-              → InstructionStands ks ps nexts l u g here
+          pub next-stands : (nexts : List ℕ) {v g : ℕ} → TargetsBelow i v → TargetsBelow i g → NextPlaces ks ps nexts
+              → InstructionStands ks ps nexts v g here
           unfolding count InstructionsAt AllTargetsBelow
-          next-stands nexts {l} {u} {g} tl tu tg places =
-              by (left .rest) (left .counted) (left .stands) (left .targets l tl) (left .targets u tu) (left .targets g tg)
+          next-stands nexts {v} {g} tv tg places =
+              by (left .rest) (left .counted) (left .stands) (left .targets v tv) (left .targets g tg)
             where
-              by : (is : Instructions) → count is ≡ due → InstructionsAt ks ps is here → AllTargetsBelow is l → AllTargetsBelow is u → AllTargetsBelow is g
-                  → InstructionStands ks ps nexts l u g here
-              by none e s a b c = absurd (omega arith)
-              by (more j is) e s a b c =
-                  record { instruction = j; stands = s .0; targetLows = a .0; targetHighs = b .0; targetGiven = c .0; places = places }
+              by : (is : Instructions) → count is ≡ due → InstructionsAt ks ps is here → AllTargetsBelow is v → AllTargetsBelow is g
+                  → InstructionStands ks ps nexts v g here
+              by none e s a b = absurd (omega arith)
+              by (more j is) e s a b =
+                  record { instruction = j; stands = s .0; targetVariables = a .0; targetGiven = b .0; places = places }
 
           module _ {r : Step} {given′ : List ℤ}
               (told : (j : Instruction) → InstructionAt ks ps j here → stepped r given′ ≡ steppedBy lows highs σ here j (gathering found given)) where

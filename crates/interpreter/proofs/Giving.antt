@@ -20,13 +20,13 @@ use Rattle.interpreter.specs.Gathering.{gathering, withinEnds, gather}
 
 -- ---- the ends
 
-module _ (lows highs : List ℤ) (x : ℕ) {v : ℤ} (f : SFits w32 v) (low : mag (getD lows x (pos 0)) < 2 ^ 31) where
-  pub under-low : ltZ (toZ w32 (ofZ w32 v)) (toZ w32 (ofZ w32 (getD lows x (pos 0)))) ≡ true → false ≡ withinEnds lows highs x v
-  under-low e = rw (compared f (record { sfits = low }) e)
+module _ (lows highs : List ℤ) (x : ℕ) {v low : ℤ} (f : SFits w32 v) (g : SFits w32 low) (l : low ≡ getD lows x (pos 0)) where
+  pub under-low : ltZ (toZ w32 (ofZ w32 v)) (toZ w32 (ofZ w32 low)) ≡ true → false ≡ withinEnds lows highs x v
+  under-low e = rw (sym l, compared f g e)
 
-  pub from-low : ltZ (toZ w32 (ofZ w32 v)) (toZ w32 (ofZ w32 (getD lows x (pos 0)))) ≡ false → mag (getD highs x (pos 0)) < 2 ^ 31
-      → leZ (toZ w32 (ofZ w32 v)) (toZ w32 (ofZ w32 (getD highs x (pos 0)))) ≡ withinEnds lows highs x v
-  from-low e high = rw (compared f (record { sfits = low }) e) (read-both leZ f (record { sfits = high }))
+  pub from-low : ltZ (toZ w32 (ofZ w32 v)) (toZ w32 (ofZ w32 low)) ≡ false → {high : ℤ} → SFits w32 high → high ≡ getD highs x (pos 0)
+      → leZ (toZ w32 (ofZ w32 v)) (toZ w32 (ofZ w32 high)) ≡ withinEnds lows highs x v
+  from-low e h q = rw (sym l, compared f g e, sym q) (read-both leZ f h)
 
 -- ---- a flag that was found, or is found now
 

@@ -15,15 +15,16 @@ use Rattle.evaluation.specs.Numbers.{eqZ, boolean}
 use Rattle.evaluation.proofs.Signed.{read-back}
 use Rattle.model.specs.Trees.{Expression, Instruction, count}
 use Rattle.model.specs.Trees.Instruction.{skip, assign, ifThen, block}
-use Rattle.model.specs.Decoding.{InstructionAt, sizeOfExpression, sizeOf, sizeOfAll}
-use Rattle.interpreter.specs.declared.Evaluated.{Evaluated}
+use Rattle.model.specs.Standing.{InstructionAt, sizeOfExpression, sizeOf, sizeOfAll}
+use Rattle.expressions.specs.declared.Evaluated.{Evaluated}
 use Rattle.interpreter.specs.declared.Gathered.{Gathered}
-use Rattle.interpreter.specs.Expressions.{Valuation, evaluate}
+use Rattle.expressions.specs.Expressions.{Valuation, evaluate}
 use Rattle.interpreter.specs.Instructions.{assigned, under}
 use Rattle.interpreter.specs.Instructions.Effect.{gives}
-use Rattle.interpreter.specs.Cells.{NextPlaces, ExpressionStands, AssignmentStands, TestStands, TargetsBelow}
+use Rattle.expressions.specs.Cells.{ExpressionStands}
+use Rattle.interpreter.specs.Cells.{NextPlaces, AssignmentStands, TestStands, TargetsBelow}
 use Rattle.interpreter.specs.Gathering.{Stepped, gathering, steppedBy, gather, gatherAll, atOnce, dueAfter, chosenBranch}
-use Rattle.interpreter.proofs.Evaluating.{Told}
+use Rattle.expressions.proofs.Evaluating.{Told}
 
 -- one node done
 abbrev done : Gathered → ℕ → ℕ → List ℤ → Stepped
@@ -50,17 +51,17 @@ module _ (ks : List ℕ) (ps : List ℤ) where
 
   -- ---- an assignment
 
-  module _ (nexts : List ℕ) {lows highs given : ℕ} (at : ℕ) (s : AssignmentStands ks ps nexts lows highs given at) where
-    pub assigned-stands : ExpressionStands ks ps nexts (at + 1)
+  module _ {variables given : ℕ} (at : ℕ) (s : AssignmentStands ks ps variables given at) where
+    pub assigned-stands : ExpressionStands ks ps (at + 1)
     unfolding InstructionAt
-    assigned-stands = record { expression = s .expression; stands = s .stands .1; places = s .places }
+    assigned-stands = record { expression = s .expression; stands = s .stands .1 }
 
     pub target-within : {x : ℕ} → mag (getD ps at (pos 0)) < 2 ^ 31 → x ≡ natAbs (toZ w32 (ofZ w32 (getD ps at (pos 0))))
-        → (x < given) × (x < lows) × (x < highs)
+        → (x < given) × (x < variables)
     unfolding InstructionAt
     target-within {x} f p =
         let q : x ≡ s .target = p ∙ ap natAbs (read-back (getD ps at (pos 0)) f ∙ s .stands .0 .parameter) in
-        (omega (arith, s .targetGiven), omega (arith, s .targetLow), omega (arith, s .targetHigh))
+        (omega (arith, s .targetGiven), omega (arith, s .targetVariable))
 
   module _ (σ : Valuation) (at : ℕ) (lows highs : List ℤ) (found : Gathered) {r : Evaluated} (told : Told ks ps σ r (at + 1)) where
     module _ (x : ℕ) (e : Expression) (h : InstructionAt ks ps (assign x e) at) where
@@ -99,9 +100,9 @@ module _ (ks : List ℕ) (ps : List ℤ) where
   -- ---- an if-then
 
   module _ (nexts : List ℕ) (at : ℕ) (s : TestStands ks ps nexts at) where
-    pub condition-stands : ExpressionStands ks ps nexts (at + 1)
+    pub condition-stands : ExpressionStands ks ps (at + 1)
     unfolding InstructionAt
-    condition-stands = record { expression = s .condition; stands = s .stands .1; places = s .places }
+    condition-stands = record { expression = s .condition; stands = s .stands .1 }
 
     pub body-within : (σ : Valuation) {r : Evaluated} → Told ks ps σ r (at + 1) → r .next .at < length nexts
     unfolding InstructionAt
@@ -152,22 +153,21 @@ module _ (ks : List ℕ) (ps : List ℤ) where
 
   -- ---- any instruction, by its kind
 
-  module _ (nexts : List ℕ) (at : ℕ) where
-    pub assignment-stands : {lows highs given : ℕ} (i : Instruction) → InstructionAt ks ps i at → TargetsBelow i lows → TargetsBelow i highs → TargetsBelow i given
-        → NextPlaces ks ps nexts → getD ks at 0 ≡ 17 → AssignmentStands ks ps nexts lows highs given at
+  module _ (at : ℕ) where
+    pub assignment-stands : {variables given : ℕ} (i : Instruction) → InstructionAt ks ps i at → TargetsBelow i variables → TargetsBelow i given
+        → getD ks at 0 ≡ 17 → AssignmentStands ks ps variables given at
     unfolding InstructionAt TargetsBelow
-    assignment-stands skip h l u g places k = absurd (omega (arith, h .kind))
-    assignment-stands (assign x e) h l u g places k =
-        record { target = x; expression = e; stands = h; targetLow = l; targetHigh = u; targetGiven = g; places = places }
-    assignment-stands (ifThen c i) h l u g places k = absurd (omega (arith, h .0 .kind))
-    assignment-stands (block is) h l u g places k = absurd (omega (arith, h .0 .kind))
+    assignment-stands skip h v g k = absurd (omega (arith, h .kind))
+    assignment-stands (assign x e) h v g k = record { target = x; expression = e; stands = h; targetVariable = v; targetGiven = g }
+    assignment-stands (ifThen c i) h v g k = absurd (omega (arith, h .0 .kind))
+    assignment-stands (block is) h v g k = absurd (omega (arith, h .0 .kind))
 
-    pub test-stands : (i : Instruction) → InstructionAt ks ps i at → NextPlaces ks ps nexts → getD ks at 0 ≡ 18 → TestStands ks ps nexts at
+    pub test-stands : (nexts : List ℕ) (i : Instruction) → InstructionAt ks ps i at → NextPlaces ks ps nexts → getD ks at 0 ≡ 18 → TestStands ks ps nexts at
     unfolding InstructionAt
-    test-stands skip h places k = absurd (omega (arith, h .kind))
-    test-stands (assign x e) h places k = absurd (omega (arith, h .0 .kind))
-    test-stands (ifThen c i) h places k = record { condition = c; body = i; stands = h; places = places }
-    test-stands (block is) h places k = absurd (omega (arith, h .0 .kind))
+    test-stands nexts skip h places k = absurd (omega (arith, h .kind))
+    test-stands nexts (assign x e) h places k = absurd (omega (arith, h .0 .kind))
+    test-stands nexts (ifThen c i) h places k = record { condition = c; body = i; stands = h; places = places }
+    test-stands nexts (block is) h places k = absurd (omega (arith, h .0 .kind))
 
   module _ (σ : Valuation) (at : ℕ) (lows highs given : List ℤ) (found : Gathered) where
     abbrev Steps : Stepped → Type 0

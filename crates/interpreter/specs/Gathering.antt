@@ -12,12 +12,12 @@ use Rattle.evaluation.specs.Numbers.{representable, eqZ, boolean}
 use Rattle.model.specs.Trees.{Instruction, Instructions, count}
 use Rattle.model.specs.Trees.Instruction.{skip, assign, ifThen, block}
 use Rattle.model.specs.Trees.Instructions.{none as noBranch, more}
-use Rattle.model.specs.Decoding.{sizeOf, sizeOfAll}
+use Rattle.model.specs.Standing.{sizeOf, sizeOfAll}
 use Rattle.interpreter.specs.declared.Step.{Step}
 use Rattle.interpreter.specs.declared.Gathered.{Gathered}
 use Rattle.interpreter.specs.declared.Fault.{Fault}
 use Rattle.interpreter.specs.declared.Fault.the-variants.{Failure, Outside, Conflict}
-use Rattle.interpreter.specs.Expressions.{Valuation, evaluate}
+use Rattle.expressions.specs.Expressions.{Valuation, evaluate}
 use Rattle.interpreter.specs.Instructions.{Effect, assigned, under}
 use Rattle.interpreter.specs.Instructions.Effect.{fails, gives}
 

@@ -16,7 +16,7 @@ use Rattle.model.specs.Trees.Instruction.{skip, assign, ifThen, block}
 use Rattle.model.specs.Trees.Instructions.{none as noBranch, more}
 use Rattle.interpreter.specs.declared.Fault.{Fault}
 use Rattle.interpreter.specs.declared.Fault.the-variants.{Failure, Outside, Conflict}
-use Rattle.interpreter.specs.Expressions.{Valuation, evaluate}
+use Rattle.expressions.specs.Expressions.{Valuation, evaluate}
 
 -- a reached condition or an active expression failed, or an active assignment gives a variable a value
 pub data Effect : Type 0 where
@@ -96,13 +96,10 @@ givenTo x (e ∷ es) = firstOf (givenBy x e) (givenTo x es)
 
 -- where a fault was met, for its number
 pub data Place : Type 0 where
-  guard action assertion : Place
+  action assertion : Place
 
--- 01: the numbers 24 to 30
+-- 01: the numbers 25 to 30
 unfoldable pub numberOf : Place → Fault → ℕ
-numberOf guard Failure = 24
-numberOf guard Outside = 24
-numberOf guard Conflict = 24
 numberOf action Failure = 25
 numberOf action Outside = 26
 numberOf action Conflict = 27

@@ -1,5 +1,6 @@
--- Definitions of crate `interpreter`, in document 01's order.
-pub mod Expressions
+-- Definitions of crate `interpreter`.
+-- 01's own:
 pub mod Instructions
+-- how the code goes about it:
 pub mod Cells
 pub mod Gathering

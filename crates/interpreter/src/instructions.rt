@@ -6,30 +6,36 @@ ghost use mathlib.Core.List.{List};
 ghost use Prim.Native.Nat.{ℕ, _<_};
 ghost use lib.IntN.{ℤ};
 ghost use lib.ListN.{length};
+ghost use Rattle.variables.specs.Rows.{lowsIn, highsIn};
 ghost use Rattle.model.specs.Trees.{Expression, Instruction};
 ghost use Rattle.model.specs.Trees.Instruction.{assign, ifThen};
-ghost use Rattle.model.specs.Decoding.{InstructionAt};
+ghost use Rattle.model.specs.Standing.{InstructionAt};
 ghost use Rattle.interpreter.specs.Instructions.{effects};
 ghost use Rattle.interpreter.specs.Instructions.Effect.{gives};
-ghost use Rattle.interpreter.specs.Cells.{valuationOf, InstructionStands, AssignmentStands, TestStands};
+ghost use Rattle.expressions.specs.Cells.{valuationOf};
+ghost use Rattle.interpreter.specs.Cells.{InstructionStands, AssignmentStands, TestStands};
 ghost use Rattle.interpreter.specs.Gathering as specs;
 ghost use Rattle.interpreter.specs.Gathering.{gathering, gatherAll, nothingFound, withinEnds, stepped, steppedBy};
 use super::Gathered;
 use super::Step;
-use super::expressions;
 use evaluation::Evaluation;
 use syntax::Cursor;
 use syntax::nodes;
 
+// Kinds of instructions.
+const ASSIGNMENT: u8 = 17;
+
+const IF_THEN: u8 = 18;
+
 // Does the value lie within the ends of the variable.
-fn is_within(lows: &[i32], highs: &[i32], variable: usize, value: i32) -> bool
-    requires { ⌜ (variable < length (now lows)) × (variable < length (now highs)) ⌝ }
-    ensures { λ r. ⌜ r ≡ withinEnds (now (lows .entry)) (now (highs .entry)) variable value ⌝ }
+fn is_within(variables: &[[i32; 3]], variable: usize, value: i32) -> bool
+    requires { ⌜ variable < length (now variables) ⌝ }
+    ensures { λ r. ⌜ r ≡ withinEnds (lowsIn (now (variables .entry))) (highsIn (now (variables .entry))) variable value ⌝ }
 {
-    if value < lows[variable] {
+    if value < variables::low(variables, variable) {
         return false;
     }
-    value <= highs[variable]
+    value <= variables::high(variables, variable)
 }
 
 // Something failed.
@@ -46,17 +52,16 @@ fn fail(found: Gathered) -> Gathered
 
 // An active assignment gives the variable a value.
 fn give(
-    lows: &[i32],
-    highs: &[i32],
+    variables: &[[i32; 3]],
     given: &mut [i64],
     variable: usize,
     value: i32,
     found: Gathered,
 ) -> Gathered
-    requires { ⌜ (variable < length (now given)) × (variable < length (now lows)) × (variable < length (now highs)) ⌝ }
-    ensures { λ r. ⌜ gathering r (now (given .exit)) ≡ specs.gather (now (lows .entry)) (now (highs .entry)) (gives variable value) (gathering found (now (given .entry))) ⌝ }
+    requires { ⌜ (variable < length (now given)) × (variable < length (now variables)) ⌝ }
+    ensures { λ r. ⌜ gathering r (now (given .exit)) ≡ specs.gather (lowsIn (now (variables .entry))) (highsIn (now (variables .entry))) (gives variable value) (gathering found (now (given .entry))) ⌝ }
 {
-    let outside = found.outside || !is_within(lows, highs, variable, value);
+    let outside = found.outside || !is_within(variables, variable, value);
     let held = given[variable];
     if expressions::is_number(held) {
         return Gathered {
@@ -79,19 +84,17 @@ fn give(
 fn assignment(
     kinds: &[u8],
     parameters: &[i32],
-    nexts: &[u16],
-    lows: &[i32],
-    highs: &[i32],
+    variables: &[[i32; 3]],
     cells: &[i64],
     given: &mut [i64],
     found: Gathered,
     at: usize,
 ) -> Step
-    requires { ⌜ AssignmentStands (now kinds) (now parameters) (now nexts) (length (now lows)) (length (now highs)) (length (now given)) at ⌝ }
+    requires { ⌜ AssignmentStands (now kinds) (now parameters) (length (now variables)) (length (now given)) at ⌝ }
     ensures { λ r. ⌜ ((x : ℕ) (e : Expression) → InstructionAt (now (kinds .entry)) (now (parameters .entry)) (assign x e) at
-        → stepped r (now (given .exit)) ≡ steppedBy (now (lows .entry)) (now (highs .entry)) (valuationOf (now (cells .entry))) at (assign x e) (gathering found (now (given .entry)))) ⌝ }
+        → stepped r (now (given .exit)) ≡ steppedBy (lowsIn (now (variables .entry))) (highsIn (now (variables .entry))) (valuationOf (now (cells .entry))) at (assign x e) (gathering found (now (given .entry)))) ⌝ }
 {
-    let r = expressions::evaluate(kinds, parameters, nexts, cells, Cursor { at: at + 1 });
+    let r = expressions::evaluate(kinds, parameters, cells, Cursor { at: at + 1 });
     let evaluation = r.evaluation;
     let next = r.next.at;
     match evaluation {
@@ -110,7 +113,7 @@ fn assignment(
         }
         Evaluation::Value(value) => {
             let variable = nodes::magnitude(parameters[at]);
-            let given_now = give(lows, highs, given, variable, value, found);
+            let given_now = give(variables, given, variable, value, found);
             Step {
                 found: given_now,
                 next,
@@ -133,7 +136,7 @@ fn test(
     ensures { λ r. ⌜ ((lows highs given : List ℤ) (c : Expression) (i : Instruction) → InstructionAt (now (kinds .entry)) (now (parameters .entry)) (ifThen c i) at
         → stepped r given ≡ steppedBy lows highs (valuationOf (now (cells .entry))) at (ifThen c i) (gathering found given)) ⌝ }
 {
-    let r = expressions::evaluate(kinds, parameters, nexts, cells, Cursor { at: at + 1 });
+    let r = expressions::evaluate(kinds, parameters, cells, Cursor { at: at + 1 });
     let condition = r.evaluation;
     let body = r.next.at;
     let past = nexts[body] as usize;
@@ -174,32 +177,21 @@ fn step(
     kinds: &[u8],
     parameters: &[i32],
     nexts: &[u16],
-    lows: &[i32],
-    highs: &[i32],
+    variables: &[[i32; 3]],
     cells: &[i64],
     given: &mut [i64],
     found: Gathered,
     at: usize,
 ) -> Step
-    requires { ⌜ InstructionStands (now kinds) (now parameters) (now nexts) (length (now lows)) (length (now highs)) (length (now given)) at ⌝ }
+    requires { ⌜ InstructionStands (now kinds) (now parameters) (now nexts) (length (now variables)) (length (now given)) at ⌝ }
     ensures { λ r. ⌜ ((i : Instruction) → InstructionAt (now (kinds .entry)) (now (parameters .entry)) i at
-        → stepped r (now (given .exit)) ≡ steppedBy (now (lows .entry)) (now (highs .entry)) (valuationOf (now (cells .entry))) at i (gathering found (now (given .entry)))) ⌝ }
+        → stepped r (now (given .exit)) ≡ steppedBy (lowsIn (now (variables .entry))) (highsIn (now (variables .entry))) (valuationOf (now (cells .entry))) at i (gathering found (now (given .entry)))) ⌝ }
 {
     let kind = kinds[at];
-    if kind == 17 {
-        return assignment(
-            kinds,
-            parameters,
-            nexts,
-            lows,
-            highs,
-            cells,
-            given,
-            found,
-            at,
-        );
+    if kind == ASSIGNMENT {
+        return assignment(kinds, parameters, variables, cells, given, found, at);
     }
-    if kind == 18 {
+    if kind == IF_THEN {
         return test(kinds, parameters, nexts, cells, found, at);
     }
     // skip has parameter 0, a block the number of its branches
@@ -215,15 +207,14 @@ pub fn gather(
     kinds: &[u8],
     parameters: &[i32],
     nexts: &[u16],
-    lows: &[i32],
-    highs: &[i32],
+    variables: &[[i32; 3]],
     cells: &[i64],
     given: &mut [i64],
     at: usize,
 ) -> Gathered
-    requires { ⌜ InstructionStands (now kinds) (now parameters) (now nexts) (length (now lows)) (length (now highs)) (length (now given)) at ⌝ }
+    requires { ⌜ InstructionStands (now kinds) (now parameters) (now nexts) (length (now variables)) (length (now given)) at ⌝ }
     ensures { λ r. ⌜ ((i : Instruction) → InstructionAt (now (kinds .entry)) (now (parameters .entry)) i at
-        → gathering r (now (given .exit)) ≡ gatherAll (now (lows .entry)) (now (highs .entry)) (effects i (valuationOf (now (cells .entry)))) (gathering nothingFound (now (given .entry)))) ⌝ }
+        → gathering r (now (given .exit)) ≡ gatherAll (lowsIn (now (variables .entry))) (highsIn (now (variables .entry))) (effects i (valuationOf (now (cells .entry)))) (gathering nothingFound (now (given .entry)))) ⌝ }
 {
     let mut found = Gathered {
         failed: false,
@@ -238,8 +229,7 @@ pub fn gather(
             kinds,
             parameters,
             nexts,
-            lows,
-            highs,
+            variables,
             cells,
             given,
             found,

@@ -1,16 +1,6 @@
-// What expressions and instructions come to.
+// What an instruction comes to.
 
-pub mod expressions; // expressions.rt: an expression over cells
 pub mod instructions; // instructions.rt: an instruction over cells
-
-use evaluation::Evaluation;
-use syntax::Cursor;
-
-// An evaluation (01: reading) with the cursor after the expression.
-pub struct Evaluated {
-    pub evaluation: Evaluation,
-    pub next: Cursor,
-}
 
 // The three classes of fault, the one with the lowest number first.
 pub enum Fault {

@@ -9,17 +9,17 @@ use lib.Dec.{T, eqb}
 use lib.IntN.{ℤ, pos, natAbs}
 use lib.ListN.{length, getD}
 use Rattle.evaluation.specs.Numbers.{eqZ}
-use Rattle.syntax.specs.Kinds.{placeOf, childrenOf, resultOf, operandSort, kindOf, operatorOf}
+use Rattle.kinds.specs.Kinds.{rowOf, placeOf, childrenOf, resultOf, operandSort, kindOf, operatorOf}
 use Rattle.model.specs.Trees.{Expression, Instruction, Instructions, count, depthOfExpression, depthOf, depthOfAll}
 use Rattle.model.specs.Trees.Expression.{numeral, truth, variable, negation, binary, ifThenElse}
 use Rattle.model.specs.Trees.Instruction.{skip, assign, ifThen, block}
 use Rattle.model.specs.Trees.Instructions.{none, more}
 use Rattle.model.specs.Walk.{Walk, Scope, andThen, unlessRefused, leaf, operandsAt, expressionAt, branchesAt, partsAt, instructionAt}
-use Rattle.syntax.specs.Readings.{isTruth, isOfSort, isTarget, expressionRefusal, expressionAllowed, expressionFits, instructionRefusal, instructionFits, kindAt, parameterAt}
+use Rattle.syntax.specs.Readings.{standsAt, isTruth, isOfSort, isTarget, expressionRefusal, expressionAllowed, expressionFits, instructionRefusal, instructionFits, kindAt, parameterAt}
 use Rattle.model.specs.Walk.Walk.{found}
 use Rattle.model.specs.WellFormed.{Sorted, Scoped, AllScoped}
-use Rattle.model.specs.Decoding.{NodeAt, ExpressionAt, InstructionAt, InstructionsAt, sizeOfExpression, sizeOf, sizeOfAll}
-use Rattle.model.proofs.KindCases.{operator-row}
+use Rattle.model.specs.Standing.{NodeAt, ExpressionAt, InstructionAt, InstructionsAt, sizeOfExpression, sizeOf, sizeOfAll}
+use Rattle.model.proofs.KindCases.{stands, operator-row}
 use Rattle.model.proofs.WalkClaims.{node-refusal}
 
 -- ---- the rules for 6 and 7
@@ -35,10 +35,20 @@ last-true a false true d p q = rw p
 last-true a false false d p q = rw (p, q)
 
 -- a kind of the wanted sort is allowed
-pub sort-allowed : (wanted k : ℕ) → placeOf k ≡ 6 → wanted ≡ resultOf k → expressionAllowed wanted k ≡ true
-unfolding expressionAllowed
+pub sort-allowed : (wanted k : ℕ) → placeOf k ≡ 6 → wanted ≡ resultOf k → expressionAllowed rowOf wanted k ≡ true
+unfolding expressionAllowed rowOf
 sort-allowed wanted k p e =
-    last-true (eqb (placeOf k) 6) (eqb k 34) (eqb k 46) (eqb (resultOf k) wanted) (eq-eqb (placeOf k) 6 p) (eq-eqb (resultOf k) wanted (sym e))
+    last-true (standsAt rowOf 6 k) (eqb k 34) (eqb k 46) (eqb (resultOf k) wanted) (stands 6 k p)
+    (eq-eqb (resultOf k) wanted (sym e))
+
+-- a variable and an if-then-else are, whatever the wanted sort
+variable-allowed : (wanted : ℕ) → expressionAllowed rowOf wanted 34 ≡ true
+unfolding expressionAllowed placeOf
+variable-allowed wanted = rw (stands 6 34 refl)
+
+choice-allowed : (wanted : ℕ) → expressionAllowed rowOf wanted 46 ≡ true
+unfolding expressionAllowed placeOf
+choice-allowed wanted = rw (stands 6 46 refl)
 
 pub zero-fits : (sorts : List ℕ) (wanted k : ℕ) → eqb k 32 ≡ false → eqb k 33 ≡ false → eqb k 34 ≡ false → expressionFits sorts wanted k (pos 0) ≡ true
 unfolding expressionFits eqZ
@@ -55,13 +65,13 @@ target-fits from past x h l = rw (le-leb from x h, lt-ltb x past l)
 module _ (ks : List ℕ) (ps : List ℤ) (sorts : List ℕ) where
   -- one node, and what follows it
   expression-step : (left wanted at k : ℕ) (p : ℤ) (e : Expression) (next : ℕ) → NodeAt ks ps at k p
-      → expressionAllowed wanted k ≡ true → expressionFits sorts wanted k p ≡ true
+      → expressionAllowed rowOf wanted k ≡ true → expressionFits sorts wanted k p ≡ true
       → operandsAt ks ps (λ w next. expressionAt ks ps sorts left w next) wanted k p (at + 1) (childrenOf k) ≡ found e next
       → expressionAt ks ps sorts (suc left) wanted at ≡ found e next
   unfolding expressionAt expressionRefusal unlessRefused
   expression-step left wanted at k p e next n a f h =
-      let z : expressionRefusal ks ps sorts (suc left) wanted at ≡ 0 =
-      node-refusal ks ps (expressionAllowed wanted) (expressionFits sorts wanted) (suc left) at k p n (omega arith) a f in
+      let z : expressionRefusal rowOf ks ps sorts (suc left) wanted at ≡ 0 =
+      node-refusal ks ps (expressionAllowed rowOf wanted) (expressionFits sorts wanted) (suc left) at k p n (omega arith) a f in
       ap (λ r. unlessRefused r (operandsAt ks ps (λ w next. expressionAt ks ps sorts left w next) wanted (kindAt ks ps at) (parameterAt ks ps at) (at + 1) (childrenOf (kindAt ks ps at)))) z
       ∙ rw (n .kind, n .parameter) h
 
@@ -92,7 +102,7 @@ module _ (ks : List ℕ) (ps : List ℤ) (sorts : List ℕ) where
       expression-step left wanted at 33 v (truth v) (at + 1) n (sort-allowed wanted 33 refl (s .0)) (T-true (isTruth v) (s .1)) refl
   complete-expression (variable x) zero wanted at n s d = absurd (omega arith)
   complete-expression (variable x) (suc left) wanted at n s d =
-      expression-step left wanted at 34 (pos x) (variable x) (at + 1) n refl (sort-fits sorts wanted x (s .0) (s .1)) refl
+      expression-step left wanted at 34 (pos x) (variable x) (at + 1) n (variable-allowed wanted) (sort-fits sorts wanted x (s .0) (s .1)) refl
   complete-expression (negation a) zero wanted at n s d = absurd (omega arith)
   complete-expression (negation a) (suc left) wanted at n s d =
       expression-step left wanted at 35 (pos 0) (negation a) (at + suc (sizeOfExpression a)) (n .0) (sort-allowed wanted 35 refl (s .0)) (zero-fits sorts wanted 35 refl refl refl)
@@ -115,7 +125,7 @@ module _ (ks : List ℕ) (ps : List ℤ) (sorts : List ℕ) where
       let second = at + 1 + sizeOfExpression c in
       let third = at + 1 + sizeOfExpression c + sizeOfExpression a in
       let next = at + suc (sizeOfExpression c + (sizeOfExpression a + sizeOfExpression b)) in
-      expression-step left wanted at 46 (pos 0) (ifThenElse c a b) next (n .0) refl (zero-fits sorts wanted 46 refl refl refl)
+      expression-step left wanted at 46 (pos 0) (ifThenElse c a b) next (n .0) (choice-allowed wanted) (zero-fits sorts wanted 46 refl refl refl)
       (three-operands (λ w next. expressionAt ks ps sorts left w next) wanted 46 (pos 0) (at + 1) c a b second third next
       (complete-expression c left 1 (at + 1) (n .1) (s .0) (omega arith))
       (complete-expression a left wanted second (n .2) (s .1) (omega arith))
@@ -134,8 +144,8 @@ module _ (ks : List ℕ) (ps : List ℤ) where
       → instructionAt ks ps s (suc left) at ≡ found i next
   unfolding instructionAt instructionRefusal unlessRefused
   instruction-step s left at k p i next n a f h =
-      let z : instructionRefusal ks ps (s .from) (s .past) (suc left) at ≡ 0 =
-      node-refusal ks ps (λ k. eqb (placeOf k) 5) (instructionFits (s .from) (s .past)) (suc left) at k p n (omega arith) (eq-eqb (placeOf k) 5 a) f in
+      let z : instructionRefusal rowOf ks ps (s .from) (s .past) (suc left) at ≡ 0 =
+      node-refusal ks ps (standsAt rowOf 5) (instructionFits (s .from) (s .past)) (suc left) at k p n (omega arith) (stands 5 k a) f in
       ap (λ r. unlessRefused r
       (cond (eqb (kindAt ks ps at) 19)
       (andThen (branchesAt ks ps (λ next. instructionAt ks ps s left next) (natAbs (parameterAt ks ps at)) (at + 1)) (λ is next. found (block is) next))

@@ -11,18 +11,18 @@ use lib.IntN.{ℤ, pos, negsuc}
 use lib.Signed.{leZ}
 use lib.ListN.{length, length-append}
 use Rattle.evaluation.specs.Numbers.{representable, least, greatest}
-use Rattle.syntax.specs.Kinds.{placeOf}
+use Rattle.kinds.specs.Kinds.{rowOf, placeOf}
 use Rattle.model.specs.Trees.{Variable, Transition}
 use Rattle.model.specs.Nodes.{nodesOfVariable}
 use Rattle.model.specs.Walk.{Walk, Scope, andThen, unlessRefused, variableAt, rangeAt, transitionAt, rowAt}
-use Rattle.syntax.specs.Readings.{isTruth, isTarget, variableRefusal, endRefusal, transitionRefusal}
+use Rattle.syntax.specs.Readings.{standsAt, isTruth, isTarget, variableRefusal, endRefusal, transitionRefusal}
 use Rattle.model.specs.Walk.Walk.{found}
 use Rattle.model.specs.Check.{maxDepth}
 use Rattle.model.specs.WellFormed.{Declared, GuardedBy, All}
-use Rattle.model.specs.Decoding.{NodeAt, ExpressionAt, InstructionAt, TransitionsAt, sizeOfExpression, sizeOf, sizeOfTransition, sizeOfTransitions}
-use Rattle.model.proofs.KindCases.{both}
+use Rattle.model.specs.Standing.{NodeAt, ExpressionAt, InstructionAt, sizeOfExpression, sizeOf, sizeOfTransition, sizeOfTransitions}
+use Rattle.model.proofs.KindCases.{both, stands}
 use Rattle.model.proofs.WalkClaims.{node-refusal}
-use Rattle.model.proofs.NodeLists.{NodesAt, nodes-split}
+use Rattle.model.proofs.NodeLists.{TransitionsAt, NodesAt, nodes-split}
 use Rattle.model.proofs.Complete.{T-true, target-fits, complete-expression, complete-instruction}
 
 -- ---- order of whole numbers
@@ -52,21 +52,21 @@ module _ (ks : List ℕ) (ps : List ℤ) where
   complete-boolean : (first : ℤ) (at : ℕ) → T (isTruth first) → VariableIsFound at (record { sort = 1; low = pos 0; high = pos 1; first = first })
   unfolding NodesAt nodesOfVariable variableAt variableRefusal unlessRefused placeOf
   complete-boolean first at t n =
-      let z : variableRefusal ks ps at ≡ 0 =
-      node-refusal ks ps (λ k. eqb (placeOf k) 1) (λ k p. eqb k 2 || isTruth p) 1 at 1 first (n .0) (omega arith) refl (T-true (isTruth first) t) in
+      let z : variableRefusal rowOf ks ps at ≡ 0 =
+      node-refusal ks ps (standsAt rowOf 1) (λ k p. eqb k 2 || isTruth p) 1 at 1 first (n .0) (omega arith) (stands 1 1 refl) (T-true (isTruth first) t) in
       rw (z, n .0 .kind, n .0 .parameter)
 
   complete-number : (low high first : ℤ) (at : ℕ) → T (representable high) → T (leZ low first) → T (leZ first high)
       → VariableIsFound at (record { sort = 2; low = low; high = high; first = first })
   unfolding NodesAt nodesOfVariable variableAt variableRefusal rangeAt endRefusal unlessRefused placeOf
   complete-number low high first at r h l n =
-      let z : variableRefusal ks ps at ≡ 0 =
-      node-refusal ks ps (λ k. eqb (placeOf k) 1) (λ k p. eqb k 2 || isTruth p) 1 at 2 low (n .0) (omega arith) refl refl in
-      let y : endRefusal ks ps 2 low greatest (at + 1) ≡ 0 =
-      node-refusal ks ps (λ k. eqb (placeOf k) 2) (λ k p. leZ low p && leZ p greatest) 1 (at + 1) 3 high (n .1 .0) (omega arith) refl
+      let z : variableRefusal rowOf ks ps at ≡ 0 =
+      node-refusal ks ps (standsAt rowOf 1) (λ k p. eqb k 2 || isTruth p) 1 at 2 low (n .0) (omega arith) (stands 1 2 refl) refl in
+      let y : endRefusal rowOf ks ps 2 low greatest (at + 1) ≡ 0 =
+      node-refusal ks ps (standsAt rowOf 2) (λ k p. leZ low p && leZ p greatest) 1 (at + 1) 3 high (n .1 .0) (omega arith) (stands 2 3 refl)
       (all-true (leZ low high) (leZ high greatest) (leZ-trans low first high h l) (representable-high high r)) in
-      let x : endRefusal ks ps 3 low high (at + 1 + 1) ≡ 0 =
-      node-refusal ks ps (λ k. eqb (placeOf k) 3) (λ k p. leZ low p && leZ p high) 1 (at + 1 + 1) 4 first (n .1 .1 .0) (omega arith) refl
+      let x : endRefusal rowOf ks ps 3 low high (at + 1 + 1) ≡ 0 =
+      node-refusal ks ps (standsAt rowOf 3) (λ k p. leZ low p && leZ p high) 1 (at + 1 + 1) 4 first (n .1 .1 .0) (omega arith) (stands 3 4 refl)
       (all-true (leZ low first) (leZ first high) h l) in
       rw (z, n .0 .kind, n .0 .parameter, y, n .1 .0 .parameter, x, n .1 .1 .0 .parameter) (ap (found (record { sort = 2; low = low; high = high; first = first })) (omega arith))
     where
@@ -115,8 +115,8 @@ module _ (ks : List ℕ) (ps : List ℤ) where
       → transitionAt ks ps events s maxDepth at ≡ found t (at + 1 + sizeOfExpression (t .guard) + sizeOf (t .action))
   unfolding transitionAt transitionRefusal unlessRefused andThen placeOf
   complete-transition events s t at n g a h =
-      let z : transitionRefusal ks ps events at ≡ 0 =
-      node-refusal ks ps (λ k. eqb (placeOf k) 4) (λ k p. isTarget 0 events p) 1 at 5 (pos (t .event)) n (omega arith) refl (target-fits 0 events (t .event) (omega arith) (h .event)) in
+      let z : transitionRefusal rowOf ks ps events at ≡ 0 =
+      node-refusal ks ps (standsAt rowOf 4) (λ k p. isTarget 0 events p) 1 at 5 (pos (t .event)) n (omega arith) (stands 4 5 refl) (target-fits 0 events (t .event) (omega arith) (h .event)) in
       rw (
         z,
         complete-expression ks ps (s .sorts) (t .guard) 32 1 (at + 1) g (h .guard) (h .guardDepth),

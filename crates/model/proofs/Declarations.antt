@@ -21,53 +21,58 @@ use Rattle.model.specs.declared.Declaration.{Declaration}
 use Rattle.model.specs.declared.Declaration.the-variants as declaration
 use Rattle.model.specs.Trees.{Variable, sortsOf}
 use Rattle.model.specs.Walk.{Walk, andThen, outcome, declarationOf, rangeAt, variableAt, rowAt}
+use Rattle.kinds.specs.Kinds.{table, rowOf, rowIn}
 use Rattle.syntax.specs.Readings.{parameterAt, variableReading, variableRefusal, endReading, endRefusal}
 use Rattle.model.specs.Walk.Walk.{refused, found}
-use Rattle.model.proofs.Walking.{split, unless-refused, unless-none, Due, node-due, one-less, list-row, row-refused, row-next, row-done}
+use Rattle.kinds.proofs.Follows.{rows-follow}
+use Rattle.model.proofs.Walking.{split, unless-refused, unless-none, Due, node-due, one-less, reading-lent, list-row, row-refused, row-next, row-done}
 
 -- a number as it is passed on
 abbrev read : ℤ → ℤ
 read z = toZ w32 (ofZ w32 z)
 
-module _ (ks : List ℕ) (ps : List ℤ) where
+module _ (ks : List ℕ) (ps : List ℤ) {rows : List ℕ} (lent : rows ≡ table) where
   -- the ends and the first value of a number
-  module _ {low : ℤ} (fl : SFits w32 low) (at : ℕ) {r : Reading} (e : r ≡ endReading ks ps 2 (read low) greatest at) where
-    high-read : r ≡ endReading ks ps 2 low greatest at
-    high-read = rw (toZ-ofZ w32 low fl) at e
+  module _ {low : ℤ} (fl : SFits w32 low) (at : ℕ) {r : Reading} (e : r ≡ endReading (rowIn rows) ks ps 2 (read low) greatest at) where
+    high-read : r ≡ endReading rowOf ks ps 2 low greatest at
+    high-read = rw (toZ-ofZ w32 low fl, rows-follow lent) at e
 
     pub high-refused : {n : ℕ} → r ≡ reading.Refused n → declaration.Refused n ≡ declarationOf (rangeAt ks ps low at)
     unfolding rangeAt declarationOf
-    high-refused h = rw (unless-refused ks ps (endRefusal ks ps 2 low greatest at) at _ high-read h)
+    high-refused h = rw (unless-refused ks ps (endRefusal rowOf ks ps 2 low greatest at) at _ high-read h)
 
-    module _ {k : ℕ} {high : ℤ} {second : Cursor} (h : r ≡ reading.Node k high second) (fh : SFits w32 high) {r₁ : Reading} (e₁ : r₁ ≡ endReading ks ps 3 (read low) (read high) (second .at)) where
-      due : Due ks ps (endRefusal ks ps 2 low greatest at) at k high second
-      due = node-due ks ps (endRefusal ks ps 2 low greatest at) at high-read h
+    module _ {k : ℕ} {high : ℤ} {second : Cursor} (h : r ≡ reading.Node k high second) (fh : SFits w32 high) {r₁ : Reading} (e₁ : r₁ ≡ endReading (rowIn rows) ks ps 3 (read low) (read high) (second .at)) where
+      due : Due ks ps (endRefusal rowOf ks ps 2 low greatest at) at k high second
+      due = node-due ks ps (endRefusal rowOf ks ps 2 low greatest at) at high-read h
 
-      first-read : r₁ ≡ endReading ks ps 3 low (parameterAt ks ps at) (at + 1)
-      first-read = rw (toZ-ofZ w32 low fl, toZ-ofZ w32 high fh, sym (due .parameter), sym (due .place)) at e₁
+      first-read : r₁ ≡ endReading rowOf ks ps 3 low (parameterAt ks ps at) (at + 1)
+      first-read = rw (rows-follow lent, toZ-ofZ w32 low fl, toZ-ofZ w32 high fh, sym (due .parameter), sym (due .place)) at e₁
 
       pub first-refused : {n : ℕ} → r₁ ≡ reading.Refused n → declaration.Refused n ≡ declarationOf (rangeAt ks ps low at)
       unfolding rangeAt declarationOf
       first-refused h₁ =
-          rw (unless-none _ (due .allowed), unless-refused ks ps (endRefusal ks ps 3 low (parameterAt ks ps at) (at + 1)) (at + 1) _ first-read h₁)
+          rw (unless-none _ (due .allowed), unless-refused ks ps (endRefusal rowOf ks ps 3 low (parameterAt ks ps at) (at + 1)) (at + 1) _ first-read h₁)
 
       pub range-walked : {k₁ : ℕ} {first : ℤ} {next : Cursor} → r₁ ≡ reading.Node k₁ first next → SFits w32 first
           → declaration.Variable 2 (read low) (read high) (read first) next ≡ declarationOf (rangeAt ks ps low at)
       unfolding rangeAt declarationOf
       range-walked {k₁} {first} {next} h₁ ff =
-          let d : Due ks ps (endRefusal ks ps 3 low (parameterAt ks ps at) (at + 1)) (at + 1) k₁ first next = node-due ks ps (endRefusal ks ps 3 low (parameterAt ks ps at) (at + 1)) (at + 1) first-read h₁ in
+          let d : Due ks ps (endRefusal rowOf ks ps 3 low (parameterAt ks ps at) (at + 1)) (at + 1) k₁ first next = node-due ks ps (endRefusal rowOf ks ps 3 low (parameterAt ks ps at) (at + 1)) (at + 1) first-read h₁ in
           let q : at + 2 ≡ next .at = omega (arith, d .place) in
           rw (unless-none _ (due .allowed), unless-none _ (d .allowed), due .parameter, d .parameter, q, toZ-ofZ w32 low fl, toZ-ofZ w32 high fh, toZ-ofZ w32 first ff)
 
   -- a variable
-  module _ (at : ℕ) {r : Reading} (e : r ≡ variableReading ks ps at) where
+  module _ (at : ℕ) {r : Reading} (e : r ≡ variableReading (rowIn rows) ks ps at) where
+    variable-read : r ≡ variableReading rowOf ks ps at
+    variable-read = reading-lent (λ row. variableReading row ks ps at) lent e
+
     pub variable-refused : {n : ℕ} → r ≡ reading.Refused n → declaration.Refused n ≡ declarationOf (variableAt ks ps at)
     unfolding variableAt declarationOf
-    variable-refused h = rw (unless-refused ks ps (variableRefusal ks ps at) at _ e h)
+    variable-refused h = rw (unless-refused ks ps (variableRefusal rowOf ks ps at) at _ variable-read h)
 
     module _ {k : ℕ} {p : ℤ} {next : Cursor} (h : r ≡ reading.Node k p next) (f : SFits w32 p) where
-      variable-due : Due ks ps (variableRefusal ks ps at) at k p next
-      variable-due = node-due ks ps (variableRefusal ks ps at) at e h
+      variable-due : Due ks ps (variableRefusal rowOf ks ps at) at k p next
+      variable-due = node-due ks ps (variableRefusal rowOf ks ps at) at variable-read h
 
       pub boolean-walked : k ≡ 1 → declaration.Variable 1 (pos 0) (pos 1) (read p) next ≡ declarationOf (variableAt ks ps at)
       unfolding variableAt declarationOf

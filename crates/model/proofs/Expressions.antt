@@ -7,26 +7,31 @@ use native.Mathlib.Omega.{arith}
 use lib.Dec.{eqb}
 use lib.IntN.{ℤ}
 use Rattle.syntax.specs.declared.Cursor.{Cursor}
-use Rattle.syntax.specs.declared.Row.{Row}
+use Rattle.kinds.specs.declared.Row.{Row}
 use Rattle.syntax.specs.declared.Reading.{Reading}
 use Rattle.syntax.specs.declared.Reading.the-variants as reading
 use Rattle.model.specs.declared.Walked.{Walked}
 use Rattle.model.specs.declared.Walked.the-variants as walked
-use Rattle.syntax.specs.Kinds.{between, childrenOf, rowOf, operandSort}
+use Rattle.kinds.specs.Kinds.{table, between, childrenOf, rowOf, rowIn, operandSort}
 use Rattle.model.specs.Trees.{Expression}
 use Rattle.model.specs.Walk.{Walk, unlessRefused, outcome, operandsAt, expressionAt}
 use Rattle.syntax.specs.Readings.{kindAt, parameterAt, expressionRefusal, expressionReading}
-use Rattle.model.proofs.Walking.{then-refused, then-next, then-found, refused-number, unless-refused, unless-none, Due, node-due, depth-left, one-less, children-of}
+use Rattle.model.proofs.Walking.{then-refused, then-next, then-found, refused-number, unless-refused, unless-none, Due, node-due, depth-left, one-less, children-of, reading-lent}
 
 module _ (ks : List ℕ) (ps : List ℤ) (sorts : List ℕ) (wanted at : ℕ) where
   abbrev number : ℕ → ℕ
-  number left = expressionRefusal ks ps sorts left wanted at
+  number left = expressionRefusal rowOf ks ps sorts left wanted at
 
-  pub expression-refused : (left : ℕ) {r : Reading} {n : ℕ} → r ≡ expressionReading ks ps sorts left wanted at → r ≡ reading.Refused n
+  lent : (left : ℕ) {rows : List ℕ} {r : Reading} → rows ≡ table → r ≡ expressionReading (rowIn rows) ks ps sorts left wanted at
+      → r ≡ expressionReading rowOf ks ps sorts left wanted at
+  lent left t e = reading-lent (λ row. expressionReading row ks ps sorts left wanted at) t e
+
+  pub expression-refused : (left : ℕ) {rows : List ℕ} {r : Reading} {n : ℕ} → rows ≡ table
+      → r ≡ expressionReading (rowIn rows) ks ps sorts left wanted at → r ≡ reading.Refused n
       → walked.Refused n ≡ outcome (expressionAt ks ps sorts left wanted at)
   unfolding expressionAt outcome
-  expression-refused zero e h = ap walked.Refused (sym (refused-number ks ps (number zero) at e h))
-  expression-refused (suc left) e h = rw (unless-refused ks ps (number (suc left)) at _ e h)
+  expression-refused zero t e h = ap walked.Refused (sym (refused-number ks ps (number zero) at (lent zero t e) h))
+  expression-refused (suc left) t e h = rw (unless-refused ks ps (number (suc left)) at _ (lent (suc left) t e) h)
 
   expression-step : (left : ℕ) → 1 ≤ left → expressionAt ks ps sorts left wanted at ≡ unlessRefused (number left)
       (operandsAt ks ps (expressionAt ks ps sorts (left - 1)) wanted (kindAt ks ps at) (parameterAt ks ps at) (at + 1) (childrenOf (kindAt ks ps at)))
@@ -34,9 +39,10 @@ module _ (ks : List ℕ) (ps : List ℤ) (sorts : List ℕ) (wanted at : ℕ) wh
   expression-step zero l = absurd (omega arith)
   expression-step (suc left) l = rw (one-less left)
 
-  module _ (left : ℕ) {r : Reading} {k : ℕ} {p : ℤ} {next : Cursor} (e : r ≡ expressionReading ks ps sorts left wanted at) (h : r ≡ reading.Node k p next) where
+  module _ (left : ℕ) {rows : List ℕ} {r : Reading} {k : ℕ} {p : ℤ} {next : Cursor}
+      (t : rows ≡ table) (e : r ≡ expressionReading (rowIn rows) ks ps sorts left wanted at) (h : r ≡ reading.Node k p next) where
     due : Due ks ps (number left) at k p next
-    due = node-due ks ps (number left) at e h
+    due = node-due ks ps (number left) at (lent left t e) h
 
     expression-depth : 1 ≤ left
     unfolding expressionRefusal

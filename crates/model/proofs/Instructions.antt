@@ -12,18 +12,18 @@ use mir.Syntax.{w32}
 use mir.Val.{toZ, ofZ, SFits}
 use Rattle.evaluation.proofs.Signed.{read-one}
 use Rattle.syntax.specs.declared.Cursor.{Cursor}
-use Rattle.syntax.specs.declared.Row.{Row}
+use Rattle.kinds.specs.declared.Row.{Row}
 use Rattle.syntax.specs.declared.Reading.{Reading}
 use Rattle.syntax.specs.declared.Reading.the-variants as reading
 use Rattle.model.specs.declared.Walked.{Walked}
 use Rattle.model.specs.declared.Walked.the-variants as walked
-use Rattle.syntax.specs.Kinds.{childrenOf, rowOf}
+use Rattle.kinds.specs.Kinds.{table, childrenOf, rowOf, rowIn}
 use Rattle.model.specs.Trees.{Expression, Instruction}
 use Rattle.model.specs.Trees.Instruction.{block}
 use Rattle.model.specs.Walk.{Walk, Scope, andThen, unlessRefused, outcome, expressionAt, branchesAt, partsAt, instructionAt}
 use Rattle.syntax.specs.Readings.{kindAt, parameterAt, instructionRefusal, instructionReading}
 use Rattle.model.specs.Walk.Walk.{found}
-use Rattle.model.proofs.Walking.{then-refused, then-next, then-found, refused-number, unless-refused, unless-none, Due, node-due, depth-left, one-less, children-of}
+use Rattle.model.proofs.Walking.{then-refused, then-next, then-found, refused-number, unless-refused, unless-none, Due, node-due, depth-left, one-less, children-of, reading-lent}
 
 -- the sort of a variable
 module _ (sorts : List ℕ) {p : ℤ} (f : SFits w32 p) {m : ℕ} (e : m ≡ natAbs (toZ w32 (ofZ w32 p))) where
@@ -35,13 +35,18 @@ module _ (sorts : List ℕ) {p : ℤ} (f : SFits w32 p) {m : ℕ} (e : m ≡ nat
 
 module _ (ks : List ℕ) (ps : List ℤ) (s : Scope) (at : ℕ) where
   abbrev number : ℕ → ℕ
-  number left = instructionRefusal ks ps (s .from) (s .past) left at
+  number left = instructionRefusal rowOf ks ps (s .from) (s .past) left at
 
-  pub instruction-refused : (left : ℕ) {r : Reading} {n : ℕ} → r ≡ instructionReading ks ps (s .from) (s .past) left at → r ≡ reading.Refused n
+  lent : (left : ℕ) {rows : List ℕ} {r : Reading} → rows ≡ table → r ≡ instructionReading (rowIn rows) ks ps (s .from) (s .past) left at
+      → r ≡ instructionReading rowOf ks ps (s .from) (s .past) left at
+  lent left t e = reading-lent (λ row. instructionReading row ks ps (s .from) (s .past) left at) t e
+
+  pub instruction-refused : (left : ℕ) {rows : List ℕ} {r : Reading} {n : ℕ} → rows ≡ table
+      → r ≡ instructionReading (rowIn rows) ks ps (s .from) (s .past) left at → r ≡ reading.Refused n
       → walked.Refused n ≡ outcome (instructionAt ks ps s left at)
   unfolding instructionAt outcome
-  instruction-refused zero e h = ap walked.Refused (sym (refused-number ks ps (number zero) at e h))
-  instruction-refused (suc left) e h = rw (unless-refused ks ps (number (suc left)) at _ e h)
+  instruction-refused zero t e h = ap walked.Refused (sym (refused-number ks ps (number zero) at (lent zero t e) h))
+  instruction-refused (suc left) t e h = rw (unless-refused ks ps (number (suc left)) at _ (lent (suc left) t e) h)
 
   instruction-step : (left : ℕ) → 1 ≤ left → instructionAt ks ps s left at ≡ unlessRefused (number left) (cond (eqb (kindAt ks ps at) 19)
       (andThen (branchesAt ks ps (instructionAt ks ps s (left - 1)) (natAbs (parameterAt ks ps at)) (at + 1)) (λ is next. found (block is) next))
@@ -51,9 +56,10 @@ module _ (ks : List ℕ) (ps : List ℤ) (s : Scope) (at : ℕ) where
   instruction-step zero l = absurd (omega arith)
   instruction-step (suc left) l = rw (one-less left)
 
-  module _ (left : ℕ) {r : Reading} {k : ℕ} {p : ℤ} {next : Cursor} (e : r ≡ instructionReading ks ps (s .from) (s .past) left at) (h : r ≡ reading.Node k p next) where
+  module _ (left : ℕ) {rows : List ℕ} {r : Reading} {k : ℕ} {p : ℤ} {next : Cursor}
+      (t : rows ≡ table) (e : r ≡ instructionReading (rowIn rows) ks ps (s .from) (s .past) left at) (h : r ≡ reading.Node k p next) where
     due : Due ks ps (number left) at k p next
-    due = node-due ks ps (number left) at e h
+    due = node-due ks ps (number left) at (lent left t e) h
 
     instruction-depth : 1 ≤ left
     unfolding instructionRefusal

@@ -3,17 +3,28 @@ use mathlib.Core.Path.{_≡_, refl, subst}
 use mathlib.Core.Bool.{Bool, true, false, false≢true, cond, _&&_, _||_}
 use Prim.Native.Nat.{ℕ, zero, suc, _+_, _-_, _≤_, _<_}
 use native.Mathlib.Omega.{arith}
-use borrow.Author.Tests.{eqb-true, leb-true}
+use borrow.Author.Tests.{eq-eqb, eqb-true, leb-true}
 use lib.Dec.{eqb, leb}
 use Rattle.evaluation.specs.declared.Operator.{Operator}
 use Rattle.evaluation.specs.declared.Operator.the-variants.{Conjunction, Disjunction, Equality, Less, LessOrEqual, Sum, Difference, Product, Quotient, Remainder, Equivalence}
-use Rattle.syntax.specs.Kinds.{between, placeOf, childrenOf, kindOf, operatorOf}
+use Rattle.kinds.specs.Kinds.{between, placeOf, childrenOf, rowOf, kindOf, operatorOf}
+use Rattle.syntax.specs.Readings.{standsAt}
 
 -- ---- tests joined by `&&` and `||`
 
 pub both : (a b : Bool) → (a && b) ≡ true → (a ≡ true) × (b ≡ true)
 both true b e = (refl, e)
 both false b e = absurd (false≢true e)
+
+-- ---- the rows of 01's list
+
+pub stands : (place k : ℕ) → placeOf k ≡ place → standsAt rowOf place k ≡ true
+unfolding rowOf
+stands place k e = eq-eqb (placeOf k) place e
+
+pub standing-place : (place k : ℕ) → standsAt rowOf place k ≡ true → placeOf k ≡ place
+unfolding rowOf
+standing-place place k e = eqb-true (placeOf k) place e
 
 -- ---- the place tells which test held
 

@@ -1,4 +1,4 @@
--- A list of nodes that stands among kinds and parameters.
+-- Nodes that stand among kinds and parameters: those of transitions, and those of a list.
 use mathlib.Core.Path.{_≡_, sym, _∙_, subst}
 use mathlib.Core.List.{List, [], _∷_, _++_, map}
 use Prim.Native.Nat.{ℕ, zero, suc, _+_, _≤_, _<_}
@@ -8,9 +8,18 @@ use lib.IntN.{ℤ, pos}
 use lib.ListN.{length, getD, length-map, List·getD-map}
 use lib.Seq.{ext-getD}
 use Rattle.model.specs.Nodes.{Node, node}
-use Rattle.model.specs.Decoding.{NodeAt}
+use Rattle.model.specs.Trees.{Transition}
+use Rattle.model.specs.Standing.{NodeAt, ExpressionAt, InstructionAt, sizeOfExpression, sizeOf}
 
 module _ (ks : List ℕ) (ps : List ℤ) where
+  -- the nodes of these transitions stand from this place on, each with its event, its guard and its action
+  unfoldable pub TransitionsAt : List Transition → ℕ → Type 0
+  TransitionsAt [] at = Unit {0}
+  TransitionsAt (t ∷ ts) at =
+      NodeAt ks ps at 5 (pos (t .event)) × ExpressionAt ks ps (t .guard) (at + 1)
+      × InstructionAt ks ps (t .action) (at + 1 + sizeOfExpression (t .guard))
+      × TransitionsAt ts (at + 1 + sizeOfExpression (t .guard) + sizeOf (t .action))
+
   unfoldable pub NodesAt : List Node → ℕ → Type 0
   NodesAt [] at = Unit {0}
   NodesAt (n ∷ ns) at = NodeAt ks ps at (n .kind) (n .parameter) × NodesAt ns (at + 1)

@@ -10,8 +10,8 @@ use Rattle.model.specs.Trees.Expression.{numeral, truth, variable, negat
 use Rattle.model.specs.Trees.Instruction.{skip, assign, ifThen, block}
 use Rattle.model.specs.Trees.Instructions.{none, more}
 use Rattle.model.specs.Nodes.{nodesOfExpression, nodesOf, nodesOfAll, nodesOfVariable, nodesOfTransition, nodesOfSystem}
-use Rattle.model.specs.Decoding.{ExpressionAt, InstructionAt, InstructionsAt, TransitionsAt, sizeOfExpression, sizeOf, sizeOfAll, sizeOfTransition, sizeOfTransitions}
-use Rattle.model.proofs.NodeLists.{NodesAt, nodes-append, nodes-split}
+use Rattle.model.specs.Standing.{ExpressionAt, InstructionAt, InstructionsAt, sizeOfExpression, sizeOf, sizeOfAll, sizeOfTransition, sizeOfTransitions}
+use Rattle.model.proofs.NodeLists.{TransitionsAt, NodesAt, nodes-append, nodes-split}
 
 -- ---- sizes are numbers of nodes
 

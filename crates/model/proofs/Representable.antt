@@ -20,7 +20,7 @@ use Rattle.model.specs.Walk.{Scope}
 use Rattle.syntax.specs.Readings.{isTruth}
 use Rattle.model.specs.Check.{actionScope, assertionScope}
 use Rattle.model.specs.WellFormed.{Sorted, Scoped, AllScoped, Declared, GuardedBy, All, WellFormed, sizesOf}
-use Rattle.model.specs.Decoding.{sizeOf, sizeOfAll, sizeOfTransition, sizeOfTransitions}
+use Rattle.model.specs.Standing.{sizeOf, sizeOfAll, sizeOfTransition, sizeOfTransitions}
 use Rattle.model.proofs.KindCases.{both}
 use Rattle.model.proofs.Standing.{holds-T}
 use Rattle.model.proofs.Complete.{T-true}

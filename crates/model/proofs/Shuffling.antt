@@ -19,7 +19,7 @@ use Rattle.model.specs.Shuffle.TransitionExchanged.{inGuard, inAction}
 use Rattle.model.specs.Shuffle.OneExchanged.{inFirst, inLater}
 use Rattle.model.specs.Shuffle.SystemExchanged.{inTransitions, inAssertion}
 use Rattle.model.specs.Shuffle.Shuffled.{same, step}
-use Rattle.model.specs.Decoding.{sizeOfExpression, sizeOf, sizeOfAll, sizeOfTransition, sizeOfTransitions}
+use Rattle.model.specs.Standing.{sizeOfExpression, sizeOf, sizeOfAll, sizeOfTransition, sizeOfTransitions}
 use Rattle.model.specs.Theorems.{ShuffledAccepted}
 use Rattle.model.proofs.NodeTrees.{system-size}
 use Rattle.model.proofs.Encoding.{sizes-path}

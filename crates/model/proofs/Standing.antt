@@ -12,15 +12,15 @@ use lib.ListN.{length, getD}
 use Rattle.evaluation.specs.declared.Operator.{Operator}
 use Rattle.evaluation.specs.Numbers.{eqZ, representable}
 use Rattle.evaluation.proofs.Laws.{eqZ-true}
-use Rattle.syntax.specs.Kinds.{placeOf, childrenOf, resultOf, operandSort, kindOf}
+use Rattle.kinds.specs.Kinds.{rowOf, placeOf, childrenOf, resultOf, operandSort, kindOf}
 use Rattle.model.specs.Trees.{Expression, Instruction, Instructions, count, depthOfExpression, depthOf, depthOfAll}
 use Rattle.model.specs.Trees.Instruction.{block}
 use Rattle.model.specs.Walk.{Walk, Scope, branchesAt, partsAt, instructionAt, andThen, leaf, operandsAt, expressionAt}
-use Rattle.syntax.specs.Readings.{isTarget, instructionRefusal, instructionFits, isOfSort, expressionRefusal, expressionAllowed, expressionFits, kindAt, parameterAt}
+use Rattle.syntax.specs.Readings.{standsAt, isTarget, instructionRefusal, instructionFits, isOfSort, expressionRefusal, expressionAllowed, expressionFits, kindAt, parameterAt}
 use Rattle.model.specs.Walk.Walk.{found}
 use Rattle.model.specs.WellFormed.{Sorted, Scoped, AllScoped}
-use Rattle.model.specs.Decoding.{NodeAt, ExpressionAt, InstructionAt, InstructionsAt, sizeOfExpression, sizeOf, sizeOfAll}
-use Rattle.model.proofs.KindCases.{both, ExpressionKind, expression-kind, operator-row, InstructionKind, instruction-kind}
+use Rattle.model.specs.Standing.{NodeAt, ExpressionAt, InstructionAt, InstructionsAt, sizeOfExpression, sizeOf, sizeOfAll}
+use Rattle.model.proofs.KindCases.{both, standing-place, ExpressionKind, expression-kind, operator-row, InstructionKind, instruction-kind}
 use Rattle.model.proofs.KindCases.ExpressionKind.{isNumeral, isTruth as isTruthKind, isVariable, isNegation, isBinary, isIfThenElse}
 use Rattle.model.proofs.KindCases.InstructionKind.{isSkip, isAssign, isIfThen, isBlock}
 use Rattle.model.proofs.WalkClaims.{Holds, holds-found, holds-then, holds-unless, Due, no-refusal}
@@ -48,13 +48,13 @@ result wanted k true true b p q e = absurd (false≢true (sym p))
 result wanted k false a b p q e = absurd (false≢true e)
 
 -- a kind with a sort of its own has the wanted one
-pub allowed-sort : (wanted k : ℕ) → eqb k 34 ≡ false → eqb k 46 ≡ false → expressionAllowed wanted k ≡ true → wanted ≡ resultOf k
-unfolding expressionAllowed
-allowed-sort wanted k p q e = result wanted k (eqb (placeOf k) 6) (eqb k 34) (eqb k 46) p q e
+pub allowed-sort : (wanted k : ℕ) → eqb k 34 ≡ false → eqb k 46 ≡ false → expressionAllowed rowOf wanted k ≡ true → wanted ≡ resultOf k
+unfolding expressionAllowed rowOf
+allowed-sort wanted k p q e = result wanted k (standsAt rowOf 6 k) (eqb k 34) (eqb k 46) p q e
 
-pub allowed-place : (wanted k : ℕ) → expressionAllowed wanted k ≡ true → placeOf k ≡ 6
+pub allowed-place : (wanted k : ℕ) → expressionAllowed rowOf wanted k ≡ true → placeOf k ≡ 6
 unfolding expressionAllowed
-allowed-place wanted k e = eqb-true (placeOf k) 6 (both (eqb (placeOf k) 6) (eqb k 34 || eqb k 46 || eqb (resultOf k) wanted) e .0)
+allowed-place wanted k e = standing-place 6 k (both (standsAt rowOf 6 k) (eqb k 34 || eqb k 46 || eqb (rowOf k .result) wanted) e .0)
 
 -- a kind other than 32, 33 and 34 has parameter 0
 pub fits-zero : (sorts : List ℕ) (wanted k : ℕ) (p : ℤ) → eqb k 32 ≡ false → eqb k 33 ≡ false → eqb k 34 ≡ false
@@ -91,7 +91,7 @@ module _ (ks : List ℕ) (ps : List ℤ) (sorts : List ℕ) where
     -- whatever is found after a node of this kind
     abbrev Claim : ℕ → Type 0
     Claim k =
-        NodeAt ks ps at k p → expressionAllowed wanted k ≡ true → expressionFits sorts wanted k p ≡ true
+        NodeAt ks ps at k p → expressionAllowed rowOf wanted k ≡ true → expressionFits sorts wanted k p ≡ true
         → Holds (ExpressionFound ks ps sorts (suc left) wanted at) (operandsAt ks ps child wanted k p (at + 1) (childrenOf k))
 
     -- an operand, and what follows it
@@ -187,9 +187,9 @@ module _ (ks : List ℕ) (ps : List ℤ) (long : length ps ≡ length ks) where
   unfolding Holds expressionAt expressionRefusal
   expression-found sorts zero wanted at = tt
   expression-found sorts (suc left) wanted at =
-      holds-unless (ExpressionFound ks ps sorts (suc left) wanted at) (expressionRefusal ks ps sorts (suc left) wanted at) _
+      holds-unless (ExpressionFound ks ps sorts (suc left) wanted at) (expressionRefusal rowOf ks ps sorts (suc left) wanted at) _
       (λ e.
-      let d = no-refusal ks ps (expressionAllowed wanted) (expressionFits sorts wanted) (suc left) at e in
+      let d = no-refusal ks ps (expressionAllowed rowOf wanted) (expressionFits sorts wanted) (suc left) at e in
       operands-found ks ps sorts (λ w next. expressionAt ks ps sorts left w next) left (λ w next. expression-found sorts left w next)
       wanted at (parameterAt ks ps at) (λ r. r at) (kindAt ks ps at) (expression-kind (kindAt ks ps at) (allowed-place wanted (kindAt ks ps at) (d .allows)))
       (due-node d) (d .allows) (d .suits))
@@ -317,12 +317,12 @@ module _ (ks : List ℕ) (ps : List ℤ) (long : length ps ≡ length ks) where
   unfolding Holds instructionAt instructionRefusal
   instruction-found s zero at = tt
   instruction-found s (suc left) at =
-      holds-unless (InstructionFound ks ps s (suc left) at) (instructionRefusal ks ps (s .from) (s .past) (suc left) at) _
+      holds-unless (InstructionFound ks ps s (suc left) at) (instructionRefusal rowOf ks ps (s .from) (s .past) (suc left) at) _
       (λ e.
-      let d = no-refusal ks ps (λ k. eqb (placeOf k) 5) (instructionFits (s .from) (s .past)) (suc left) at e in
+      let d = no-refusal ks ps (standsAt rowOf 5) (instructionFits (s .from) (s .past)) (suc left) at e in
       part-found ks ps s left (λ next. instructionAt ks ps s left next) (λ next. instruction-found s left next)
       (λ w next. expressionAt ks ps (s .sorts) left w next) (λ w next. expression-found ks ps long (s .sorts) left w next)
-      at (parameterAt ks ps at) (kindAt ks ps at) (instruction-kind (kindAt ks ps at) (eqb-true (placeOf (kindAt ks ps at)) 5 (d .allows)))
+      at (parameterAt ks ps at) (kindAt ks ps at) (instruction-kind (kindAt ks ps at) (standing-place 5 (kindAt ks ps at) (d .allows)))
       (due-node ks ps long d) (d .suits))
 
   pub standing-instruction : (s : Scope) (left at : ℕ) {i : Instruction} {next : ℕ}

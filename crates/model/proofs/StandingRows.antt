@@ -5,25 +5,24 @@ use mathlib.Core.Bool.{Bool, true, cond, _&&_, _||_}
 use mathlib.Core.List.{List, [], _∷_, flatMap}
 use Prim.Native.Nat.{ℕ, zero, suc, _+_}
 use native.Mathlib.Omega.{arith}
-use borrow.Author.Tests.{eqb-true}
 use lib.Dec.{eqb}
 use lib.IntN.{ℤ, pos}
 use lib.Signed.{leZ}
 use lib.ListN.{length, length-append}
 use Rattle.evaluation.specs.Numbers.{greatest}
-use Rattle.syntax.specs.Kinds.{placeOf}
+use Rattle.kinds.specs.Kinds.{rowOf}
 use Rattle.model.specs.Trees.{Variable, Transition}
 use Rattle.model.specs.Nodes.{nodesOfVariable}
 use Rattle.model.specs.Walk.{Walk, Scope, expressionAt, instructionAt, variableAt, rangeAt, transitionAt, rowAt}
-use Rattle.syntax.specs.Readings.{isTruth, isTarget, variableRefusal, endRefusal, transitionRefusal, kindAt, parameterAt}
+use Rattle.syntax.specs.Readings.{standsAt, isTruth, isTarget, variableRefusal, endRefusal, transitionRefusal, kindAt, parameterAt}
 use Rattle.model.specs.Walk.Walk.{found}
 use Rattle.model.specs.Check.{maxDepth}
 use Rattle.model.specs.WellFormed.{Declared, GuardedBy, All}
-use Rattle.model.specs.Decoding.{NodeAt, ExpressionAt, InstructionAt, TransitionsAt, sizeOfExpression, sizeOf, sizeOfTransition, sizeOfTransitions}
-use Rattle.model.proofs.KindCases.{both, VariableKind, variable-kind, high-kind, first-kind, transition-kind}
+use Rattle.model.specs.Standing.{NodeAt, ExpressionAt, InstructionAt, sizeOfExpression, sizeOf, sizeOfTransition, sizeOfTransitions}
+use Rattle.model.proofs.KindCases.{both, standing-place, VariableKind, variable-kind, high-kind, first-kind, transition-kind}
 use Rattle.model.proofs.KindCases.VariableKind.{isBoolean, isNumber}
 use Rattle.model.proofs.WalkClaims.{Holds, holds-found, holds-map, holds-then, holds-unless, Due, no-refusal}
-use Rattle.model.proofs.NodeLists.{NodesAt, nodes-append}
+use Rattle.model.proofs.NodeLists.{TransitionsAt, NodesAt, nodes-append}
 use Rattle.model.proofs.Standing.{AllRepresentable, ExpressionFound, InstructionFound, expression-found, instruction-found, due-node, holds-T, target}
 
 -- ---- rows of anything
@@ -75,20 +74,20 @@ module _ (ks : List ℕ) (ps : List ℤ) (long : length ps ≡ length ks) where
   number-found : (at : ℕ) → VariableClaim at 2
   unfolding Holds rangeAt NodesAt nodesOfVariable Declared endRefusal
   number-found at n f =
-      holds-unless (VariableFound ks ps at) (endRefusal ks ps 2 (parameterAt ks ps at) greatest (at + 1)) _
+      holds-unless (VariableFound ks ps at) (endRefusal rowOf ks ps 2 (parameterAt ks ps at) greatest (at + 1)) _
       (λ e.
-      holds-unless (VariableFound ks ps at) (endRefusal ks ps 3 (parameterAt ks ps at) (parameterAt ks ps (at + 1)) (at + 1 + 1)) _
+      holds-unless (VariableFound ks ps at) (endRefusal rowOf ks ps 3 (parameterAt ks ps at) (parameterAt ks ps (at + 1)) (at + 1 + 1)) _
       (λ l.
-      let d = no-refusal ks ps (λ k. eqb (placeOf k) 2) (λ k p. leZ (parameterAt ks ps at) p && leZ p greatest) 1 (at + 1) e in
-      let g = no-refusal ks ps (λ k. eqb (placeOf k) 3) (λ k p. leZ (parameterAt ks ps at) p && leZ p (parameterAt ks ps (at + 1))) 1 (at + 1 + 1) l in
+      let d = no-refusal ks ps (standsAt rowOf 2) (λ k p. leZ (parameterAt ks ps at) p && leZ p greatest) 1 (at + 1) e in
+      let g = no-refusal ks ps (standsAt rowOf 3) (λ k p. leZ (parameterAt ks ps at) p && leZ p (parameterAt ks ps (at + 1))) 1 (at + 1 + 1) l in
       let b = both (leZ (parameterAt ks ps at) (parameterAt ks ps (at + 1 + 1))) (leZ (parameterAt ks ps (at + 1 + 1)) (parameterAt ks ps (at + 1))) (g .suits) in
       record {
         nodes = (
           n,
           (
-            due-kind 3 (high-kind (kindAt ks ps (at + 1)) (eqb-true (placeOf (kindAt ks ps (at + 1))) 2 (d .allows))) d,
+            due-kind 3 (high-kind (kindAt ks ps (at + 1)) (standing-place 2 (kindAt ks ps (at + 1)) (d .allows))) d,
             (
-              due-kind 4 (first-kind (kindAt ks ps (at + 1 + 1)) (eqb-true (placeOf (kindAt ks ps (at + 1 + 1))) 3 (g .allows))) g,
+              due-kind 4 (first-kind (kindAt ks ps (at + 1 + 1)) (standing-place 3 (kindAt ks ps (at + 1 + 1)) (g .allows))) g,
               tt,
             ),
           ),
@@ -104,10 +103,10 @@ module _ (ks : List ℕ) (ps : List ℤ) (long : length ps ≡ length ks) where
   pub variable-found : (at : ℕ) → Holds (VariableFound ks ps at) (variableAt ks ps at)
   unfolding Holds variableAt variableRefusal
   variable-found at =
-      holds-unless (VariableFound ks ps at) (variableRefusal ks ps at) _
+      holds-unless (VariableFound ks ps at) (variableRefusal rowOf ks ps at) _
       (λ e.
-      let d = no-refusal ks ps (λ k. eqb (placeOf k) 1) (λ k p. eqb k 2 || isTruth p) 1 at e in
-      kind-found at (kindAt ks ps at) (variable-kind (kindAt ks ps at) (eqb-true (placeOf (kindAt ks ps at)) 1 (d .allows))) (due-node ks ps long d) (d .suits))
+      let d = no-refusal ks ps (standsAt rowOf 1) (λ k p. eqb k 2 || isTruth p) 1 at e in
+      kind-found at (kindAt ks ps at) (variable-kind (kindAt ks ps at) (standing-place 1 (kindAt ks ps at) (d .allows))) (due-node ks ps long d) (d .suits))
 
 -- what a row of variables comes to
 pub record VariablesFound (ks : List ℕ) (ps : List ℤ) (n at : ℕ) (vs : List Variable) (next : ℕ) : Type 0 where
@@ -156,16 +155,16 @@ pub transition-found : (ks : List ℕ) (ps : List ℤ) → length ps ≡ length 
     → Holds (TransitionFound ks ps events s at) (transitionAt ks ps events s maxDepth at)
 unfolding Holds transitionAt transitionRefusal
 transition-found ks ps long events s at =
-    holds-unless (TransitionFound ks ps events s at) (transitionRefusal ks ps events at) _
+    holds-unless (TransitionFound ks ps events s at) (transitionRefusal rowOf ks ps events at) _
     (λ e.
     holds-then (ExpressionFound ks ps (s .sorts) maxDepth 1 (at + 1)) (TransitionFound ks ps events s at) (expressionAt ks ps (s .sorts) maxDepth 1 (at + 1)) _ (expression-found ks ps long (s .sorts) maxDepth 1 (at + 1))
     (λ g second f.
     holds-then (InstructionFound ks ps s maxDepth second) (TransitionFound ks ps events s at) (instructionAt ks ps s maxDepth second) _ (instruction-found ks ps long s maxDepth second)
     (λ a next l.
-    let d = no-refusal ks ps (λ k. eqb (placeOf k) 4) (λ k p. isTarget 0 events p) 1 at e in
+    let d = no-refusal ks ps (standsAt rowOf 4) (λ k p. isTarget 0 events p) 1 at e in
     let t = target 0 events (parameterAt ks ps at) (d .suits) in
     record {
-      node = subst (NodeAt ks ps at 5) (t .number) (due-kind ks ps long 5 (transition-kind (kindAt ks ps at) (eqb-true (placeOf (kindAt ks ps at)) 4 (d .allows))) d);
+      node = subst (NodeAt ks ps at 5) (t .number) (due-kind ks ps long 5 (transition-kind (kindAt ks ps at) (standing-place 4 (kindAt ks ps at) (d .allows))) d);
       guard = f .stands;
       action = subst (InstructionAt ks ps a) (f .after) (l .stands);
       after = omega (arith, f .after, l .after);

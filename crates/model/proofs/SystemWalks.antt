@@ -13,7 +13,7 @@ use Rattle.model.specs.Walk.{scopeOf, andThen, instructionAt, variableAt
 use Rattle.model.specs.Walk.Walk.{found}
 use Rattle.model.specs.Check.{maxDepth, actionScope, assertionScope, restAt, systemAt}
 use Rattle.model.specs.WellFormed.{Scoped, Declared, GuardedBy, All, WellFormed, sizesOf}
-use Rattle.model.specs.Decoding.{sizeOfTransitions}
+use Rattle.model.specs.Standing.{sizeOfTransitions}
 use Rattle.model.proofs.WalkClaims.{Holds, holds-then}
 use Rattle.model.proofs.NodeLists.{NodesAt, nodes-append, nodes-split}
 use Rattle.model.proofs.NodeTrees.{instruction-size, transitions-size, instruction-nodes, nodes-instruction, transitions-nodes, nodes-transitions}

@@ -15,19 +15,24 @@ use Rattle.model.specs.declared.Walked.{Walked}
 use Rattle.model.specs.declared.Walked.the-variants as walked
 use Rattle.model.specs.Trees.{Variable, sortsOf}
 use Rattle.model.specs.Walk.{Walk, Scope, scopeOf, andThen, outcome, expressionAt, instructionAt, variableAt, transitionAt, rowAt}
+use Rattle.kinds.specs.Kinds.{table, rowOf, rowIn}
 use Rattle.syntax.specs.Readings.{transitionReading, transitionRefusal}
 use Rattle.model.specs.Walk.Walk.{refused, found}
 use Rattle.model.specs.Check.{maxDepth, complete, restAt, systemAt}
-use Rattle.model.proofs.Walking.{split, same-place, then-refused, then-next, then-found, unless-refused, unless-none, Due, node-due}
+use Rattle.model.proofs.Walking.{split, same-place, then-refused, then-next, then-found, unless-refused, unless-none, Due, node-due, reading-lent}
 
-module _ (ks : List ℕ) (ps : List ℤ) (events : ℕ) (s : Scope) (depth at : ℕ) {r : Reading} (e : r ≡ transitionReading ks ps events at) where
+module _ (ks : List ℕ) (ps : List ℤ) (events : ℕ) (s : Scope) (depth at : ℕ) {rows : List ℕ} (lent : rows ≡ table)
+    {r : Reading} (e : r ≡ transitionReading (rowIn rows) ks ps events at) where
+  transition-read : r ≡ transitionReading rowOf ks ps events at
+  transition-read = reading-lent (λ row. transitionReading row ks ps events at) lent e
+
   pub transition-refused : {n : ℕ} → r ≡ reading.Refused n → walked.Refused n ≡ outcome (transitionAt ks ps events s depth at)
   unfolding transitionAt outcome
-  transition-refused h = rw (unless-refused ks ps (transitionRefusal ks ps events at) at _ e h)
+  transition-refused h = rw (unless-refused ks ps (transitionRefusal rowOf ks ps events at) at _ transition-read h)
 
   module _ {k : ℕ} {p : ℤ} {next : Cursor} (h : r ≡ reading.Node k p next) {r₁ : Walked} (e₁ : r₁ ≡ outcome (expressionAt ks ps (s .sorts) depth 1 (next .at))) where
-    due : Due ks ps (transitionRefusal ks ps events at) at k p next
-    due = node-due ks ps (transitionRefusal ks ps events at) at e h
+    due : Due ks ps (transitionRefusal rowOf ks ps events at) at k p next
+    due = node-due ks ps (transitionRefusal rowOf ks ps events at) at transition-read h
 
     pub guard-refused : {n : ℕ} → r₁ ≡ walked.Refused n → walked.Refused n ≡ outcome (transitionAt ks ps events s depth at)
     unfolding transitionAt

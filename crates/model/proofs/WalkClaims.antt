@@ -11,7 +11,7 @@ use lib.ListN.{length}
 use Rattle.model.specs.Walk.{Walk, andThen, unlessRefused}
 use Rattle.syntax.specs.Readings.{refusalAt, kindAt, parameterAt}
 use Rattle.model.specs.Walk.Walk.{refused, found}
-use Rattle.model.specs.Decoding.{NodeAt}
+use Rattle.model.specs.Standing.{NodeAt}
 
 -- whatever this walk finds, the claim holds of it
 unfoldable pub Holds : {A : Type 0} → (A → ℕ → Type 0) → Walk A → Type 0

@@ -8,12 +8,13 @@ use lib.Dec.{leb}
 use lib.IntN.{ℤ}
 use lib.ListN.{length}
 use Rattle.syntax.specs.declared.Cursor.{Cursor}
-use Rattle.syntax.specs.declared.Row.{Row}
+use Rattle.kinds.specs.declared.Row.{Row}
 use Rattle.syntax.specs.declared.Reading.{Reading}
 use Rattle.syntax.specs.declared.Reading.the-variants as reading
 use Rattle.model.specs.declared.Walked.{Walked}
 use Rattle.model.specs.declared.Walked.the-variants as walked
-use Rattle.syntax.specs.Kinds.{childrenOf, rowOf}
+use Rattle.kinds.specs.Kinds.{childrenOf, rowOf, rowIn, table}
+use Rattle.kinds.proofs.Follows.{rows-follow}
 use Rattle.model.specs.Trees.{Instruction}
 use Rattle.model.specs.Trees.Instructions.{more}
 use Rattle.model.specs.Walk.{Walk, andThen, unlessRefused, outcome, branchesAt, rowAt}
@@ -104,6 +105,10 @@ node-depth left d e = subst (DepthLeft left) e d
 -- the depth of a child
 pub one-less : (left : ℕ) → suc left - 1 ≡ left
 one-less left = omega arith
+
+-- the table that is lent is that of 01's list
+pub reading-lent : (f : (ℕ → Row) → Reading) {rows : List ℕ} {r : Reading} → rows ≡ table → r ≡ f (rowIn rows) → r ≡ f rowOf
+reading-lent f t e = e ∙ ap f (rows-follow t)
 
 -- the number of children by the table's row
 pub children-of : {row : Row} (k : ℕ) → row ≡ rowOf k → childrenOf k ≡ row .children

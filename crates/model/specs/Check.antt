@@ -16,8 +16,9 @@ use Rattle.model.specs.declared.Sort.{Sort}
 use Rattle.model.specs.declared.Sort.the-variants.{Boolean, Number}
 use Rattle.model.specs.declared.Given.{Given}
 use Rattle.model.specs.declared.Given.the-variants as given
-use Rattle.syntax.specs.Kinds.{booleanSort, numberSort}
+use Rattle.kinds.specs.Kinds.{booleanSort, numberSort}
 use Rattle.model.specs.Trees.{Expression, Variable, Transition, Instruction, System, sortsOf}
+use Rattle.model.specs.Nodes.{parameterWidth}
 use Rattle.model.specs.Sizes.{byteLayout, headerOf, littleAt, sized}
 use Rattle.model.specs.Walk.{Walk, Scope, scopeOf, andThen, expressionAt, instructionAt, variableAt, transitionAt, rowAt}
 use Rattle.model.specs.Walk.Walk.{refused, found}
@@ -33,7 +34,7 @@ signed n = cond (ltb n 2147483648) (pos n) (negℤ (pos (4294967296 - n)))
 -- so many parameters of four bytes from place `at` on
 unfoldable pub parametersAt : List ℕ → ℕ → ℕ → List ℤ
 parametersAt m at zero = []
-parametersAt m at (suc n) = signed (littleAt m at 4) ∷ parametersAt m (at + 4) n
+parametersAt m at (suc n) = signed (littleAt m at parameterWidth) ∷ parametersAt m (at + parameterWidth) n
 
 -- 01: "Then two parallel arrays: N kinds of one byte, and N parameters of four bytes"
 abbrev pub kindsIn : Layout → ℕ → List ℕ → List ℕ

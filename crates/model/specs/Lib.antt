@@ -1,4 +1,5 @@
 -- Definitions and statements of crate `model`, in document 01's order.
+-- 01's own:
 pub mod Trees
 pub mod Nodes
 pub mod Sizes
@@ -6,6 +7,7 @@ pub mod Walk
 pub mod Check
 pub mod WellFormed
 pub mod Shuffle
-pub mod NextPlaces
-pub mod Decoding
+-- how the code goes about it:
+pub mod Standing
+-- statements:
 pub mod Theorems

@@ -4,7 +4,7 @@ use mathlib.Core.Bool.{cond}
 use Prim.Native.Nat.{ℕ, zero, suc, _-_, _/_, _%_}
 use lib.Dec.{eqb}
 use lib.IntN.{ℤ, pos, negsuc}
-use Rattle.syntax.specs.Kinds.{kindOf, booleanSort}
+use Rattle.kinds.specs.Kinds.{kindOf, booleanSort}
 use Rattle.model.specs.Trees.{Expression, Instruction, Instructions, Variable, Transition, System, count, variables}
 use Rattle.model.specs.Trees.Expression.{numeral, truth, variable, negation, binary, ifThenElse}
 use Rattle.model.specs.Trees.Instruction.{skip, assign, ifThen, block}
@@ -62,5 +62,9 @@ unfoldable pub twosComplement : ℤ → ℕ
 twosComplement (pos n) = n
 twosComplement (negsuc n) = 4294967296 - suc n
 
+-- 01: "N parameters of four bytes"
+abbrev pub parameterWidth : ℕ
+parameterWidth = 4
+
 abbrev pub parameterBytes : ℤ → List ℕ
-parameterBytes v = littleBytes 4 (twosComplement v)
+parameterBytes v = littleBytes parameterWidth (twosComplement v)

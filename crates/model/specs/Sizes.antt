@@ -15,13 +15,33 @@ use Rattle.model.specs.Nodes.{littleBytes}
 abbrev pub maxNodes : ℕ
 maxNodes = 4000
 
--- the layout of document 01: each of S, F, E, T one byte wide
-abbrev pub byteLayout : Layout
-byteLayout = record { width = 1; «max_nodes» = maxNodes }
+-- S and F are a byte each, so there are at most twice 255 variables
+abbrev pub maxVariables : ℕ
+maxVariables = 510
 
--- the bytes before the kinds
+-- T is one byte
+abbrev pub maxTransitions : ℕ
+maxTransitions = 255
+
+-- 01: "then N (nodes), two bytes"
+abbrev pub nodesWidth : ℕ
+nodesWidth = 2
+
+-- a node has a kind of one byte and its parameter of four (`parameterWidth`)
+abbrev pub nodeWidth : ℕ
+nodeWidth = 5
+
+-- 01: "S (state variables), F (flow variables), E (events), T (transitions), one byte each"
+abbrev pub sizeWidth : ℕ
+sizeWidth = 1
+
+-- the layout of document 01
+abbrev pub byteLayout : Layout
+byteLayout = record { width = sizeWidth; «max_nodes» = maxNodes }
+
+-- the bytes before the kinds: S, F, E, T, then N
 abbrev pub headerOf : Layout → ℕ
-headerOf l = 4 * l .width + 2
+headerOf l = 4 * l .width + nodesWidth
 
 -- the number in `width` bytes from place `at` on, low byte first
 unfoldable pub littleAt : List ℕ → ℕ → ℕ → ℕ
@@ -35,7 +55,7 @@ sizesIn l m =
       flows = littleAt m (l .width) (l .width);
       events = littleAt m (2 * l .width) (l .width);
       transitions = littleAt m (3 * l .width) (l .width);
-      nodes = littleAt m (4 * l .width) 2;
+      nodes = littleAt m (4 * l .width) nodesWidth;
     }
 
 -- 01: 1 "under 6 bytes", 2 "N above 4,000", 3 "length not 6 + 5N", in this order
@@ -43,7 +63,7 @@ unfoldable pub sized : Layout → List ℕ → Sized
 sized l m =
     cond (ltb (length m) (headerOf l)) (Refused 1)
     (cond (ltb (l .«max_nodes») (sizesIn l m .nodes)) (Refused 2)
-    (cond (not (eqb (length m) (headerOf l + 5 * sizesIn l m .nodes))) (Refused 3)
+    (cond (not (eqb (length m) (headerOf l + nodeWidth * sizesIn l m .nodes))) (Refused 3)
     (Read (sizesIn l m))))
 
 -- the header's bytes
@@ -52,4 +72,4 @@ headerBytes l s =
     littleBytes (l .width) (s .states)
     ++ (littleBytes (l .width) (s .flows)
     ++ (littleBytes (l .width) (s .events)
-    ++ (littleBytes (l .width) (s .transitions) ++ littleBytes 2 (s .nodes))))
+    ++ (littleBytes (l .width) (s .transitions) ++ littleBytes nodesWidth (s .nodes))))

@@ -2,12 +2,12 @@
 use mathlib.Core.Path.{_≡_}
 use mathlib.Core.Logic.{_↔_}
 use mathlib.Core.List.{List}
-use Prim.Native.Nat.{ℕ, _<_}
+use Prim.Native.Nat.{ℕ, _<_, _≤_}
 use lib.ListN.{length, getD}
 use Rattle.model.specs.declared.Sizes.{Sizes}
 use Rattle.model.specs.Trees.{System}
 use Rattle.model.specs.Check.{verdict}
-use Rattle.model.specs.Check.Verdict.{accepted}
+use Rattle.model.specs.Check.Verdict.{refusal, accepted}
 use Rattle.model.specs.WellFormed.{WellFormed, encode, sizesOf}
 use Rattle.model.specs.Shuffle.{Shuffled}
 
@@ -24,6 +24,10 @@ abbrev pub CheckExact : Type 0
 CheckExact =
     (m : List ℕ) → Bytes m → (s : Sizes) (t : System)
     → (verdict m ≡ accepted s t) ↔ ((m ≡ encode t) × (s ≡ sizesOf t) × WellFormed t)
+
+-- 01, "Refused because of the input": the check refuses by 1 to 8 alone
+abbrev pub CheckRefusals : Type 0
+CheckRefusals = (m : List ℕ) (n : ℕ) → verdict m ≡ refusal n → (1 ≤ n) × (n ≤ 8)
 
 -- the bytes m′ are those of a shuffle of the model that the bytes m are
 pub record ShuffledFile (m m′ : List ℕ) : Type 0 where

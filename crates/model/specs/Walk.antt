@@ -1,5 +1,6 @@
 -- The walk over the nodes. 01: "the walk, where the first offending node ends it and 4 to 7 are tried in that order".
--- Its fuel is the depth that is left: 32 at a guard, an action or the assertion, one less at each child.
+-- Its fuel is the depth that is left: 32 at a guard, an action or the assertion, one less at each child. Where a kind may
+-- stand and what it yields is its row in 01's list (`rowOf`); how many children it has is `childrenOf`, of the same row.
 use mathlib.Core.Bool.{cond}
 use mathlib.Core.List.{List, [], _∷_}
 use Prim.Native.Nat.{ℕ, zero, suc, _+_}
@@ -11,7 +12,7 @@ use Rattle.model.specs.declared.Walked.{Walked}
 use Rattle.model.specs.declared.Walked.the-variants as walked
 use Rattle.model.specs.declared.Declaration.{Declaration}
 use Rattle.model.specs.declared.Declaration.the-variants as declaration
-use Rattle.syntax.specs.Kinds.{childrenOf, operandSort, operatorOf, highPlace, firstPlace, booleanSort, numberSort}
+use Rattle.kinds.specs.Kinds.{rowOf, childrenOf, operandSort, operatorOf, highPlace, firstPlace, booleanSort, numberSort}
 use Rattle.syntax.specs.Readings.{kindAt, parameterAt, expressionRefusal, instructionRefusal, variableRefusal, endRefusal, transitionRefusal}
 use Rattle.model.specs.Trees.{Expression, Instruction, Instructions, Variable, Transition}
 use Rattle.model.specs.Trees.Expression.{numeral, truth, variable, negation, binary, ifThenElse}
@@ -72,9 +73,9 @@ module _ (ks : List ℕ) (ps : List ℤ) where
   -- an expression of the wanted sort at place `at`
   unfoldable pub expressionAt : List ℕ → ℕ → ℕ → ℕ → Walk Expression
   expressionAt sorts zero wanted at =
-      refused (expressionRefusal ks ps sorts zero wanted at)
+      refused (expressionRefusal rowOf ks ps sorts zero wanted at)
   expressionAt sorts (suc left) wanted at =
-      unlessRefused (expressionRefusal ks ps sorts (suc left) wanted at)
+      unlessRefused (expressionRefusal rowOf ks ps sorts (suc left) wanted at)
       (operandsAt (λ w next. expressionAt sorts left w next) wanted (kindAt ks ps at) (parameterAt ks ps at) (at + 1) (childrenOf (kindAt ks ps at)))
 
   -- so many branches from place `at` on; `child` reads one
@@ -97,9 +98,9 @@ module _ (ks : List ℕ) (ps : List ℤ) where
 
   -- an instruction at place `at`; 19 alone has as many children as its parameter says
   unfoldable pub instructionAt : Scope → ℕ → ℕ → Walk Instruction
-  instructionAt s zero at = refused (instructionRefusal ks ps (s .from) (s .past) zero at)
+  instructionAt s zero at = refused (instructionRefusal rowOf ks ps (s .from) (s .past) zero at)
   instructionAt s (suc left) at =
-      unlessRefused (instructionRefusal ks ps (s .from) (s .past) (suc left) at)
+      unlessRefused (instructionRefusal rowOf ks ps (s .from) (s .past) (suc left) at)
       (cond (eqb (kindAt ks ps at) 19)
       (andThen (branchesAt (λ next. instructionAt s left next) (natAbs (parameterAt ks ps at)) (at + 1)) (λ is next. found (block is) next))
       (partsAt (λ w next. expressionAt (s .sorts) left w next) (λ next. instructionAt s left next)
@@ -109,13 +110,13 @@ module _ (ks : List ℕ) (ps : List ℤ) where
   -- first value, within the ends)". No 32-bit number is above `greatest`.
   unfoldable pub rangeAt : ℤ → ℕ → Walk Variable
   rangeAt low at =
-      unlessRefused (endRefusal ks ps highPlace low greatest at)
-      (unlessRefused (endRefusal ks ps firstPlace low (parameterAt ks ps at) (at + 1))
+      unlessRefused (endRefusal rowOf ks ps highPlace low greatest at)
+      (unlessRefused (endRefusal rowOf ks ps firstPlace low (parameterAt ks ps at) (at + 1))
       (found (record { sort = numberSort; low = low; high = parameterAt ks ps at; first = parameterAt ks ps (at + 1) }) (at + 2)))
 
   unfoldable pub variableAt : ℕ → Walk Variable
   variableAt at =
-      unlessRefused (variableRefusal ks ps at)
+      unlessRefused (variableRefusal rowOf ks ps at)
       (cond (eqb (kindAt ks ps at) 1)
       (found (record { sort = booleanSort; low = pos 0; high = pos 1; first = parameterAt ks ps at }) (at + 1))
       (rangeAt (parameterAt ks ps at) (at + 1)))
@@ -123,7 +124,7 @@ module _ (ks : List ℕ) (ps : List ℤ) where
   -- 01: "Transition: 5, P an event below E; then a Boolean guard and an instruction, its action."
   unfoldable pub transitionAt : ℕ → Scope → ℕ → ℕ → Walk Transition
   transitionAt events s depth at =
-      unlessRefused (transitionRefusal ks ps events at)
+      unlessRefused (transitionRefusal rowOf ks ps events at)
       (andThen (expressionAt (s .sorts) depth booleanSort (at + 1)) (λ g second.
       andThen (instructionAt s depth second) (λ a next.
       found (record { event = natAbs (parameterAt ks ps at); guard = g; action = a }) next)))

@@ -9,7 +9,7 @@ use lib.Signed.{leZ}
 use lib.ListN.{length, getD}
 use Rattle.evaluation.specs.Numbers.{representable}
 use Rattle.model.specs.declared.Sizes.{Sizes}
-use Rattle.syntax.specs.Kinds.{booleanSort, numberSort, kindOf, resultOf, operandSort}
+use Rattle.kinds.specs.Kinds.{booleanSort, numberSort, kindOf, resultOf, operandSort}
 use Rattle.model.specs.Trees.{Expression, Instruction, Instructions, Variable, Transition, System, variables, depthOf, depthOfExpression}
 use Rattle.model.specs.Trees.Expression.{numeral, truth, variable, negation, binary, ifThenElse}
 use Rattle.model.specs.Trees.Instruction.{skip, assign, ifThen, block}

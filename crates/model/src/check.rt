@@ -16,7 +16,6 @@ use super::Walked;
 use super::header;
 use super::walk;
 use syntax::Cursor;
-use syntax::kinds;
 
 // The nodes of a file whose sizes have been read.
 fn nodes_of(model: &[u8], sizes: Sizes) -> Walked
@@ -25,10 +24,15 @@ fn nodes_of(model: &[u8], sizes: Sizes) -> Walked
 {
     let mut parameters = [0i32; Model::MAX_NODES];
     let nodes = sizes.nodes;
-    let past = 6 + nodes;
+    let past = Model::HEADER + nodes;
     header::parameters_in(model, past, nodes, &mut parameters);
     let rows = kinds::rows();
-    walk::system(&rows, &model[6..past], &parameters[..nodes], sizes)
+    walk::system(
+        &rows,
+        &model[Model::HEADER..past],
+        &parameters[..nodes],
+        sizes,
+    )
 }
 
 // The check of a model file: its five sizes, or the refusal's number.
@@ -36,7 +40,7 @@ pub fn check(model: &[u8]) -> Checked
     ensures { λ r. ⌜ r ≡ answerOf (verdict (now (model .entry))) ⌝ }
 {
     let layout = Layout {
-        width: 1,
+        width: Model::SIZE_WIDTH,
         max_nodes: Model::MAX_NODES,
     };
     match header::read_sizes(layout, model) {
@@ -48,17 +52,18 @@ pub fn check(model: &[u8]) -> Checked
     }
 }
 
+// The sort that is wanted, as crate `kinds` codes it.
 fn sort_code(wanted: Sort) -> u8
     ensures { λ r. ⌜ r ≡ sortOf wanted ⌝ }
 {
     match wanted {
-        Sort::Boolean => 1,
-        Sort::Number => 2,
+        Sort::Boolean => kinds::BOOLEAN,
+        Sort::Number => kinds::NUMBER,
     }
 }
 
-// The check of an expression handed outside a model, over variables of these sorts (1 Boolean, 2 number).
-pub fn check_expression(kinds: &[u8], parameters: &[i32], sorts: &[u8], wanted: Sort) -> Given
+// The check of an expression handed outside a model, over variables of these sorts (of crate `kinds`).
+pub fn check_over_sorts(kinds: &[u8], parameters: &[i32], sorts: &[u8], wanted: Sort) -> Given
     ensures { λ r. ⌜ r ≡ givenAnswer (expressionGiven (now (kinds .entry)) (now (parameters .entry)) (now (sorts .entry)) (sortOf wanted)) ⌝ }
 {
     if kinds.len() != parameters.len() {

@@ -1,8 +1,7 @@
-// The model file: the check and the decoding.
+// The model file: the check.
 
 pub mod check; // check.rt: the check of a file, and of an expression handed outside a model
-pub mod decode; // decode.rt: an accepted file, decoded for the layers above
-mod header; // header.rt: the sizes
+pub mod header; // header.rt: the sizes and the parameters
 mod walk; // walk.rt: expressions, instructions, variables, transitions
 
 use syntax::Cursor;
@@ -11,6 +10,18 @@ use syntax::Cursor;
 pub struct Layout {
     pub width: usize,
     pub max_nodes: usize,
+}
+
+// The widths that every layout has.
+impl Layout {
+    // The bytes of N.
+    pub const NODES_WIDTH: usize = 2;
+
+    // The bytes of a parameter.
+    pub const PARAMETER_WIDTH: usize = 4;
+
+    // The bytes of a node: its kind and its parameter.
+    pub const NODE_WIDTH: usize = 5;
 }
 
 // The five sizes S, F, E, T, N.
@@ -28,17 +39,25 @@ pub struct Model {
     pub assertion: usize,
 }
 
-// The limits.
+// The limits, and the widths of the header.
 impl Model {
     pub const MAX_NODES: usize = 4000;
 
     pub const MAX_DEPTH: usize = 32;
 
+    // S and F are a byte each.
     pub const MAX_VARIABLES: usize = 510;
 
     pub const MAX_TRANSITIONS: usize = 255;
+
+    // The bytes of each of S, F, E, T.
+    pub const SIZE_WIDTH: usize = 1;
+
+    // The bytes before the kinds.
+    pub const HEADER: usize = 6;
 }
 
+// What reading the sizes comes to: the refusal's number, or the five sizes.
 pub enum Sized {
     Refused(u8),
     Read(Sizes),
@@ -72,10 +91,4 @@ pub enum Sort {
 pub enum Given {
     Refused(u8),
     Accepted,
-}
-
-// The answer of the decoding.
-pub enum Prepared {
-    Refused(u8),
-    Ready(Model),
 }

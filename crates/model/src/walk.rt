@@ -6,9 +6,10 @@ ghost use Prim.Native.Nat.{ℕ, _≤_, _+_};
 ghost use lib.IntN.{ℤ, natAbs};
 ghost use lib.ListN.{getD, length, take};
 ghost use Rattle.model.specs.Trees.{Variable, sortsOf};
-ghost use Rattle.syntax.specs.Kinds.{childrenOf, table};
+ghost use Rattle.kinds.specs.Kinds.{childrenOf, table};
 ghost use Rattle.model.specs.Walk.{outcome, declarationOf, operandsAt, expressionAt, branchesAt, partsAt, instructionAt, rangeAt, variableAt, transitionAt, rowAt, scopeOf};
 ghost use Rattle.model.specs.Walk.Walk.{found};
+ghost use Rattle.model.specs.Sizes.{maxVariables};
 ghost use Rattle.model.specs.Check.{maxDepth, complete, restAt, systemAt};
 use super::Declaration;
 use super::Model;
@@ -16,8 +17,10 @@ use super::Sizes;
 use super::Walked;
 use syntax::Cursor;
 use syntax::Reading;
-use syntax::kinds;
 use syntax::nodes;
+
+// No parameter is above it.
+const GREATEST: i32 = 2147483647;
 
 // An expression of the wanted sort.
 pub fn expression(
@@ -29,7 +32,8 @@ pub fn expression(
     wanted: u8,
     cursor: Cursor,
 ) -> Walked
-    ensures { λ r. ⌜ (now (rows .entry) ≡ table → r ≡ outcome (expressionAt (now (kinds .entry)) (now (parameters .entry)) (now (sorts .entry)) left wanted (cursor .at))) ⌝ }
+    requires { ⌜ now rows ≡ table ⌝ }
+    ensures { λ r. ⌜ r ≡ outcome (expressionAt (now (kinds .entry)) (now (parameters .entry)) (now (sorts .entry)) left wanted (cursor .at)) ⌝ }
 {
     match cursor.expression_node(rows, kinds, parameters, sorts, left, wanted) {
         Reading::Refused(number) => Walked::Refused(number),
@@ -57,7 +61,8 @@ fn operands(
     kind: u8,
     cursor: Cursor,
 ) -> Walked
-    ensures { λ r. ⌜ (now (rows .entry) ≡ table → (p : ℤ) → r ≡ outcome (operandsAt (now (kinds .entry)) (now (parameters .entry)) (expressionAt (now (kinds .entry)) (now (parameters .entry)) (now (sorts .entry)) left) wanted kind p (cursor .at) (childrenOf kind))) ⌝ }
+    requires { ⌜ now rows ≡ table ⌝ }
+    ensures { λ r. ⌜ ((p : ℤ) → r ≡ outcome (operandsAt (now (kinds .entry)) (now (parameters .entry)) (expressionAt (now (kinds .entry)) (now (parameters .entry)) (now (sorts .entry)) left) wanted kind p (cursor .at) (childrenOf kind))) ⌝ }
 {
     let row = kinds::row_of(rows, kind);
     let children = row.children;
@@ -90,9 +95,10 @@ fn conditional(
     wanted: u8,
     cursor: Cursor,
 ) -> Walked
-    ensures { λ r. ⌜ (now (rows .entry) ≡ table → (k : ℕ) (p : ℤ) → r ≡ outcome (operandsAt (now (kinds .entry)) (now (parameters .entry)) (expressionAt (now (kinds .entry)) (now (parameters .entry)) (now (sorts .entry)) left) wanted k p (cursor .at) 3)) ⌝ }
+    requires { ⌜ now rows ≡ table ⌝ }
+    ensures { λ r. ⌜ ((k : ℕ) (p : ℤ) → r ≡ outcome (operandsAt (now (kinds .entry)) (now (parameters .entry)) (expressionAt (now (kinds .entry)) (now (parameters .entry)) (now (sorts .entry)) left) wanted k p (cursor .at) 3)) ⌝ }
 {
-    match expression(rows, kinds, parameters, sorts, left, 1, cursor) {
+    match expression(rows, kinds, parameters, sorts, left, kinds::BOOLEAN, cursor) {
         Walked::Refused(number) => Walked::Refused(number),
         Walked::Next(second) => match expression(
             rows,
@@ -109,7 +115,7 @@ fn conditional(
     }
 }
 
-// The sort of the variable with this number; 0 for none.
+// The sort of the variable with this number; none where there is no such variable.
 fn sort_of(sorts: &[u8], parameter: i32) -> u8
     ensures { λ r. ⌜ r ≡ getD (now (sorts .entry)) (natAbs parameter) 0 ⌝ }
 {
@@ -117,12 +123,12 @@ fn sort_of(sorts: &[u8], parameter: i32) -> u8
     if number < sorts.len() {
         sorts[number]
     } else {
-        0
+        kinds::NO_SORT
     }
 }
 
 // An instruction that assigns variables from `from` up to `past`.
-pub fn instruction(
+fn instruction(
     rows: &[u8; 256],
     kinds: &[u8],
     parameters: &[i32],
@@ -132,12 +138,14 @@ pub fn instruction(
     left: usize,
     cursor: Cursor,
 ) -> Walked
-    ensures { λ r. ⌜ (now (rows .entry) ≡ table → r ≡ outcome (instructionAt (now (kinds .entry)) (now (parameters .entry)) (scopeOf (now (sorts .entry)) from past) left (cursor .at))) ⌝ }
+    requires { ⌜ now rows ≡ table ⌝ }
+    ensures { λ r. ⌜ r ≡ outcome (instructionAt (now (kinds .entry)) (now (parameters .entry)) (scopeOf (now (sorts .entry)) from past) left (cursor .at)) ⌝ }
 {
     match cursor.instruction_node(rows, kinds, parameters, from, past, left) {
         Reading::Refused(number) => Walked::Refused(number),
         Reading::Node(kind, parameter, next) => {
             let below = left - 1;
+            // A block.
             if kind == 19 {
                 let due = nodes::magnitude(parameter);
                 branches(rows, kinds, parameters, sorts, from, past, below, due, next)
@@ -173,7 +181,8 @@ fn parts(
     sort: u8,
     cursor: Cursor,
 ) -> Walked
-    ensures { λ r. ⌜ (now (rows .entry) ≡ table → (p : ℤ) → r ≡ outcome (partsAt (now (kinds .entry)) (now (parameters .entry)) (expressionAt (now (kinds .entry)) (now (parameters .entry)) (now (sorts .entry)) left) (instructionAt (now (kinds .entry)) (now (parameters .entry)) (scopeOf (now (sorts .entry)) from past) left) sort p (cursor .at) (childrenOf kind))) ⌝ }
+    requires { ⌜ now rows ≡ table ⌝ }
+    ensures { λ r. ⌜ ((p : ℤ) → r ≡ outcome (partsAt (now (kinds .entry)) (now (parameters .entry)) (expressionAt (now (kinds .entry)) (now (parameters .entry)) (now (sorts .entry)) left) (instructionAt (now (kinds .entry)) (now (parameters .entry)) (scopeOf (now (sorts .entry)) from past) left) sort p (cursor .at) (childrenOf kind))) ⌝ }
 {
     let row = kinds::row_of(rows, kind);
     let children = row.children;
@@ -183,7 +192,7 @@ fn parts(
     if children == 1 {
         return expression(rows, kinds, parameters, sorts, left, sort, cursor);
     }
-    match expression(rows, kinds, parameters, sorts, left, 1, cursor) {
+    match expression(rows, kinds, parameters, sorts, left, kinds::BOOLEAN, cursor) {
         Walked::Refused(number) => Walked::Refused(number),
         Walked::Next(second) => instruction(
             rows,
@@ -210,7 +219,8 @@ fn branches(
     count: usize,
     cursor: Cursor,
 ) -> Walked
-    ensures { λ r. ⌜ (now (rows .entry) ≡ table → r ≡ outcome (branchesAt (now (kinds .entry)) (now (parameters .entry)) (instructionAt (now (kinds .entry)) (now (parameters .entry)) (scopeOf (now (sorts .entry)) from past) left) count (cursor .at))) ⌝ }
+    requires { ⌜ now rows ≡ table ⌝ }
+    ensures { λ r. ⌜ r ≡ outcome (branchesAt (now (kinds .entry)) (now (parameters .entry)) (instructionAt (now (kinds .entry)) (now (parameters .entry)) (scopeOf (now (sorts .entry)) from past) left) count (cursor .at)) ⌝ }
 {
     let mut due = count;
     let mut at = cursor.at;
@@ -233,33 +243,42 @@ fn range(
     low: i32,
     cursor: Cursor,
 ) -> Declaration
-    ensures { λ r. ⌜ (now (rows .entry) ≡ table → r ≡ declarationOf (rangeAt (now (kinds .entry)) (now (parameters .entry)) low (cursor .at))) ⌝ }
+    requires { ⌜ now rows ≡ table ⌝ }
+    ensures { λ r. ⌜ r ≡ declarationOf (rangeAt (now (kinds .entry)) (now (parameters .entry)) low (cursor .at)) ⌝ }
 {
-    match cursor.end_node(rows, kinds, parameters, 2, low, 2147483647) {
+    match cursor.end_node(rows, kinds, parameters, kinds::HIGH_END, low, GREATEST) {
         Reading::Refused(number) => Declaration::Refused(number),
         Reading::Node(_, high, second) => match second.end_node(
             rows,
             kinds,
             parameters,
-            3,
+            kinds::FIRST_VALUE,
             low,
             high,
         ) {
             Reading::Refused(number) => Declaration::Refused(number),
-            Reading::Node(_, first, next) => Declaration::Variable(2, low, high, first, next),
+            Reading::Node(_, first, next) => Declaration::Variable(
+                kinds::NUMBER,
+                low,
+                high,
+                first,
+                next,
+            ),
         },
     }
 }
 
 // A variable.
-pub fn variable(rows: &[u8; 256], kinds: &[u8], parameters: &[i32], cursor: Cursor) -> Declaration
-    ensures { λ r. ⌜ (now (rows .entry) ≡ table → r ≡ declarationOf (variableAt (now (kinds .entry)) (now (parameters .entry)) (cursor .at))) ⌝ }
+fn variable(rows: &[u8; 256], kinds: &[u8], parameters: &[i32], cursor: Cursor) -> Declaration
+    requires { ⌜ now rows ≡ table ⌝ }
+    ensures { λ r. ⌜ r ≡ declarationOf (variableAt (now (kinds .entry)) (now (parameters .entry)) (cursor .at)) ⌝ }
 {
     match cursor.variable_node(rows, kinds, parameters) {
         Reading::Refused(number) => Declaration::Refused(number),
         Reading::Node(kind, parameter, next) => {
+            // A Boolean, whose ends are 0 and 1.
             if kind == 1 {
-                Declaration::Variable(1, 0, 1, parameter, next)
+                Declaration::Variable(kinds::BOOLEAN, 0, 1, parameter, next)
             } else {
                 range(rows, kinds, parameters, parameter, next)
             }
@@ -275,9 +294,9 @@ fn variables(
     count: usize,
     sorts: &mut [u8],
 ) -> Walked
-    requires { ⌜ count ≤ length (now sorts) ⌝ }
-    ensures { λ r. ⌜ (now (rows .entry) ≡ table → (r ≡ outcome (rowAt (variableAt (now (kinds .entry)) (now (parameters .entry))) count 0))
-        × ((vs : List Variable) (next : ℕ) → rowAt (variableAt (now (kinds .entry)) (now (parameters .entry))) count 0 ≡ found vs next → take count (now (sorts .exit)) ≡ sortsOf vs)) ⌝ }
+    requires { ⌜ (now rows ≡ table) × (count ≤ length (now sorts)) ⌝ }
+    ensures { λ r. ⌜ (r ≡ outcome (rowAt (variableAt (now (kinds .entry)) (now (parameters .entry))) count 0))
+        × ((vs : List Variable) (next : ℕ) → rowAt (variableAt (now (kinds .entry)) (now (parameters .entry))) count 0 ≡ found vs next → take count (now (sorts .exit)) ≡ sortsOf vs) ⌝ }
 {
     let mut i = 0;
     let mut at = 0;
@@ -305,7 +324,8 @@ fn transition(
     states: usize,
     cursor: Cursor,
 ) -> Walked
-    ensures { λ r. ⌜ (now (rows .entry) ≡ table → r ≡ outcome (transitionAt (now (kinds .entry)) (now (parameters .entry)) events (scopeOf (now (sorts .entry)) 0 states) maxDepth (cursor .at))) ⌝ }
+    requires { ⌜ now rows ≡ table ⌝ }
+    ensures { λ r. ⌜ r ≡ outcome (transitionAt (now (kinds .entry)) (now (parameters .entry)) events (scopeOf (now (sorts .entry)) 0 states) maxDepth (cursor .at)) ⌝ }
 {
     match cursor.transition_node(rows, kinds, parameters, events) {
         Reading::Refused(number) => Walked::Refused(number),
@@ -315,7 +335,7 @@ fn transition(
             parameters,
             sorts,
             Model::MAX_DEPTH,
-            1,
+            kinds::BOOLEAN,
             next,
         ) {
             Walked::Refused(number) => Walked::Refused(number),
@@ -342,7 +362,8 @@ fn transitions(
     sizes: Sizes,
     cursor: Cursor,
 ) -> Walked
-    ensures { λ r. ⌜ (now (rows .entry) ≡ table → r ≡ outcome (rowAt (transitionAt (now (kinds .entry)) (now (parameters .entry)) (sizes .events) (scopeOf (now (sorts .entry)) 0 (sizes .states)) maxDepth) (sizes .transitions) (cursor .at))) ⌝ }
+    requires { ⌜ now rows ≡ table ⌝ }
+    ensures { λ r. ⌜ r ≡ outcome (rowAt (transitionAt (now (kinds .entry)) (now (parameters .entry)) (sizes .events) (scopeOf (now (sorts .entry)) 0 (sizes .states)) maxDepth) (sizes .transitions) (cursor .at)) ⌝ }
 {
     let events = sizes.events;
     let states = sizes.states;
@@ -368,8 +389,8 @@ fn rest(
     sizes: Sizes,
     cursor: Cursor,
 ) -> Walked
-    requires { ⌜ sizes .states + sizes .flows ≤ 510 ⌝ }
-    ensures { λ r. ⌜ (now (rows .entry) ≡ table → r ≡ outcome (complete (sizes .nodes) (restAt (now (kinds .entry)) (now (parameters .entry)) (now (sorts .entry)) sizes (cursor .at)))) ⌝ }
+    requires { ⌜ (now rows ≡ table) × (sizes .states + sizes .flows ≤ maxVariables) ⌝ }
+    ensures { λ r. ⌜ r ≡ outcome (complete (sizes .nodes) (restAt (now (kinds .entry)) (now (parameters .entry)) (now (sorts .entry)) sizes (cursor .at))) ⌝ }
 {
     let states = sizes.states;
     let variables = states + sizes.flows;
@@ -401,8 +422,8 @@ fn rest(
 
 // All nodes of a model.
 pub fn system(rows: &[u8; 256], kinds: &[u8], parameters: &[i32], sizes: Sizes) -> Walked
-    requires { ⌜ sizes .states + sizes .flows ≤ 510 ⌝ }
-    ensures { λ r. ⌜ (now (rows .entry) ≡ table → r ≡ outcome (complete (sizes .nodes) (systemAt (now (kinds .entry)) (now (parameters .entry)) sizes))) ⌝ }
+    requires { ⌜ (now rows ≡ table) × (sizes .states + sizes .flows ≤ maxVariables) ⌝ }
+    ensures { λ r. ⌜ r ≡ outcome (complete (sizes .nodes) (systemAt (now (kinds .entry)) (now (parameters .entry)) sizes)) ⌝ }
 {
     let mut sorts = [0u8; Model::MAX_VARIABLES];
     let count = sizes.states + sizes.flows;

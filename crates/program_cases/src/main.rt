@@ -3,10 +3,10 @@
 // A case is the lengths of a model file, of an input and of an output (four bytes each, low byte first), and these three.
 ghost use Prim.Native.Nat.{_+_, _*_, _≤_, _<_};
 ghost use lib.ListN.{length};
-use console::Written;
 use dialogue::Dimensions;
 use dialogue::Line;
-use dialogue::replies;
+use dialogue::Program;
+use dialogue::exchange;
 use libc::STDOUT_FILENO;
 use model::Model;
 
@@ -27,6 +27,15 @@ struct Output {
     at: usize,
     is_same: bool,
 }
+
+// The line so far, and the output.
+struct Progress {
+    line: Line,
+    output: Output,
+}
+
+// Bytes of a part of the input: few, so that lines go across parts.
+const PART: usize = 7;
 
 fn wide(byte: u8) -> usize
     ensures { λ r. ⌜ r < 256 ⌝ }
@@ -81,16 +90,14 @@ fn extended(before: Output, wanted: &[u8], bytes: &[u8]) -> Output {
     }
 }
 
-// The output with the line after it that was written at the beginning of the slice.
-fn with_line(before: Output, wanted: &[u8], written: Written, out: &[u8]) -> Output {
-    let at = before.at;
-    let Written::Length(length) = written else {
-        return Output { at, is_same: false };
-    };
-    if out.len() < length {
-        return Output { at, is_same: false };
-    }
-    extended(before, wanted, &out[0..length])
+// The output with the line after it that stands at the beginning of the array.
+fn with_line(
+    before: Output,
+    wanted: &[u8],
+    out: &[u8; Program::LINE_BYTES],
+    length: usize,
+) -> Output {
+    extended(before, wanted, exchange::first(out, length))
 }
 
 // Is the output the wanted one, to its end?
@@ -102,118 +109,154 @@ fn is_whole(output: Output, wanted: &[u8]) -> bool {
     }
 }
 
-// The start's line, then the lines of the input, each compared as it is printed.
-fn answer_all(
-    input: &[u8],
+// Answers each line that a part of the input ends, and compares it as it is printed.
+fn answer_part(
+    begun: Progress,
+    part: &[u8],
     wanted: &[u8],
-    begun: Output,
-    model: &[u8],
-    values: &mut [i32],
-    history: &mut [u8],
+    file: &[u8; Program::FILE_BYTES],
+    dimensions: Dimensions,
+    values: &mut [i32; Model::MAX_VARIABLES],
+    history: &mut [u8; Program::PLACES],
     n: &mut usize,
-    marks: &mut [u8],
-    out: &mut [u8],
-) -> Output {
-    let mut so_far = begun;
-    let mut line = Line::empty();
-    let mut i = 0;
-    while i < input.len() {
-        let step = replies::step(line, input[i], model, values, history, n, marks, out);
-        let written = step.written;
-        so_far = with_line(so_far, wanted, written, out);
-        line = step.line;
-        i += 1;
+    marks: &mut [u8; Model::MAX_TRANSITIONS],
+    out: &mut [u8; Program::LINE_BYTES],
+) -> Progress {
+    let mut line = begun.line;
+    let mut so_far = begun.output;
+    let mut at = 0;
+    while at < part.len() {
+        let taken = exchange::take_line(
+            line,
+            part,
+            at,
+            file,
+            dimensions,
+            values,
+            history,
+            n,
+            marks,
+            out,
+        );
+        so_far = with_line(so_far, wanted, out, taken.length);
+        line = taken.line;
+        at = taken.next;
     }
-    let written = replies::close(line, model, values, history, n, marks, out);
-    with_line(so_far, wanted, written, out)
+    Progress {
+        line,
+        output: so_far,
+    }
 }
 
-// Starts the run and, unless that is refused, answers the input. 6,144 bytes are room for every line of a run.
-fn served(model: &[u8], input: &[u8], wanted: &[u8], values: &mut [i32], marks: &mut [u8]) -> bool {
-    let mut history = [0u8; 200];
+// The end of a part of the input that begins here.
+fn part_end(from: usize, length: usize) -> usize
+    requires { ⌜ from < length ⌝ }
+    ensures { λ r. ⌜ (from < r) × (r ≤ length) ⌝ }
+{
+    if PART < length - from {
+        from + PART
+    } else {
+        length
+    }
+}
+
+// The lines of the input, taken part by part to its end.
+fn answer_all(
+    begun: Output,
+    input: &[u8],
+    wanted: &[u8],
+    file: &[u8; Program::FILE_BYTES],
+    dimensions: Dimensions,
+    values: &mut [i32; Model::MAX_VARIABLES],
+    history: &mut [u8; Program::PLACES],
+    n: &mut usize,
+    marks: &mut [u8; Model::MAX_TRANSITIONS],
+    out: &mut [u8; Program::LINE_BYTES],
+) -> Output {
+    let empty = Line::empty();
+    let mut progress = Progress {
+        line: empty,
+        output: begun,
+    };
+    let mut from = 0;
+    while from < input.len() {
+        let end = part_end(from, input.len());
+        progress = answer_part(
+            progress,
+            &input[from..end],
+            wanted,
+            file,
+            dimensions,
+            values,
+            history,
+            n,
+            marks,
+            out,
+        );
+        from = end;
+    }
+    let line = progress.line;
+    let so_far = progress.output;
+    let length = exchange::close(line, file, dimensions, values, history, n, marks, out);
+    with_line(so_far, wanted, out, length)
+}
+
+// Starts the run and, unless that is refused, answers the input: does the program print the wanted output?
+fn is_equal(file: &[u8; Program::FILE_BYTES], bytes: usize, input: &[u8], wanted: &[u8]) -> bool {
+    let mut values = [0i32; Model::MAX_VARIABLES];
+    let mut history = [0u8; Program::PLACES];
     let mut n: usize = 0;
-    let mut out = [0u8; 6144];
+    let mut marks = [0u8; Model::MAX_TRANSITIONS];
+    let mut out = [0u8; Program::LINE_BYTES];
     let nothing = Output {
         at: 0,
         is_same: true,
     };
-    let opening = replies::open(model, values, &mut history, &mut n, marks, &mut out);
-    let written = opening.written;
-    let begun = with_line(nothing, wanted, written, &out);
+    let opening = exchange::open(
+        file,
+        bytes,
+        &mut values,
+        &mut history,
+        &mut n,
+        &mut marks,
+        &mut out,
+    );
+    let begun = with_line(nothing, wanted, &out, opening.length);
     if opening.is_started {
-        is_whole(
-            answer_all(
-                input,
-                wanted,
-                begun,
-                model,
-                values,
-                &mut history,
-                &mut n,
-                marks,
-                &mut out,
-            ),
+        let dimensions = opening.dimensions;
+        let output = answer_all(
+            begun,
+            input,
             wanted,
-        )
+            file,
+            dimensions,
+            &mut values,
+            &mut history,
+            &mut n,
+            &mut marks,
+            &mut out,
+        );
+        is_whole(output, wanted)
     } else {
         is_whole(begun, wanted)
     }
 }
 
-// The same on parts of the slices, as long as the model's run is.
-fn served_parts(
-    model: &[u8],
-    input: &[u8],
-    wanted: &[u8],
-    variables: usize,
-    transitions: usize,
-    values: &mut [i32],
-    marks: &mut [u8],
-) -> bool
-    requires { ⌜ (variables ≤ length (now values)) × (transitions ≤ length (now marks)) ⌝ }
-{
-    served(
-        model,
-        input,
-        wanted,
-        &mut values[0..variables],
-        &mut marks[0..transitions],
-    )
-}
-
-// The refusal of the model.
-fn refused(number: u8, wanted: &[u8]) -> bool {
-    let mut out = [0u8; 32];
-    let nothing = Output {
-        at: 0,
-        is_same: true,
-    };
-    let written = console::refusal_line(number, &mut out);
-    is_whole(with_line(nothing, wanted, written, &out), wanted)
-}
-
-// Does the program print the wanted output?
-fn is_equal(model: &[u8], input: &[u8], wanted: &[u8]) -> bool {
-    let mut values = [0i32; Model::MAX_VARIABLES];
-    let mut marks = [0u8; Model::MAX_TRANSITIONS];
-    match replies::dimensions(model) {
-        Dimensions::Refused(number) => refused(number, wanted),
-        Dimensions::Known(variables, transitions) => {
-            served_parts(
-                model,
-                input,
-                wanted,
-                variables,
-                transitions,
-                &mut values,
-                &mut marks,
-            )
+// Stores the first bytes of a model, as gtsrun keeps them of its file; how many.
+fn keep(model: &[u8], file: &mut [u8; Program::FILE_BYTES]) -> usize {
+    let mut i = 0;
+    while i < model.len() {
+        if Program::FILE_BYTES <= i {
+            return i;
         }
+        file[i] = model[i];
+        i += 1;
     }
+    i
 }
 
 // Reads a case and runs it.
-fn next_case(fd: i32, body: &mut [u8]) -> Compared {
+fn next_case(fd: i32, body: &mut [u8], file: &mut [u8; Program::FILE_BYTES]) -> Compared {
     let mut head = [0u8; 12];
     let read = io::read_full(fd, &mut head);
     if read < 12 {
@@ -229,7 +272,8 @@ fn next_case(fd: i32, body: &mut [u8]) -> Compared {
     if filled < third {
         return Compared::End;
     }
-    Compared::Equal(is_equal(&body[0..first], &body[first..second], &body[second..third]))
+    let bytes = keep(&body[0..first], file);
+    Compared::Equal(is_equal(file, bytes, &body[first..second], &body[second..third]))
 }
 
 // The tally with one program more; one that differs is told.
@@ -251,7 +295,7 @@ fn counted(tally: Tally, is_same: bool) -> Tally {
 }
 
 // All cases of the file. The turns fall, so the loop ends whatever the file holds.
-fn all_cases(fd: i32, body: &mut [u8]) -> Tally {
+fn all_cases(fd: i32, body: &mut [u8], file: &mut [u8; Program::FILE_BYTES]) -> Tally {
     let mut tally = Tally {
         programs: 0,
         differing: 0,
@@ -259,7 +303,7 @@ fn all_cases(fd: i32, body: &mut [u8]) -> Tally {
     let mut turns: u64 = 1000000;
     while 0 < turns {
         turns -= 1;
-        match next_case(fd, body) {
+        match next_case(fd, body, file) {
             Compared::End => return tally,
             Compared::Equal(is_same) => tally = counted(tally, is_same),
         }
@@ -274,7 +318,8 @@ fn main() {
         return;
     }
     let mut body = [0u8; 32768];
-    let tally = all_cases(fd, &mut body);
+    let mut file = [0u8; Program::FILE_BYTES];
+    let tally = all_cases(fd, &mut body, &mut file);
     libc::close(fd);
     io::print_decimal(STDOUT_FILENO, tally.programs);
     io::write_all(STDOUT_FILENO, b" programs, ");

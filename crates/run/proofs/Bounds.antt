@@ -1,153 +1,144 @@
--- What an accepted start, fire or undo on a file tells: the bounds of the round count, of the transition and of the count.
+-- What an accepted call on a file tells: the bounds of the round count, of the transition and of the count.
 use mathlib.Core.Path.{_≡_, refl, sym, ap, _∙_, subst}
-use mathlib.Core.Bool.{false, true≢false, not}
+use mathlib.Core.Bool.{false, true≢false}
 use mathlib.Core.List.{List}
 use Prim.Native.Nat.{ℕ, suc, _≤_, _<_}
 use native.Mathlib.Omega.{arith}
-use borrow.Author.Tests.{ltb-true, eqb-false, not-false}
-use mir.Syntax.{w8}
-use mir.Val.{Fits}
-use lib.Dec.{eqb, ltb}
+use borrow.Author.Tests.{ltb-true, eqb-false}
 use lib.IntN.{ℤ}
-use lib.ListN.{length, getD}
+use lib.ListN.{length}
 use Rattle.model.specs.declared.Sizes.{Sizes}
 use Rattle.model.specs.Trees.{System}
 use Rattle.model.specs.Check.{Verdict, verdict}
 use Rattle.model.specs.Check.Verdict.{refusal, accepted}
+use Rattle.model.specs.Theorems.{Bytes}
 use Rattle.model.specs.WellFormed.{WellFormed}
 use Rattle.model.proofs.CheckExact.{check-exact}
-use Rattle.engine.specs.declared.Firing.{Firing}
-use Rattle.engine.specs.declared.Firing.the-variants.{Disabled, GuardFailed, ActionFault, AssertionFault, Fired}
-use Rattle.engine.specs.Meanings.{Meaning, meaningOf}
-use Rattle.engine.specs.Propagation.Settled.{settled}
-use Rattle.engine.specs.Firing.{fired, begun}
-use Rattle.engine.proofs.Rounds.{rounds-bounded-tree}
-use Rattle.steps.specs.declared.Move.the-variants.{Start, Fire, Undo}
-use Rattle.steps.specs.Runs.{Run, Answer, Done, run, answered}
-use Rattle.steps.specs.Runs.Answer.{refused, rounds, done}
-use Rattle.steps.specs.Calls.{tooShort, holds, answerOf, initial}
-use Rattle.steps.specs.Answers.{onFile}
-use Rattle.run.specs.Lists.{CountBounded}
-use Rattle.steps.specs.Moves.{move, moved, isFired}
-use Rattle.steps.proofs.Tests.{clash, by-test}
-use Rattle.run.proofs.Following.{fired-left, begun-left}
-use Rattle.steps.proofs.MoveTests.{count-within}
+use Rattle.results.specs.Results.{answered, over}
+use Rattle.semantics.specs.declared.Firing.{Firing}
+use Rattle.semantics.specs.declared.Firing.the-variants.{Fired}
+use Rattle.semantics.specs.Propagation.Settled.{settled}
+use Rattle.semantics.specs.Meanings.{Meaning, meaningOf}
+use Rattle.semantics.specs.Firing.{Left, fired, begun}
+use Rattle.semantics.proofs.Rounds.{rounds-bounded-tree}
+use Rattle.run.specs.declared.Call.{Call}
+use Rattle.run.specs.declared.Call.the-variants as calls
+use Rattle.standing.specs.Runs.{Store, Answer, Done}
+use Rattle.standing.specs.Runs.Answer.{refused, rounds, done, number, sizes}
+use Rattle.steps.specs.Calls.{isFired, initial}
+use Rattle.run.specs.Lists.{callOn, callBy, call, CountWithin, CountBounded, Promise}
+use Rattle.steps.proofs.Tests.{clash}
+use Rattle.steps.proofs.Outcomes.{fired-left, begun-left}
+use Rattle.steps.proofs.StepTests.{count-within}
+use Rattle.run.proofs.Cases.{start-cases, fire-cases, undo-cases, marks-cases, value-cases}
+
+-- ---- rounds that are answered come of a settled assertion
+
+module _ (m : Meaning) (n : ℕ) (old : List ℤ) where
+  abbrev Settles : Left → Type 0
+  Settles l = l .answer ≡ Fired n → (ss : List ℤ) × (new : List ℤ) × (m .propagate ss ≡ settled n new)
+
+  refused-settles : (f : Firing) → isFired f ≡ false → Settles (answered f old)
+  unfolding isFired
+  refused-settles f e q = absurd (true≢false (ap isFired (sym q) ∙ e))
+
+  settled-settles : length (m .declarations) ≤ length old → (k : ℕ) (new ss : List ℤ) → m .propagate ss ≡ settled k new
+      → Settles (answered (Fired k) (over new old))
+  settled-settles enough k new ss e q = let same : k ≡ n = cc in (ss, new, e ∙ ap (λ k. settled k new) same)
+
+  fired-settles : (t : ℕ) → Settles (fired m t old)
+  fired-settles = fired-left m Settles old refused-settles settled-settles
+
+  begun-settles : (ss : List ℤ) → Settles (begun m ss old)
+  begun-settles = begun-left m Settles old refused-settles settled-settles
+
+-- ---- over a well-formed tree
 
 no-rounds : (k count : ℕ) → refused k ≡ rounds count → ⊥
 no-rounds k count e = clash cc
 
-refused-rounds : (f : Firing) → isFired f ≡ false → (count : ℕ) → answerOf f ≡ rounds count → ⊥
-unfolding isFired answerOf
-refused-rounds Disabled h count e = no-rounds _ count e
-refused-rounds GuardFailed h count e = no-rounds _ count e
-refused-rounds (ActionFault f) h count e = no-rounds _ count e
-refused-rounds (AssertionFault f) h count e = no-rounds _ count e
-refused-rounds (Fired n) h count e = absurd (true≢false h)
-
--- ---- over a well-formed tree
-
--- an answer of so many rounds is within the bounds
-abbrev Bounded : System → ℕ → Answer → Type 0
-Bounded t count a = a ≡ rounds count → (1 ≤ count) × (count ≤ suc (length (t .flows)))
-
 module _ (t : System) (w : WellFormed t) (count : ℕ) where
-  abbrev BoundedBy : Done (List ℤ) → Type 0
-  BoundedBy d = Bounded t count (d .answer)
+  abbrev Within : Type 0
+  Within = (1 ≤ count) × (count ≤ suc (length (t .flows)))
 
-  settled-bounded : (k : ℕ) (new ss : List ℤ) → meaningOf t .propagate ss ≡ settled k new → Bounded t count (answerOf (Fired k))
-  unfolding meaningOf answerOf
-  settled-bounded k new ss e q =
-      let same : k ≡ count = cc in
-      let b = rounds-bounded-tree t w ss k new e in omega (arith, b .0, b .1)
+  abbrev WithinBy : {A : Type 0} → Done A → Type 0
+  WithinBy d = d .answer ≡ rounds count → Within
 
-  begun-bounded : (ss old : List ℤ) → Bounded t count (moved (begun (meaningOf t) ss old) .answer)
-  begun-bounded ss old =
-      begun-left (meaningOf t) (λ l. Bounded t count (answerOf (l .answer))) old (λ f h e. absurd (refused-rounds f h count e)) settled-bounded ss
+  settled-within : ((ss : List ℤ) × (new : List ℤ) × (meaningOf t .propagate ss ≡ settled count new)) → Within
+  unfolding meaningOf
+  settled-within x = let b = rounds-bounded-tree t w (x .0) count (x .1) (x .2) in (b .0, b .1)
 
-  fired-bounded : (k : ℕ) (old : List ℤ) → Bounded t count (moved (fired (meaningOf t) k old) .answer)
-  fired-bounded k old =
-      fired-left (meaningOf t) (λ l. Bounded t count (answerOf (l .answer))) old (λ f h e. absurd (refused-rounds f h count e)) settled-bounded k
-
-  start-bounded-tree : (r : Run) → Bounded t count (move (meaningOf t) Start r .answer)
-  unfolding move
-  start-bounded-tree r =
-      by-test BoundedBy (tooShort (meaningOf t) (r .values)) _ _ (λ h e. absurd (no-rounds 9 count e))
-      (λ h. begun-bounded (initial (meaningOf t)) (r .values))
-
-  fire-bounded-tree : (k : ℕ) (r : Run) → Bounded t count (move (meaningOf t) (Fire k) r .answer)
-  unfolding move
-  fire-bounded-tree k r =
-      by-test BoundedBy (tooShort (meaningOf t) (r .values)) _ _ (λ h e. absurd (no-rounds 9 count e)) (λ h.
-      by-test BoundedBy (not (ltb k (meaningOf t .transitions))) _ _ (λ h e. absurd (no-rounds 11 count e)) (λ h.
-      by-test BoundedBy (not (holds (meaningOf t) r)) _ _ (λ h e. absurd (no-rounds 20 count e)) (λ h.
-      by-test BoundedBy (eqb (r .count) (length (r .history))) _ _ (λ h e. absurd (no-rounds 21 count e)) (λ h.
-      fired-bounded k (r .values)))))
-
--- an accepted fire was of a transition, with room in the history
-fire-room : (m : Meaning) (t : ℕ) (values : List ℤ) (history : List ℕ) (n count : ℕ) → move m (Fire t) (run values history n) .answer ≡ rounds count
-    → (t < m .transitions) × (n < length history)
-unfolding move
-fire-room m t values history n count =
-    by-test P (tooShort m values) _ _ (λ h e. absurd (no-rounds 9 count e)) (λ h.
-    by-test P (not (ltb t (m .transitions))) _ _ (λ h e. absurd (no-rounds 11 count e)) (λ below.
-    by-test P (not (holds m (run values history n))) _ _ (λ h e. absurd (no-rounds 20 count e)) (λ held.
-    by-test P (eqb n (length history)) _ _ (λ h e. absurd (no-rounds 21 count e)) (λ free e. (
-      ltb-true t (m .transitions) (not-false _ below),
-      omega (arith, count-within m values history n (not-false _ held), eqb-false n (length history) free),
-    )))))
-  where
-    P : Done (List ℤ) → Type 0
-    P d = d .answer ≡ rounds count → (t < m .transitions) × (n < length history)
-
--- an accepted undo has a step to take back
-undo-step : (m : Meaning) (values : List ℤ) (history : List ℕ) (n : ℕ) → move m Undo (run values history n) .answer ≡ done → n ≡ 0 → ⊥
-unfolding move
-undo-step m values history n =
-    by-test P (tooShort m values) _ _ (λ h e. clash cc) (λ h.
-    by-test P (not (holds m (run values history n))) _ _ (λ h e. clash cc) (λ held.
-    by-test P (eqb n 0) _ _ (λ h e. clash cc) (λ some-step e. eqb-false n 0 some-step)))
-  where
-    P : Done (List ℤ) → Type 0
-    P d = d .answer ≡ done → n ≡ 0 → ⊥
+  call-within : (z : Sizes) (c : Call) (s : Store) → callOn z (meaningOf t) c s .answer ≡ rounds count → Within
+  unfolding callOn
+  call-within z calls.Check s e = clash cc
+  call-within z calls.Start s e =
+      start-cases (meaningOf t) (s .run) WithinBy (λ k o e. absurd (no-rounds k count e))
+      (λ n long f e. let same : n ≡ count = cc in settled-within (begun-settles (meaningOf t) count (s .run .values) (initial (meaningOf t)) (f ∙ ap Fired same)))
+      e
+  call-within z (calls.Fire k) s e =
+      fire-cases (meaningOf t) (s .run) WithinBy (λ k o e. absurd (no-rounds k count e)) (λ h e. absurd (no-rounds 20 count e)) k
+      (λ below held free n f e. let same : n ≡ count = cc in settled-within (fired-settles (meaningOf t) count (s .run .values) k (f ∙ ap Fired same)))
+      e
+  call-within z calls.Undo s e =
+      undo-cases (meaningOf t) (s .run) WithinBy (λ k o e. absurd (no-rounds k count e)) (λ h e. absurd (no-rounds 20 count e))
+      (λ h f e. absurd (no-rounds 31 count e)) (λ held h values f e. clash cc) e
+  call-within z calls.Marks s e =
+      marks-cases (meaningOf t) (s .run) (s .marks) WithinBy (λ k o e. absurd (no-rounds k count e)) (λ h e. absurd (no-rounds 20 count e)) (λ e. clash cc) e
+  call-within z (calls.Value x) s e =
+      value-cases (meaningOf t) (s .run) x (λ a. a ≡ rounds count → Within) (λ k o e. absurd (no-rounds k count e)) (λ h e. absurd (no-rounds 20 count e)) (λ e. clash cc) e
 
 -- ---- on a file
 
-module _ (m : List ℕ) (bytes : (i : ℕ) → Fits w8 (getD m i 0)) where
-  bounded-on-file : (f : Meaning → Done (List ℤ)) → ((t : System) → WellFormed t → (count : ℕ) → Bounded t count (f (meaningOf t) .answer))
-      → (v : Verdict) → verdict m ≡ v → (values new : List ℤ) (a : Answer) → answered a new ≡ onFile v f values → CountBounded v a
-  unfolding onFile CountBounded
-  bounded-on-file f bounded (refusal k) e values new a q = tt
-  bounded-on-file f bounded (accepted z t) e values new a q =
-      let x = check-exact m (λ i h. bytes i .fits) z t .0 e in
-      λ count r.
-      subst (λ (s : Sizes). (1 ≤ count) × (count ≤ suc (s .flows))) (sym (x .1))
-      (bounded t (x .2) count (sym (ap (λ (d : Done (List ℤ)). d .answer) q) ∙ r))
+within-by : (flows : ℕ) (a : Answer) → ((count : ℕ) → a ≡ rounds count → (1 ≤ count) × (count ≤ suc flows)) → CountWithin flows a
+unfolding CountWithin
+within-by flows (refused k) h = tt
+within-by flows (rounds n) h = h n refl
+within-by flows done h = tt
+within-by flows (number v) h = tt
+within-by flows (sizes z) h = tt
 
-  pub start-bounded : (r : Run) (values new : List ℤ) (a : Answer) → answered a new ≡ onFile (verdict m) (λ m. move m Start r) values
-      → CountBounded (verdict m) a
-  start-bounded r = bounded-on-file (λ m. move m Start r) (λ t w count. start-bounded-tree t w count r) (verdict m) refl
+module _ (m : List ℕ) (bytes : Bytes m) where
+  bounded-by : (c : Call) (s : Store) (a : Answer) (v : Verdict) → verdict m ≡ v → a ≡ callBy v c s .answer → CountBounded v a
+  unfolding callBy CountBounded
+  bounded-by c s a (refusal k) e q = tt
+  bounded-by c s a (accepted z t) e q =
+      let x = check-exact m bytes z t .0 e in
+      within-by (z .flows) a (λ count r.
+      subst (λ (s : Sizes). (1 ≤ count) × (count ≤ suc (s .flows))) (sym (x .1)) (call-within t (x .2) count z c s (sym q ∙ r)))
 
-  pub fire-bounded : (k : ℕ) (r : Run) (values new : List ℤ) (a : Answer) → answered a new ≡ onFile (verdict m) (λ m. move m (Fire k) r) values
-      → CountBounded (verdict m) a
-  fire-bounded k r = bounded-on-file (λ m. move m (Fire k) r) (λ t w count. fire-bounded-tree t w count k r) (verdict m) refl
+  -- the promise of a call bounds the round count that it answers
+  pub bounded : (c : Call) (s : Store) (d : Done Store) → Promise m c s d → CountBounded (verdict m) (d .answer)
+  bounded c s d p = bounded-by c s (d .answer) (verdict m) refl (ap (λ (d : Done Store). d .answer) p)
 
-  module _ (values : List ℤ) (history : List ℕ) (n : ℕ) (lent new : List ℤ) (a : Answer) where
-    room-on-file : (k count : ℕ) → a ≡ rounds count → (v : Verdict) → verdict m ≡ v
-        → answered a new ≡ onFile v (λ m. move m (Fire k) (run values history n)) lent → (k < 256) × (n < length history)
-    unfolding onFile meaningOf
-    room-on-file k count r (refusal j) e q =
-        absurd (no-rounds j count (sym (ap (λ (d : Done (List ℤ)). d .answer) q) ∙ r))
-    room-on-file k count r (accepted z t) e q =
-        let x = check-exact m (λ i h. bytes i .fits) z t .0 e in
-        let f = fire-room (meaningOf t) k values history n count (sym (ap (λ (d : Done (List ℤ)). d .answer) q) ∙ r) in
-        (omega (arith, f .0, x .2 .transitions), f .1)
+  -- an accepted fire was of a transition, with room in the history
+  pub fire-fits : (t : ℕ) (s : Store) (count : ℕ) → call m (calls.Fire t) s .answer ≡ rounds count
+      → (t < 256) × (s .run .count < length (s .run .history))
+  unfolding callBy callOn meaningOf
+  fire-fits t s count = go (verdict m) refl
+    where
+      go : (v : Verdict) → verdict m ≡ v → callBy v (calls.Fire t) s .answer ≡ rounds count → (t < 256) × (s .run .count < length (s .run .history))
+      go (refusal k) e q = absurd (no-rounds k count q)
+      go (accepted z y) e q =
+          let x = check-exact m bytes z y .0 e in
+          fire-cases (meaningOf y) (s .run) (λ d. d .answer ≡ rounds count → (t < 256) × (s .run .count < length (s .run .history)))
+          (λ k o e. absurd (no-rounds k count e)) (λ h e. absurd (no-rounds 20 count e)) t
+          (λ below held free n f e. (
+            omega (arith, ltb-true t (length (y .transitions)) below, x .2 .transitions),
+            omega (
+              arith,
+              count-within (meaningOf y) (s .run .values) (s .run .history) (s .run .count) held,
+              eqb-false (s .run .count) (length (s .run .history)) free,
+            ),
+          ))
+          q
 
-    pub fire-fits : (k count : ℕ) → a ≡ rounds count → answered a new ≡ onFile (verdict m) (λ m. move m (Fire k) (run values history n)) lent
-        → (k < 256) × (n < length history)
-    fire-fits k count r = room-on-file k count r (verdict m) refl
-
-module _ (values : List ℤ) (history : List ℕ) (n : ℕ) (lent new : List ℤ) (a : Answer) where
-  pub undo-fits : (v : Verdict) → a ≡ done → answered a new ≡ onFile v (λ m. move m Undo (run values history n)) lent → n ≡ 0 → ⊥
-  unfolding onFile
-  undo-fits (refusal j) r q h = let z : refused j ≡ done = sym (ap (λ (d : Done (List ℤ)). d .answer) q) ∙ r in clash cc
-  undo-fits (accepted z t) r q h = undo-step (meaningOf t) values history n (sym (ap (λ (d : Done (List ℤ)). d .answer) q) ∙ r) h
+-- an accepted undo has a step to take back
+pub undo-fits : (m : List ℕ) (s : Store) → call m calls.Undo s .answer ≡ done → s .run .count ≡ 0 → ⊥
+unfolding callBy callOn
+undo-fits m s = go (verdict m)
+  where
+    go : (v : Verdict) → callBy v calls.Undo s .answer ≡ done → s .run .count ≡ 0 → ⊥
+    go (refusal k) q h = clash cc
+    go (accepted z t) q h =
+        undo-cases (meaningOf t) (s .run) (λ d. d .answer ≡ done → s .run .count ≡ 0 → ⊥) (λ k o e h. clash cc) (λ h e g. clash cc)
+        (λ h f e g. clash cc) (λ held some-step values f e. eqb-false (s .run .count) 0 some-step) q h

@@ -3,7 +3,7 @@ use mathlib.Core.Path.{_≡_, refl}
 use mathlib.Core.Bool.{true, false, not}
 use mathlib.Core.List.{List, _++_}
 use mathlib.Core.Option.{Option, some, none}
-use Prim.Native.Nat.{ℕ, suc, _-_}
+use Prim.Native.Nat.{ℕ, suc, _-_, _≤_}
 use native.Mathlib.Omega.{arith}
 use borrow.Author.Tests.{not-true, not-false}
 use lib.Dec.{eqb, ltb}
@@ -11,67 +11,57 @@ use lib.IntN.{ℤ, pos}
 use lib.ListN.{length, getD, take, drop, set}
 use Rattle.interpreter.specs.declared.Fault.{Fault}
 use Rattle.interpreter.specs.declared.Fault.the-variants.{Failure, Outside, Conflict}
-use Rattle.engine.specs.declared.Firing.{Firing}
-use Rattle.engine.specs.declared.Firing.the-variants.{Disabled, GuardFailed, ActionFault, AssertionFault, Fired}
-use Rattle.interpreter.specs.Instructions.{Place, numberOf}
-use Rattle.interpreter.specs.Instructions.Place.{guard, action, assertion}
-use Rattle.engine.specs.Meanings.{Meaning}
-use Rattle.engine.specs.Firing.{Left, fired, begun}
-use Rattle.steps.specs.Runs.{Run, Answer, Done, run, answered}
-use Rattle.steps.specs.Runs.Answer.{refused, rounds, done, number}
-use Rattle.steps.specs.Calls.{tooShort, holds, answerOf, initial, replay}
-use Rattle.inspection.specs.Looks.{marksOf, marks, value}
-use Rattle.run.specs.Calls.{startedBy, start, firedBy, fire, undoneBy, undo}
+use Rattle.semantics.specs.declared.Firing.{Firing}
+use Rattle.semantics.specs.declared.Firing.the-variants.{Disabled, GuardFailed, ActionFault, AssertionFault, Fired}
+use Rattle.interpreter.specs.Instructions.{numberOf}
+use Rattle.interpreter.specs.Instructions.Place.{action, assertion}
+use Rattle.semantics.specs.Meanings.{Meaning}
+use Rattle.semantics.specs.Firing.{fired, begun}
+use Rattle.standing.specs.Runs.{Run, Answer, Done, run, answered}
+use Rattle.standing.specs.Runs.Answer.{refused, rounds, done, number}
+use Rattle.standing.specs.Holding.{tooShort, holds}
+use Rattle.inspection.specs.Queries.{marksOf, marks, value}
+use Rattle.steps.specs.Calls.{answerOf, isFired, firedInto, initial, start, fire, replay, undoneBy, undo}
 use Rattle.steps.proofs.Tests.{by-test}
 
--- the number of a refusal is neither 20 nor 31
+-- the number of a refusal is neither 20 nor 31, nor 0
 abbrev pub Other : ℕ → Type 0
-Other k = (k ≡ 20 → ⊥) × (k ≡ 31 → ⊥)
+Other k = (k ≡ 20 → ⊥) × (k ≡ 31 → ⊥) × (1 ≤ k)
 
-other-number : (p : Place) (f : Fault) → Other (numberOf p f)
+other-action : (f : Fault) → Other (numberOf action f)
 unfolding numberOf
-other-number guard Failure = omega arith
-other-number guard Outside = omega arith
-other-number guard Conflict = omega arith
-other-number action Failure = omega arith
-other-number action Outside = omega arith
-other-number action Conflict = omega arith
-other-number assertion Failure = omega arith
-other-number assertion Outside = omega arith
-other-number assertion Conflict = omega arith
+other-action Failure = omega arith
+other-action Outside = omega arith
+other-action Conflict = omega arith
+
+other-assertion : (f : Fault) → Other (numberOf assertion f)
+unfolding numberOf
+other-assertion Failure = omega arith
+other-assertion Outside = omega arith
+other-assertion Conflict = omega arith
 
 module _ (m : Meaning) (r : Run) (P : Done Run → Type 0) (refusal : (k : ℕ) → Other k → P (answered (refused k) r)) where
-  started-cases : (l : Left) (a : Firing) → ((n : ℕ) → a ≡ Fired n → P (answered (rounds n) (run (l .values) (r .history) 0))) → P (startedBy r l a)
-  unfolding startedBy answerOf
-  started-cases l Disabled f = refusal 23 (omega arith)
-  started-cases l GuardFailed f = refusal _ (other-number guard Failure)
-  started-cases l (ActionFault x) f = refusal _ (other-number action x)
-  started-cases l (AssertionFault x) f = refusal _ (other-number assertion x)
-  started-cases l (Fired n) f = f n refl
+  firing-cases : (new : Run) (f : Firing) → ((n : ℕ) → f ≡ Fired n → P (answered (rounds n) new)) → P (firedInto r new f)
+  unfolding answerOf isFired
+  firing-cases new Disabled g = refusal 23 (omega arith)
+  firing-cases new GuardFailed g = refusal 24 (omega arith)
+  firing-cases new (ActionFault x) g = refusal _ (other-action x)
+  firing-cases new (AssertionFault x) g = refusal _ (other-assertion x)
+  firing-cases new (Fired n) g = g n refl
 
   pub start-cases : ((n : ℕ) → tooShort m (r .values) ≡ false → begun m (initial m) (r .values) .answer ≡ Fired n
-      → P (answered (rounds n) (run (begun m (initial m) (r .values) .values) (r .history) 0)))
+      → P (answered (rounds n) (run (begun m (initial m) (r .values) .left) (r .history) 0)))
       → P (start m r)
   unfolding start
   start-cases f =
       by-test P (tooShort m (r .values)) _ _ (λ e. refusal 9 (omega arith)) (λ long.
-      started-cases (begun m (initial m) (r .values)) (begun m (initial m) (r .values) .answer) (λ n. f n long))
+      firing-cases (run (begun m (initial m) (r .values) .left) (r .history) 0) (begun m (initial m) (r .values) .answer) (λ n. f n long))
 
   -- 20 where the run does not hold
   module _ (stale : holds m r ≡ false → P (answered (refused 20) r)) where
-    fired-cases : (t : ℕ) (l : Left) (a : Firing)
-        → ((n : ℕ) → a ≡ Fired n → P (answered (rounds n) (run (l .values) (set (r .history) (r .count) t) (suc (r .count)))))
-        → P (firedBy t r l a)
-    unfolding firedBy answerOf
-    fired-cases t l Disabled f = refusal 23 (omega arith)
-    fired-cases t l GuardFailed f = refusal _ (other-number guard Failure)
-    fired-cases t l (ActionFault x) f = refusal _ (other-number action x)
-    fired-cases t l (AssertionFault x) f = refusal _ (other-number assertion x)
-    fired-cases t l (Fired n) f = f n refl
-
     pub fire-cases : (t : ℕ) → (ltb t (m .transitions) ≡ true → holds m r ≡ true → eqb (r .count) (length (r .history)) ≡ false
         → (n : ℕ) → fired m t (r .values) .answer ≡ Fired n
-        → P (answered (rounds n) (run (fired m t (r .values) .values) (set (r .history) (r .count) t) (suc (r .count)))))
+        → P (answered (rounds n) (run (fired m t (r .values) .left) (set (r .history) (r .count) t) (suc (r .count)))))
         → P (fire m t r)
     unfolding fire
     fire-cases t f =
@@ -79,7 +69,8 @@ module _ (m : Meaning) (r : Run) (P : Done Run → Type 0) (refusal : (k : ℕ) 
         by-test P (not (ltb t (m .transitions))) _ _ (λ e. refusal 11 (omega arith)) (λ below.
         by-test P (not (holds m r)) _ _ (λ e. stale (not-true (holds m r) e)) (λ held.
         by-test P (eqb (r .count) (length (r .history))) _ _ (λ e. refusal 21 (omega arith)) (λ free.
-        fired-cases t (fired m t (r .values)) (fired m t (r .values) .answer) (f (not-false _ below) (not-false _ held) free)))))
+        firing-cases (run (fired m t (r .values) .left) (set (r .history) (r .count) t) (suc (r .count))) (fired m t (r .values) .answer)
+        (f (not-false _ below) (not-false _ held) free)))))
 
     undone-cases : (o : Option (List ℤ)) → (o ≡ none → P (answered (refused 31) r))
         → ((values : List ℤ) → o ≡ some values → P (answered done (run values (r .history) (r .count - 1)))) → P (undoneBy r o)

@@ -1,7 +1,7 @@
 -- The theorems on lists of calls, from the theorems of the crates below.
 use Rattle.model.proofs.Shuffling.{shuffled-accepted}
 use Rattle.model.proofs.CheckExact.{check-exact}
-use Rattle.engine.proofs.Shuffling.{shuffled-means-same}
+use Rattle.semantics.proofs.Shuffling.{shuffled-means-same}
 use Rattle.run.specs.Theorems.{OrderIndependent, ReplayHolds, NoStaleRun}
 use Rattle.run.proofs.Order.{order-independence}
 use Rattle.run.proofs.Replayed.{replayed-after-start}

@@ -1,76 +1,31 @@
--- The history and the count follow the answer that the values gave: the calls from their part on the values.
+-- The history and the count follow the answer: a call as a whole from its answer and the values that it leaves.
 use mathlib.Core.Path.{_≡_, refl, sym, ap, _∙_}
-use mathlib.Core.Bool.{Bool, true, false, true≢false, cond, not, _||_}
+use mathlib.Core.Bool.{Bool, true, false, cond}
 use mathlib.Core.List.{List, [], _∷_}
-use mathlib.Core.Option.{Option, some, none}
 use mathlib.Core.Logic.{inl, inr}
 use types.Run.{OneOf}
 use denote.Enum.Declared.{tagOf}
 use Prim.Native.Nat.{ℕ, suc, _+_, _-_}
 use native.Mathlib.Numerals.{add-one}
 use native.Mathlib.Omega.{arith}
-use lib.Dec.{eqb, ltb}
 use lib.IntN.{ℤ}
-use lib.ListN.{length, take, set}
-use Rattle.evaluation.specs.declared.Evaluation.{Evaluation}
-use Rattle.evaluation.specs.declared.Evaluation.the-variants.{Unknown, Failed, Value}
-use Rattle.evaluation.specs.Numbers.{eqZ, boolean}
-use Rattle.engine.specs.declared.Firing.{Firing}
-use Rattle.engine.specs.declared.Firing.the-variants.{Disabled, GuardFailed, ActionFault, AssertionFault, Fired}
-use Rattle.engine.specs.Actions.{Acted}
-use Rattle.engine.specs.Actions.Acted.{faulty, states}
-use Rattle.engine.specs.Propagation.{Settled}
-use Rattle.engine.specs.Propagation.Settled.{refused as unsettled, settled}
-use Rattle.engine.specs.Meanings.{Meaning, meaningOf}
-use Rattle.engine.specs.Firing.{Left, leaves, written, leftBySettling, leftByActing, leftByGuard, fired, begun}
+use lib.ListN.{set}
+use Rattle.semantics.specs.Meanings.{Meaning, meaningOf}
+use Rattle.semantics.specs.Firing.{begun}
 use Rattle.model.specs.Check.{Verdict}
 use Rattle.model.specs.Check.Verdict.{refusal, accepted}
 use Rattle.steps.specs.declared.Move.the-variants.{Start, Fire, Undo}
-use Rattle.steps.specs.Runs.{Run, Answer, run, answered}
-use Rattle.steps.specs.Runs as runs
-use Rattle.steps.specs.Runs.Answer.{refused, rounds, done, number, sizes}
-use Rattle.run.specs.Calls as calls
-use Rattle.steps.specs.Calls.{tooShort, holds, answerOf, initial, replay}
-use Rattle.run.specs.Calls.{startedBy, firedBy, undoneBy}
+use Rattle.standing.specs.Runs.{Run, Answer, run, answered}
+use Rattle.standing.specs.Runs as runs
+use Rattle.standing.specs.Runs.Answer.{refused, rounds, done, number, sizes}
+use Rattle.standing.specs.Holding.{tooShort}
+use Rattle.steps.specs.Calls as calls
+use Rattle.steps.specs.Calls.{answerOf, isFired, initial, stepOn, valuesOf}
 use Rattle.steps.specs.Answers.{onFile, seen}
 use Rattle.steps.specs.declared.Answer as declared
 use Rattle.steps.specs.declared.Answer.the-variants.{Refused, Rounds, Done, Number, Sizes}
 use Rattle.steps.proofs.Answer.{the-type}
-use Rattle.steps.specs.Moves.{move, moved, replayed, isFired}
-use Rattle.steps.proofs.Tests.{by-test}
-
--- ---- firing and starting by cases: refused with the values as they were, or settled
-
-module _ (m : Meaning) (P : Left → Type 0) (old : List ℤ) (refusal : (f : Firing) → isFired f ≡ false → P (leaves f old))
-    (settles : (k : ℕ) (new ss : List ℤ) → m .propagate ss ≡ settled k new → P (leaves (Fired k) (written new old))) where
-  settling-cases : (ss : List ℤ) (x : Settled) → m .propagate ss ≡ x → P (leftBySettling old x)
-  unfolding leftBySettling isFired
-  settling-cases ss (unsettled f) e = refusal (AssertionFault f) refl
-  settling-cases ss (settled k new) e = settles k new ss e
-
-  acting-cases : (a : Acted) → P (leftByActing m old a)
-  unfolding leftByActing isFired
-  acting-cases (faulty f) = refusal (ActionFault f) refl
-  acting-cases (states ss) = settling-cases ss (m .propagate ss) refl
-
-  guard-cases : (t : ℕ) (g : Evaluation) → P (leftByGuard m t old g)
-  unfolding leftByGuard isFired
-  guard-cases t Unknown = refusal Disabled refl
-  guard-cases t Failed = refusal GuardFailed refl
-  guard-cases t (Value v) =
-      by-test P (eqZ v (boolean true)) _ _ (λ e. acting-cases (m .action t (take (length (m .declarations)) old))) (λ e. refusal Disabled refl)
-
-  pub fired-left : (t : ℕ) → P (fired m t old)
-  unfolding fired isFired
-  fired-left t =
-      by-test P (ltb (length old) (length (m .declarations))) _ _ (λ e. refusal Disabled refl)
-      (λ e. guard-cases t (m .guard t (take (length (m .declarations)) old)))
-
-  pub begun-left : (ss : List ℤ) → P (begun m ss old)
-  unfolding begun isFired
-  begun-left ss =
-      by-test P (ltb (length old) (length (m .declarations)) || not (eqb (length ss) (m .states))) _ _ (λ e. refusal Disabled refl)
-      (λ e. settling-cases ss (m .propagate ss) refl)
+use Rattle.run.proofs.Cases.{start-cases, fire-cases, undo-cases}
 
 -- ---- what is recorded after an answer
 
@@ -116,94 +71,70 @@ module _ (m : Meaning) (values : List ℤ) (history : List ℕ) (n : ℕ) where
   abbrev r : Run
   r = run values history n
 
-  start-refused : (f : Firing) → isFired f ≡ false → startedBy r (leaves f values) f ≡ afterStart history n (moved (leaves f values))
-  unfolding startedBy answerOf isFired countAfterStart
-  start-refused Disabled e = refl
-  start-refused GuardFailed e = refl
-  start-refused (ActionFault f) e = refl
-  start-refused (AssertionFault f) e = refl
-  start-refused (Fired k) e = absurd (true≢false e)
+  start-follows : calls.start m r ≡ afterStart history n (valuesOf (calls.start m r))
+  unfolding countAfterStart
+  start-follows = start-cases m r (λ d. d ≡ afterStart history n (valuesOf d)) (λ k o. refl) (λ k long e. refl)
 
-  start-follows : calls.start m r ≡ afterStart history n (move m Start r)
-  unfolding calls.start move countAfterStart startedBy answerOf
-  start-follows = go (tooShort m values)
+  fire-follows : (t : ℕ) → calls.fire m t r ≡ afterFire history n t (valuesOf (calls.fire m t r))
+  unfolding countAfterFire historyAfterFire
+  fire-follows t =
+      fire-cases m r (λ d. d ≡ afterFire history n t (valuesOf d)) (λ k o. refl) (λ e. refl) t (λ below held free k e. refl)
+
+  undo-follows : calls.undo m r ≡ afterUndo history n (valuesOf (calls.undo m r))
+  unfolding countAfterUndo
+  undo-follows =
+      undo-cases m r (λ d. d ≡ afterUndo history n (valuesOf d)) (λ k o. refl) (λ e. refl) (λ some-step e. refl)
+      (λ held some-step new e. refl)
+
+  -- a start is lent no history and no count
+  start-lent : valuesOf (calls.start m (run values [] 0)) ≡ valuesOf (calls.start m r)
+  unfolding calls.start
+  start-lent = go (tooShort m values) (isFired (begun m (initial m) values .answer))
     where
-      go : (b : Bool)
-          → cond b (answered (refused 9) r) (startedBy r (begun m (initial m) values) (begun m (initial m) values .answer))
-          ≡ afterStart history n (cond b (answered (refused 9) values) (moved (begun m (initial m) values)))
-      go true = refl
-      go false =
-          begun-left m (λ l. startedBy r l (l .answer) ≡ afterStart history n (moved l)) values start-refused (λ k new ss e. refl) (initial m)
+      new : List ℤ
+      new = begun m (initial m) values .left
 
-  fire-refused : (t : ℕ) (f : Firing) → isFired f ≡ false → firedBy t r (leaves f values) f ≡ afterFire history n t (moved (leaves f values))
-  unfolding firedBy answerOf isFired countAfterFire historyAfterFire
-  fire-refused t Disabled e = refl
-  fire-refused t GuardFailed e = refl
-  fire-refused t (ActionFault f) e = refl
-  fire-refused t (AssertionFault f) e = refl
-  fire-refused t (Fired k) e = absurd (true≢false e)
+      a : Answer
+      a = answerOf (begun m (initial m) values .answer)
 
-  fire-follows : (t : ℕ) → calls.fire m t r ≡ afterFire history n t (move m (Fire t) r)
-  unfolding calls.fire move countAfterFire historyAfterFire firedBy answerOf
-  fire-follows t = go (tooShort m values) (not (ltb t (m .transitions))) (not (holds m r)) (eqb n (length history))
-    where
-      go : (a b c d : Bool)
-          → cond a (answered (refused 9) r) (cond b (answered (refused 11) r) (cond c (answered (refused 20) r) (cond d (answered (refused 21) r)
-          (firedBy t r (fired m t values) (fired m t values .answer)))))
-          ≡ afterFire history n t (cond a (answered (refused 9) values) (cond b (answered (refused 11) values)
-          (cond c (answered (refused 20) values) (cond d (answered (refused 21) values) (moved (fired m t values))))))
-      go true b c d = refl
-      go false true c d = refl
-      go false false true d = refl
-      go false false false true = refl
-      go false false false false =
-          fired-left m (λ l. firedBy t r l (l .answer) ≡ afterFire history n t (moved l)) values (fire-refused t) (λ k new ss e. refl) t
-
-  undo-follows : calls.undo m r ≡ afterUndo history n (move m Undo r)
-  unfolding calls.undo move countAfterUndo undoneBy replayed
-  undo-follows = go (tooShort m values) (not (holds m r)) (eqb n 0) (replay m (initial m) (take (n - 1) history) values)
-    where
-      go : (a b c : Bool) (o : Option (List ℤ))
-          → cond a (answered (refused 9) r) (cond b (answered (refused 20) r) (cond c (answered (refused 22) r) (undoneBy r o)))
-          ≡ afterUndo history n (cond a (answered (refused 9) values) (cond b (answered (refused 20) values) (cond c (answered (refused 22) values)
-          (replayed values o))))
-      go true b c o = refl
-      go false true c o = refl
-      go false false true o = refl
-      go false false false none = refl
-      go false false false (some new) = refl
+      go : (short fired : Bool)
+          → valuesOf (cond short (answered (refused 9) (run values [] 0)) (answered a (cond fired (run new [] 0) (run values [] 0))))
+          ≡ valuesOf (cond short (answered (refused 9) r) (answered a (cond fired (run new history 0) r)))
+      go true fired = refl
+      go false true = refl
+      go false false = refl
 
 -- ---- on a file
 
 module _ (v : Verdict) (values new : List ℤ) (history : List ℕ) (n : ℕ) (a : Answer) where
-  -- a start is lent no history and no count
-  pub start-on-file : answered a new ≡ onFile v (λ m. move m Start (run values [] 0)) values
+  pub start-on-file : answered a new ≡ valuesOf (onFile v (λ m. stepOn m Start (run values [] 0)) (run values [] 0))
       → answered a (run new history (countAfterStart a n)) ≡ onFile v (λ m. calls.start m (run values history n)) (run values history n)
-  unfolding onFile countAfterStart move
+  unfolding onFile countAfterStart stepOn
   start-on-file e = ap (afterStart history n) e ∙ go v
     where
-      go : (v : Verdict) → afterStart history n (onFile v (λ m. move m Start (run values [] 0)) values)
+      go : (v : Verdict) → afterStart history n (valuesOf (onFile v (λ m. stepOn m Start (run values [] 0)) (run values [] 0)))
           ≡ onFile v (λ m. calls.start m (run values history n)) (run values history n)
       go (refusal k) = refl
-      go (accepted z t) = sym (start-follows (meaningOf t) values history n)
+      go (accepted z t) =
+          ap (afterStart history n) (start-lent (meaningOf t) values history n) ∙ sym (start-follows (meaningOf t) values history n)
 
-  pub fire-on-file : (t : ℕ) → answered a new ≡ onFile v (λ m. move m (Fire t) (run values history n)) values
+  pub fire-on-file : (t : ℕ) → answered a new ≡ valuesOf (onFile v (λ m. stepOn m (Fire t) (run values history n)) (run values history n))
       → answered a (run new (historyAfterFire t a history n) (countAfterFire a n))
       ≡ onFile v (λ m. calls.fire m t (run values history n)) (run values history n)
-  unfolding onFile countAfterFire historyAfterFire
+  unfolding onFile countAfterFire historyAfterFire stepOn
   fire-on-file t e = ap (afterFire history n t) e ∙ go v
     where
-      go : (v : Verdict) → afterFire history n t (onFile v (λ m. move m (Fire t) (run values history n)) values)
+      go : (v : Verdict) → afterFire history n t (valuesOf (onFile v (λ m. stepOn m (Fire t) (run values history n)) (run values history n)))
           ≡ onFile v (λ m. calls.fire m t (run values history n)) (run values history n)
       go (refusal k) = refl
       go (accepted z s) = sym (fire-follows (meaningOf s) values history n t)
 
-  pub undo-on-file : answered a new ≡ onFile v (λ m. move m Undo (run values history n)) values
+  pub undo-on-file : answered a new ≡ valuesOf (onFile v (λ m. stepOn m Undo (run values history n)) (run values history n))
       → answered a (run new history (countAfterUndo a n)) ≡ onFile v (λ m. calls.undo m (run values history n)) (run values history n)
-  unfolding onFile countAfterUndo
+  unfolding onFile countAfterUndo stepOn
   undo-on-file e = ap (afterUndo history n) e ∙ go v
     where
-      go : (v : Verdict) → afterUndo history n (onFile v (λ m. move m Undo (run values history n)) values)
+      go : (v : Verdict) → afterUndo history n (valuesOf (onFile v (λ m. stepOn m Undo (run values history n)) (run values history n)))
           ≡ onFile v (λ m. calls.undo m (run values history n)) (run values history n)
       go (refusal k) = refl
       go (accepted z s) = sym (undo-follows (meaningOf s) values history n)
@@ -246,7 +177,7 @@ not-undone (Sizes z) h n = refl
 -- ---- the code's answers on a file
 
 module _ (v : Verdict) (values new : List ℤ) (history : List ℕ) (n : ℕ) (r : declared.Answer) where
-  module _ (e : answered (seen r) new ≡ onFile v (λ m. move m Start (run values [] 0)) values) where
+  module _ (e : answered (seen r) new ≡ valuesOf (onFile v (λ m. stepOn m Start (run values [] 0)) (run values [] 0))) where
     pub start-counted : (k : ℕ) → r ≡ Rounds k
         → answered (seen r) (run new history 0) ≡ onFile v (λ m. calls.start m (run values history n)) (run values history n)
     unfolding seen countAfterStart
@@ -258,7 +189,7 @@ module _ (v : Verdict) (values new : List ℤ) (history : List ℕ) (n : ℕ) (r
         → answered (seen r) (run new history n) ≡ onFile v (λ m. calls.start m (run values history n)) (run values history n)
     start-kept h = rw (unrecorded r h .start n) at (start-on-file v values new history n (seen r) e)
 
-  module _ (t : ℕ) (e : answered (seen r) new ≡ onFile v (λ m. move m (Fire t) (run values history n)) values) where
+  module _ (t : ℕ) (e : answered (seen r) new ≡ valuesOf (onFile v (λ m. stepOn m (Fire t) (run values history n)) (run values history n))) where
     pub fire-counted : (k : ℕ) → r ≡ Rounds k
         → answered (seen r) (run new (set history n t) (n + 1)) ≡ onFile v (λ m. calls.fire m t (run values history n)) (run values history n)
     unfolding seen countAfterFire historyAfterFire
@@ -272,7 +203,7 @@ module _ (v : Verdict) (values new : List ℤ) (history : List ℕ) (n : ℕ) (r
     fire-kept h =
         rw (unrecorded r h .fire n, unrecorded r h .history t history n) at (fire-on-file v values new history n (seen r) t e)
 
-  module _ (e : answered (seen r) new ≡ onFile v (λ m. move m Undo (run values history n)) values) where
+  module _ (e : answered (seen r) new ≡ valuesOf (onFile v (λ m. stepOn m Undo (run values history n)) (run values history n))) where
     pub undo-counted : r ≡ Done
         → answered (seen r) (run new history (n - 1)) ≡ onFile v (λ m. calls.undo m (run values history n)) (run values history n)
     unfolding seen countAfterUndo

@@ -18,17 +18,18 @@ use Rattle.evaluation.specs.Numbers.{eqZ, boolean}
 use Rattle.model.specs.Trees.{System, Transition, Variable, variables}
 use Rattle.model.specs.WellFormed.{WellFormed}
 use Rattle.model.specs.Theorems.{CheckExact}
-use Rattle.engine.specs.declared.Firing.the-variants.{Fired}
-use Rattle.interpreter.specs.Expressions.{knownFrom}
+use Rattle.semantics.specs.declared.Firing.the-variants.{Fired}
+use Rattle.expressions.specs.Expressions.{knownFrom}
 use Rattle.interpreter.specs.Instructions.{isWithin}
-use Rattle.engine.specs.Actions.{Acted}
-use Rattle.engine.specs.Actions.Acted.{faulty, states}
-use Rattle.engine.specs.Propagation.{Settled}
-use Rattle.engine.specs.Propagation.Settled.{refused, settled}
-use Rattle.engine.specs.Meanings.{Meaning, actionIn, meaningOf}
-use Rattle.engine.specs.Firing.{Left, leftBySettling, leftByActing, leftByGuard, fired, begun}
-use Rattle.steps.specs.Runs.{Run, run}
-use Rattle.steps.specs.Calls.{firstOutside, isNone, allBelow, historyHolds, holds, initial, refire, replay}
+use Rattle.semantics.specs.Actions.{Acted}
+use Rattle.semantics.specs.Actions.Acted.{faulty, states}
+use Rattle.semantics.specs.Propagation.{Settled}
+use Rattle.semantics.specs.Propagation.Settled.{refused, settled}
+use Rattle.semantics.specs.Meanings.{Meaning, actionIn, meaningOf}
+use Rattle.semantics.specs.Firing.{Left, leftBySettling, leftByActing, leftByGuard, fired, begun}
+use Rattle.standing.specs.Runs.{Run, run}
+use Rattle.standing.specs.Holding.{firstOutside, isNone, allBelow, historyHolds, holds}
+use Rattle.steps.specs.Calls.{initial, refire, replay}
 use Rattle.run.specs.Theorems.{NoStaleRun}
 use Rattle.steps.proofs.Tests.{clash, by-test, passed, neither, both, each}
 use Rattle.steps.proofs.Written.{Complete, rest-written}
@@ -99,12 +100,12 @@ pub record EndsKept (m : Meaning) : Type 0 where
 module _ (m : Meaning) (kept : EndsKept m) where
   -- the values left are within their ends, if it was fired
   abbrev LeftWithin : Left → Type 0
-  LeftWithin l = (n : ℕ) → l .answer ≡ Fired n → InEnds (m .declarations) (l .values)
+  LeftWithin l = (n : ℕ) → l .answer ≡ Fired n → InEnds (m .declarations) (l .left)
 
   settling-within : (old : List ℤ) → length (m .declarations) ≤ length old → (ss : List ℤ) → Within (m .declarations) (knownFrom ss)
       → (x : Settled) → m .propagate ss ≡ x → LeftWithin (leftBySettling old x)
   unfolding leftBySettling
-  settling-within old h ss w (refused f) e n a = clash (cc)
+  settling-within old h ss w (refused f) e n a = clash cc
   settling-within old h ss w (settled count new) e n a =
       let same : length new ≡ length (m .declarations) = kept .complete ss count new e in
       record {
@@ -115,7 +116,7 @@ module _ (m : Meaning) (kept : EndsKept m) where
   acting-within : (t : ℕ) (old : List ℤ) → InEnds (m .declarations) old → (a : Acted)
       → m .action t (take (length (m .declarations)) old) ≡ a → LeftWithin (leftByActing m old a)
   unfolding leftByActing
-  acting-within t old h (faulty f) e = λ n a. clash (cc)
+  acting-within t old h (faulty f) e = λ n a. clash cc
   acting-within t old h (states ss) e =
       settling-within old (h .long) ss (kept .acted t (take (length (m .declarations)) old) used ss e) (m .propagate ss) refl
     where
@@ -128,40 +129,39 @@ module _ (m : Meaning) (kept : EndsKept m) where
 
   guard-within : (t : ℕ) (old : List ℤ) → InEnds (m .declarations) old → (g : Evaluation) → LeftWithin (leftByGuard m t old g)
   unfolding leftByGuard
-  guard-within t old h Unknown = λ n a. clash (cc)
-  guard-within t old h Failed = λ n a. clash (cc)
+  guard-within t old h Unknown = λ n a. clash cc
+  guard-within t old h Failed = λ n a. clash cc
   guard-within t old h (Value v) =
       by-test LeftWithin (eqZ v (boolean true)) _ _
       (λ e. acting-within t old h (m .action t (take (length (m .declarations)) old)) refl)
-      (λ e n a. clash (cc))
+      (λ e n a. clash cc)
 
   fired-within : (t : ℕ) (old : List ℤ) → InEnds (m .declarations) old → LeftWithin (fired m t old)
   unfolding fired
   fired-within t old h =
       by-test LeftWithin (ltb (length old) (length (m .declarations))) _ _
-      (λ e n a. clash (cc))
+      (λ e n a. clash cc)
       (λ e. guard-within t old h (m .guard t (take (length (m .declarations)) old)))
 
   begun-within : (ss old : List ℤ) → Within (m .declarations) (knownFrom ss) → LeftWithin (begun m ss old)
   unfolding begun
   begun-within ss old w =
       by-test LeftWithin (ltb (length old) (length (m .declarations)) || not (eqb (length ss) (m .states))) _ _
-      (λ e n a. clash (cc))
+      (λ e n a. clash cc)
       (λ e. settling-within old (ltb-false (length old) (length (m .declarations)) (neither _ _ e .0)) ss w (m .propagate ss) refl)
 
   refire-within : (ts : List ℕ) (values vs : List ℤ) → InEnds (m .declarations) values → refire m ts values ≡ some vs → InEnds (m .declarations) vs
   unfolding refire
   refire-within [] values vs h e = rw (← Option·some-injective values vs e) h
   refire-within (t ∷ ts) values vs h e =
-      goes-on (λ o. InEnds (m .declarations) vs) (λ x. refire m ts x) (λ x. refire m ts x) (fired m t values) (fired m t values .answer) vs
-      (λ n f. refire-within ts (fired m t values .values) vs (fired-within t values h n f)) e
+      goes-on (λ o. InEnds (m .declarations) vs) (λ x. refire m ts x) (λ x. refire m ts x) (fired m t values) vs
+      (λ n f. refire-within ts (fired m t values .left) vs (fired-within t values h n f)) e
 
   replay-within : (ts : List ℕ) (values vs : List ℤ) → replay m (initial m) ts values ≡ some vs → InEnds (m .declarations) vs
   unfolding replay
   replay-within ts values vs =
-      goes-on (λ o. InEnds (m .declarations) vs) (λ x. refire m ts x) (λ x. refire m ts x) (begun m (initial m) values)
-      (begun m (initial m) values .answer) vs
-      (λ n f. refire-within ts (begun m (initial m) values .values) vs (begun-within (initial m) values (kept .first) n f))
+      goes-on (λ o. InEnds (m .declarations) vs) (λ x. refire m ts x) (λ x. refire m ts x) (begun m (initial m) values) vs
+      (λ n f. refire-within ts (begun m (initial m) values .left) vs (begun-within (initial m) values (kept .first) n f))
 
 -- ---- along a list of calls
 
@@ -180,7 +180,7 @@ held-holds m r h =
 module _ (m : Meaning) (kept : EndsKept m) where
   fired-held : (t : ℕ) (r : Run) → Held m r → ltb t (m .transitions) ≡ true → eqb (r .count) (length (r .history)) ≡ false → (k : ℕ)
       → fired m t (r .values) .answer ≡ Fired k
-      → Held m (run (fired m t (r .values) .values) (set (r .history) (r .count) t) (suc (r .count)))
+      → Held m (run (fired m t (r .values) .left) (set (r .history) (r .count) t) (suc (r .count)))
   fired-held t r h low free k e =
       let inside : r .count < length (r .history) = omega (arith, h .counted, eqb-false (r .count) (length (r .history)) free) in
       record {

@@ -1,7 +1,7 @@
 -- A refusal that never comes after an accepted start, from what holds after a start and stays along a list of calls.
 use mathlib.Core.Path.{_≡_, refl, sym, ap, _∙_}
 use mathlib.Core.Bool.{Bool, true, false, cond, not}
-use mathlib.Core.List.{List, [], _∷_}
+use mathlib.Core.List.{List}
 use mathlib.Core.Option.{some, none}
 use Prim.Native.Nat.{ℕ, suc, _-_}
 use native.Mathlib.Omega.{arith}
@@ -13,15 +13,15 @@ use Rattle.model.specs.Trees.{System}
 use Rattle.model.specs.Check.{Verdict, verdict}
 use Rattle.model.specs.Check.Verdict.{refusal, accepted}
 use Rattle.model.specs.Theorems.{Bytes}
-use Rattle.engine.specs.declared.Firing.the-variants.{Fired}
-use Rattle.engine.specs.Meanings.{Meaning, meaningOf}
-use Rattle.engine.specs.Firing as firing
+use Rattle.semantics.specs.declared.Firing.the-variants.{Fired}
+use Rattle.semantics.specs.Meanings.{Meaning, meaningOf}
+use Rattle.semantics.specs.Firing as firing
 use Rattle.run.specs.declared.Call.{Call}
 use Rattle.run.specs.declared.Call.the-variants.{Check, Start, Fire, Undo, Marks, Value}
-use Rattle.steps.specs.Runs.{Run, Store, Answer, Done, run, answered}
-use Rattle.steps.specs.Runs.Answer.{refused, rounds, done, number, sizes}
-use Rattle.steps.specs.Calls.{tooShort, holds, initial, replay}
-use Rattle.run.specs.Calls.{start}
+use Rattle.standing.specs.Runs.{Run, Store, Answer, Done, run, answered}
+use Rattle.standing.specs.Runs.Answer.{refused, rounds, done, number, sizes}
+use Rattle.standing.specs.Holding.{tooShort, holds}
+use Rattle.steps.specs.Calls.{initial, start, replay}
 use Rattle.run.specs.Picks.{PickedFrom, Fireable}
 use Rattle.run.specs.Lists.{callOn, callBy, call, Performed, PickedBy, lastLeft}
 use Rattle.run.specs.Lists.Performed.{nothing, next}
@@ -31,22 +31,22 @@ use Rattle.run.specs.Theorems.{NoneIs, NeverAfterStart}
 use Rattle.steps.proofs.Tests.{clash}
 use Rattle.run.proofs.Cases.{Other, start-cases, fire-cases, undo-cases, marks-cases, value-cases}
 
--- the number of a refusal; 0 of any other answer
+-- the number of a refusal; 1, which no call on an accepted model answers, of any other answer
 abbrev refusalIn : Answer → ℕ
 refusalIn (refused n) = n
-refusalIn (rounds n) = 0
-refusalIn done = 0
-refusalIn (number v) = 0
-refusalIn (sizes z) = 0
+refusalIn (rounds n) = 1
+refusalIn done = 1
+refusalIn (number v) = 1
+refusalIn (sizes z) = 1
 
 -- what holds of the run after an accepted start and stays with each accepted call; under it number n is not met
 pub record Invariant (n : ℕ) (m : Meaning) : Type 1 where
   pub Holds : Run → Type 0
   pub started : (r : Run) (k : ℕ) → tooShort m (r .values) ≡ false → firing.begun m (initial m) (r .values) .answer ≡ Fired k
-      → Holds (run (firing.begun m (initial m) (r .values) .values) (r .history) 0)
+      → Holds (run (firing.begun m (initial m) (r .values) .left) (r .history) 0)
   pub fired : (t : ℕ) (r : Run) → Holds r → ltb t (m .transitions) ≡ true → eqb (r .count) (length (r .history)) ≡ false → (k : ℕ)
       → firing.fired m t (r .values) .answer ≡ Fired k
-      → Holds (run (firing.fired m t (r .values) .values) (set (r .history) (r .count) t) (suc (r .count)))
+      → Holds (run (firing.fired m t (r .values) .left) (set (r .history) (r .count) t) (suc (r .count)))
   pub undone : (r : Run) → Holds r → eqb (r .count) 0 ≡ false → (values : List ℤ)
       → replay m (initial m) (take (r .count - 1) (r .history)) (r .values) ≡ some values → Holds (run values (r .history) (r .count - 1))
   pub stale : (r : Run) → Holds r → holds m r ≡ false → 20 ≡ n → ⊥
@@ -60,8 +60,8 @@ module _ (n : ℕ) (other : (k : ℕ) → Other k → k ≡ n → ⊥) where
   not-refused : (k : ℕ) → (k ≡ n → ⊥) → Not (refused k)
   not-refused k f e = f (ap refusalIn e)
 
-  accepted-by : (a : Answer) → refusalIn a ≡ 0 → Not a
-  accepted-by a z e = other 0 (omega arith) (let p : refusalIn a ≡ n = ap refusalIn e in omega arith)
+  accepted-by : (a : Answer) → refusalIn a ≡ 1 → Not a
+  accepted-by a z e = other 1 (omega arith) (let p : refusalIn a ≡ n = ap refusalIn e in omega arith)
 
   module _ (m : Meaning) (i : Invariant n m) where
     abbrev Step : Done Run → Type 0
@@ -97,7 +97,7 @@ module _ (n : ℕ) (other : (k : ℕ) → Other k → k ≡ n → ⊥) where
     begins : (r : Run) (count : ℕ) → start m r .answer ≡ rounds count → i .Holds (start m r .left)
     begins r count =
         start-cases m r (λ d. d .answer ≡ rounds count → i .Holds (d .left))
-        (λ k o e. clash (cc))
+        (λ k o e. clash cc)
         (λ k long e p. i .started r k long e)
 
     never : (file : List ℕ) (z : Sizes) → ((c : Call) (s : Store) → call file c s ≡ callOn z m c s) → {cs : List Call} {s : Store} {rs : List (Done Store)}
@@ -112,8 +112,8 @@ module _ (n : ℕ) (other : (k : ℕ) → Other k → k ≡ n → ⊥) where
     not-fireable : (values : List ℤ) (p : Picked) → Fireable m values p → p ≡ Refused n → ⊥
     unfolding Fireable
     not-fireable values (Refused k) f e = f
-    not-fireable values (Transition t) f e = clash (cc)
-    not-fireable values Nothing f e = clash (cc)
+    not-fireable values (Transition t) f e = clash cc
+    not-fireable values Nothing f e = clash cc
 
     -- nor does pick answer it
     picks : (r : Run) → i .Holds r → (p : Picked) → PickedFrom m r p → p ≡ Refused n → ⊥

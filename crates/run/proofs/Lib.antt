@@ -5,8 +5,9 @@ pub mod Following
 pub mod Held
 pub mod Invariants
 pub mod Order
-pub mod Performing
 pub mod Picking
+pub mod Promised
+pub mod Reached
 pub mod Replay
 pub mod Replayed
 pub mod Seen

@@ -3,9 +3,9 @@ use mathlib.Core.Path.{_≡_, refl, sym, ap, ap₂, _∙_}
 use mathlib.Core.List.{List, _∷_}
 use Prim.Native.Nat.{ℕ}
 use Rattle.model.specs.Theorems.{Bytes, ShuffledFile, ShuffledAccepted}
-use Rattle.engine.specs.Theorems.{ShuffledMeansSame}
+use Rattle.semantics.specs.Theorems.{ShuffledMeansSame}
 use Rattle.run.specs.declared.Call.{Call}
-use Rattle.steps.specs.Runs.{Store, Done}
+use Rattle.standing.specs.Runs.{Store, Done}
 use Rattle.run.specs.Lists.{callOn, callBy, call, callsOf, Performed}
 use Rattle.run.specs.Lists.Performed.{nothing, next}
 use Rattle.run.specs.Theorems.{OrderIndependent}

@@ -1,5 +1,5 @@
 -- Pick goes by the marks: the first mark that is 1.
-use mathlib.Core.Path.{_≡_, refl, sym, ap, subst, _∙_}
+use mathlib.Core.Path.{_≡_, refl, sym, ap, _∙_}
 use mathlib.Core.Bool.{Bool, true, false, cond, not}
 use mathlib.Core.List.{List, [], _∷_, _++_}
 use Prim.Native.Nat.{ℕ, zero, suc, _+_, _-_, _≤_, _<_}
@@ -8,7 +8,7 @@ use native.Mathlib.Omega.{arith}
 use borrow.Author.Tests.{eq-eqb, ne-eqb, eqb-true, eqb-false, le-ltb, ltb-true, ltb-false}
 use lib.Dec.{eqb, ltb}
 use lib.IntN.{ℤ}
-use lib.ListN.{length, getD, take, drop, replicate, length-append, drop-of-length-le, List·getD-append, List·getD-eq-default}
+use lib.ListN.{length, getD, take, drop, replicate, length-append, drop-of-length-le, List·getD-append}
 use lib.Seq.{drop-cons, getD-append-add, getD-drop}
 use Rattle.model.specs.declared.Sizes.{Sizes}
 use Rattle.model.specs.Trees.{System}
@@ -16,13 +16,13 @@ use Rattle.model.specs.Check.{Verdict, verdict}
 use Rattle.model.specs.Theorems.{Bytes}
 use Rattle.model.proofs.CheckExact.{check-exact}
 use Rattle.model.specs.Check.Verdict.{refusal, accepted}
-use Rattle.engine.specs.Meanings.{Meaning, meaningOf}
+use Rattle.semantics.specs.Meanings.{Meaning, meaningOf}
 use Rattle.run.specs.declared.Picked.{Picked}
 use Rattle.run.specs.declared.Picked.the-variants.{Refused, Transition, Nothing}
-use Rattle.steps.specs.Runs.{Run, Answer, Done, answered}
-use Rattle.steps.specs.Runs.Answer.{refused, done}
-use Rattle.steps.specs.Calls.{tooShort, holds}
-use Rattle.inspection.specs.Looks.{marksFrom, marksOf, marks}
+use Rattle.standing.specs.Runs.{Run, Answer, Done, answered}
+use Rattle.standing.specs.Runs.Answer.{refused, done}
+use Rattle.standing.specs.Holding.{tooShort, holds}
+use Rattle.inspection.specs.Queries.{marksFrom, marksOf, marks}
 use Rattle.run.specs.Picks.{Fireable, PickedFrom}
 use Rattle.steps.specs.declared.Answer as declared
 use Rattle.steps.specs.Answers.{seen, onFile}
@@ -138,14 +138,14 @@ module _ (r : Run) (old : List ℕ) (z : (k : ℕ) → getD old k 0 ≡ 0) where
         by-tests (λ d. d .answer ≡ refused n → PickedFrom m r (Refused n))
         (λ e q. rw e (let k : 9 ≡ n = cc in ap Refused (sym k)))
         (λ e f q. rw (e, f) (let k : 20 ≡ n = cc in ap Refused (sym k)))
-        (λ e f q. clash (cc))
+        (λ e f q. clash cc)
 
     done-by : marks m r old .answer ≡ done → PickedFrom m r (firstFireable (marks m r old .left) 0)
     unfolding PickedFrom
     done-by =
         by-tests (λ d. d .answer ≡ done → PickedFrom m r (firstFireable (d .left) 0))
-        (λ e q. clash (cc))
-        (λ e f q. clash (cc))
+        (λ e q. clash cc)
+        (λ e f q. clash cc)
         (λ e f q. rw (e, f)
         (fireable m (r .values) (drop (m .transitions) old) (rest-zeros (m .transitions))
         (firstFireable (marksOf m (r .values) ++ drop (m .transitions) old) 0)
@@ -161,7 +161,7 @@ module _ (r : Run) (old : List ℕ) (z : (k : ℕ) → getD old k 0 ≡ 0) where
   pub pick-done : (v : Verdict) → ((s : Sizes) (t : System) → v ≡ accepted s t → meaningOf t .transitions ≤ length old)
       → onFile v (λ m. marks m r old) old .answer ≡ done → PickedBy v r (firstFireable (onFile v (λ m. marks m r old) old .left) 0)
   unfolding onFile PickedBy
-  pick-done (refusal k) few q = clash (cc)
+  pick-done (refusal k) few q = clash cc
   pick-done (accepted s t) few q = done-by r old z (meaningOf t) (few s t refl) q
 
 -- ---- as the code has it
@@ -203,10 +203,10 @@ module _ (m : List ℕ) (bytes : Bytes m) (r : Run) where
 
     -- the code's other answers do not occur
     pub picked-rounds : (k : ℕ) → a ≡ declared.the-variants.Rounds k → PickedBy (verdict m) r Nothing
-    picked-rounds k q = absurd (picked-never (λ d. clash (cc)) (λ n f. clash (cc)))
+    picked-rounds k q = absurd (picked-never (λ d. clash cc) (λ n f. clash cc))
 
     pub picked-number : (k : ℤ) → a ≡ declared.the-variants.Number k → PickedBy (verdict m) r Nothing
-    picked-number k q = absurd (picked-never (λ d. clash (cc)) (λ n f. clash (cc)))
+    picked-number k q = absurd (picked-never (λ d. clash cc) (λ n f. clash cc))
 
     pub picked-sizes : (k : Sizes) → a ≡ declared.the-variants.Sizes k → PickedBy (verdict m) r Nothing
-    picked-sizes k q = absurd (picked-never (λ d. clash (cc)) (λ n f. clash (cc)))
+    picked-sizes k q = absurd (picked-never (λ d. clash cc) (λ n f. clash cc))

@@ -10,11 +10,11 @@ use lib.Dec.{eqb}
 use lib.IntN.{ℤ}
 use lib.ListN.{length, getD, take, set, length-set}
 use lib.Seq.{take-suc-set, take-suc}
-use Rattle.engine.specs.declared.Firing.the-variants.{Fired}
-use Rattle.engine.specs.Meanings.{Meaning, meaningOf}
-use Rattle.engine.specs.Firing.{fired, begun}
-use Rattle.steps.specs.Runs.{Run, run}
-use Rattle.steps.specs.Calls.{initial, goOn, refire, replay}
+use Rattle.semantics.specs.declared.Firing.the-variants.{Fired}
+use Rattle.semantics.specs.Meanings.{Meaning, meaningOf}
+use Rattle.semantics.specs.Firing.{fired, begun}
+use Rattle.standing.specs.Runs.{Run, run}
+use Rattle.steps.specs.Calls.{isFired, initial, goOn, refire, replay}
 use Rattle.run.specs.Theorems.{ReplayHolds}
 use Rattle.steps.proofs.Written.{Complete}
 use Rattle.steps.proofs.Ends.{settle-complete}
@@ -38,25 +38,25 @@ module _ (m : Meaning) (complete : Complete m) where
       replay-depends m complete (initial m) ts old new (replay-keeps m complete (initial m) ts old new e) ∙ e
 
   begun-replayed : (r : Run) (n : ℕ) → begun m (initial m) (r .values) .answer ≡ Fired n
-      → Replayed m (run (begun m (initial m) (r .values) .values) (r .history) 0)
-  unfolding replay refire goOn
+      → Replayed m (run (begun m (initial m) (r .values) .left) (r .history) 0)
+  unfolding replay refire goOn isFired
   begun-replayed r n e =
       record {
         counted = omega arith;
-        replayed = replay-again [] (r .values) (begun m (initial m) (r .values) .values) (rw e);
+        replayed = replay-again [] (r .values) (begun m (initial m) (r .values) .left) (rw e);
       }
 
   fired-replayed : (t : ℕ) (r : Run) → Replayed m r → eqb (r .count) (length (r .history)) ≡ false → (n : ℕ)
       → fired m t (r .values) .answer ≡ Fired n
-      → Replayed m (run (fired m t (r .values) .values) (set (r .history) (r .count) t) (suc (r .count)))
-  unfolding refire goOn
+      → Replayed m (run (fired m t (r .values) .left) (set (r .history) (r .count) t) (suc (r .count)))
+  unfolding refire goOn isFired
   fired-replayed t r h free n e =
       let below : r .count < length (r .history) = omega (arith, h .counted, eqb-false (r .count) (length (r .history)) free) in
       record {
         counted = rw length-set below;
         replayed =
             rw (take-suc-set (r .history) (r .count) t below)
-            (replay-again (take (r .count) (r .history) ++ (t ∷ [])) (r .values) (fired m t (r .values) .values)
+            (replay-again (take (r .count) (r .history) ++ (t ∷ [])) (r .values) (fired m t (r .values) .left)
             (replay-append m (initial m) (take (r .count) (r .history)) (t ∷ []) (r .values) (r .values) (h .replayed) ∙ rw e));
       }
 

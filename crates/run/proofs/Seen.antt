@@ -2,8 +2,8 @@
 use mathlib.Core.Path.{_≡_, refl, sym, ap, _∙_}
 use Rattle.steps.specs.declared.Answer as declared
 use Rattle.steps.specs.declared.Answer.the-variants.{Refused, Rounds, Done, Number, Sizes}
-use Rattle.steps.specs.Runs.{Answer}
-use Rattle.steps.specs.Runs.Answer.{refused, rounds, done, number, sizes}
+use Rattle.standing.specs.Runs.{Answer}
+use Rattle.standing.specs.Runs.Answer.{refused, rounds, done, number, sizes}
 use Rattle.steps.specs.Answers.{seen}
 use Rattle.run.specs.Theorems.{SeenDistinct}
 

@@ -1,5 +1,8 @@
 -- Definitions and statements of crate `run`, in document 01's order.
-pub mod Calls
+-- 01's own:
 pub mod Picks
 pub mod Lists
+-- what each function promises:
+pub mod Promises
+-- statements:
 pub mod Theorems

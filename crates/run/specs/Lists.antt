@@ -6,14 +6,14 @@ use Prim.Native.Nat.{ℕ, suc, _≤_}
 use Rattle.model.specs.declared.Sizes.{Sizes}
 use Rattle.model.specs.Check.{Verdict, verdict}
 use Rattle.model.specs.Check.Verdict.{refusal, accepted}
-use Rattle.engine.specs.Meanings.{Meaning, meaningOf}
+use Rattle.semantics.specs.Meanings.{Meaning, meaningOf}
 use Rattle.run.specs.declared.Call.{Call}
 use Rattle.run.specs.declared.Call.the-variants.{Check, Start, Fire, Undo, Marks, Value}
-use Rattle.steps.specs.Runs.{Run, Store, Answer, Done, answered, withRun, withMarks}
-use Rattle.steps.specs.Runs.Answer.{refused, rounds, sizes}
+use Rattle.standing.specs.Runs.{Run, Store, Answer, Done, answered, withRun, withMarks}
+use Rattle.standing.specs.Runs.Answer.{refused, rounds, done, number, sizes}
 use Rattle.run.specs.declared.Picked.{Picked}
-use Rattle.run.specs.Calls as calls
-use Rattle.inspection.specs.Looks as looks
+use Rattle.steps.specs.Calls as calls
+use Rattle.inspection.specs.Queries as queries
 use Rattle.run.specs.Picks.{PickedFrom}
 
 abbrev pub onRun : Store → Done Run → Done Store
@@ -28,8 +28,8 @@ callOn z m Check s = answered (sizes z) s
 callOn z m Start s = onRun s (calls.start m (s .run))
 callOn z m (Fire t) s = onRun s (calls.fire m t (s .run))
 callOn z m Undo s = onRun s (calls.undo m (s .run))
-callOn z m Marks s = onMarks s (looks.marks m (s .run) (s .marks))
-callOn z m (Value x) s = answered (looks.value m x (s .run)) s
+callOn z m Marks s = onMarks s (queries.marks m (s .run) (s .marks))
+callOn z m (Value x) s = answered (queries.value m x (s .run)) s
 
 unfoldable pub callBy : Verdict → Call → Store → Done Store
 callBy (refusal n) c s = answered (refused n) s
@@ -44,10 +44,18 @@ unfoldable pub callsOf : List ℕ → List Call → Store → List (Done Store)
 callsOf m [] s = []
 callsOf m (c ∷ cs) s = call m c s ∷ callsOf m cs (call m c s .left)
 
--- 01: "the round count is how many were made, that last one included, so it is at most F + 1"
+-- a round count that is answered. 01: "so it is at most F + 1"
+unfoldable pub CountWithin : ℕ → Answer → Type 0
+CountWithin flows (refused n) = Unit {0}
+CountWithin flows (rounds n) = (1 ≤ n) × (n ≤ suc flows)
+CountWithin flows done = Unit {0}
+CountWithin flows (number v) = Unit {0}
+CountWithin flows (sizes z) = Unit {0}
+
+-- the same on a model file
 unfoldable pub CountBounded : Verdict → Answer → Type 0
 CountBounded (refusal n) a = Unit {0}
-CountBounded (accepted z t) a = (count : ℕ) → a ≡ rounds count → (1 ≤ count) × (count ≤ suc (z .flows))
+CountBounded (accepted z t) a = CountWithin (z .flows) a
 
 -- pick on a model file
 unfoldable pub PickedBy : Verdict → Run → Picked → Type 0

@@ -6,10 +6,10 @@ use Prim.Native.Nat.{ℕ, suc, _<_}
 use lib.Dec.{eqb}
 use lib.IntN.{ℤ}
 use lib.ListN.{getD}
-use Rattle.engine.specs.Meanings.{Meaning}
-use Rattle.steps.specs.Runs.{Run}
-use Rattle.steps.specs.Calls.{tooShort, holds}
-use Rattle.inspection.specs.Looks.{marksOf}
+use Rattle.semantics.specs.Meanings.{Meaning}
+use Rattle.standing.specs.Runs.{Run}
+use Rattle.standing.specs.Holding.{tooShort, holds}
+use Rattle.inspection.specs.Queries.{marksOf}
 use Rattle.run.specs.declared.Picked.{Picked}
 use Rattle.run.specs.declared.Picked.the-variants.{Refused, Transition, Nothing}
 

@@ -2,17 +2,44 @@
 use mathlib.Core.Path.{_≡_}
 use mathlib.Core.List.{List, [], _∷_}
 use Prim.Native.Nat.{ℕ}
+use lib.IntN.{ℤ}
+use Rattle.model.specs.declared.Checked.{Checked}
 use Rattle.model.specs.Check.{verdict}
 use Rattle.model.specs.Theorems.{Bytes, Accepted, ShuffledFile}
 use Rattle.run.specs.declared.Call.{Call}
-use Rattle.run.specs.declared.Call.the-variants.{Start}
-use Rattle.steps.specs.Runs.{Store, Answer, Done}
-use Rattle.steps.specs.Runs.Answer.{refused, rounds}
+use Rattle.run.specs.declared.Call.the-variants.{Check, Start, Fire, Undo, Marks, Value}
+use Rattle.standing.specs.Runs.{Store, Done, run, store, answered}
+use Rattle.standing.specs.Runs.Answer.{refused, rounds}
 use Rattle.run.specs.declared.Picked.{Picked}
 use Rattle.run.specs.declared.Picked.the-variants.{Refused}
 use Rattle.steps.specs.declared.Answer as declared
 use Rattle.run.specs.Lists.{callsOf, Promise, Performed, PickedBy, lastLeft}
 use Rattle.steps.specs.Answers.{seen}
+use Rattle.run.specs.Promises.{seenCheck, CheckPromise, StartPromise, FirePromise, UndoPromise, MarksPromise, ValuePromise}
+
+-- The functions carry out a list: what each promises of its answer and of what it is lent is the promise of its call, the rest of the
+-- store being as it was. 01: "Every call takes what it uses of this as the calls before, refused or not, left it".
+pub record CallsReached : Type 0 where
+  pub check : (m : List ℕ) (s : Store) (r : Checked) → CheckPromise m r → Promise m Check s (answered (seenCheck r) s)
+  pub start : (m : List ℕ) (values : List ℤ) (history : List ℕ) (n : ℕ) (held : List ℕ) (r : declared.Answer) (values′ : List ℤ) (n′ : ℕ)
+      → StartPromise m values n r values′ n′
+      → Promise m Start (store (run values history n) held) (answered (seen r) (store (run values′ history n′) held))
+  pub fire : (m : List ℕ) (values : List ℤ) (history : List ℕ) (n t : ℕ) (held : List ℕ) (r : declared.Answer)
+      (values′ : List ℤ) (history′ : List ℕ) (n′ : ℕ) → FirePromise m values history n t r values′ history′ n′
+      → Promise m (Fire t) (store (run values history n) held) (answered (seen r) (store (run values′ history′ n′) held))
+  pub undo : (m : List ℕ) (values : List ℤ) (history : List ℕ) (n : ℕ) (held : List ℕ) (r : declared.Answer) (values′ : List ℤ) (n′ : ℕ)
+      → UndoPromise m values history n r values′ n′
+      → Promise m Undo (store (run values history n) held) (answered (seen r) (store (run values′ history n′) held))
+  pub marks : (m : List ℕ) (values : List ℤ) (history : List ℕ) (n : ℕ) (held : List ℕ) (r : declared.Answer) (held′ : List ℕ)
+      → MarksPromise m values history n held r held′
+      → Promise m Marks (store (run values history n) held) (answered (seen r) (store (run values history n) held′))
+  pub value : (m : List ℕ) (values : List ℤ) (history : List ℕ) (n x : ℕ) (held : List ℕ) (r : declared.Answer)
+      → ValuePromise m values history n x r
+      → Promise m (Value x) (store (run values history n) held) (answered (seen r) (store (run values history n) held))
+
+-- every list has results that the promises allow
+abbrev pub PerformancesExist : Type 0
+PerformancesExist = (m : List ℕ) (cs : List Call) (s : Store) → Performed m cs s (callsOf m cs s)
 
 -- 01, demand 3: "Each answer, and after each call n and every cell, are equal for both and are what these definitions give along the
 -- list. That is one claim about the whole list, not one for each call."

@@ -1,16 +1,10 @@
 // The calls on a run.
 
 ghost use mathlib.Core.Path.{_≡_};
-ghost use mathlib.Core.List.{List};
-ghost use Prim.Native.Nat.{ℕ};
-ghost use Rattle.model.specs.Check.{verdict, answerOf};
-ghost use Rattle.steps.specs.Runs.{run, store, answered};
-ghost use Rattle.run.specs.Calls as calls;
-ghost use Rattle.inspection.specs.Looks as looks;
-ghost use Rattle.steps.specs.Answers.{seen, onFile, onFileAnswer};
-ghost use Rattle.run.specs.Lists.{PickedBy, Promise, CountBounded};
+ghost use Rattle.standing.specs.Runs.{run, store};
 ghost use Rattle.run.specs.Picks.{firstFireable};
-use inspection::Look;
+ghost use Rattle.run.specs.Promises.{CheckPromise, StartPromise, FirePromise, UndoPromise, MarksPromise, ValuePromise, PickPromise, PerformPromise};
+use inspection::Query;
 use model::Checked;
 use model::Model;
 use steps::Answer;
@@ -36,16 +30,14 @@ pub enum Picked {
 
 // The check of a model: its five sizes.
 pub fn check(model: &[u8]) -> Checked
-    ensures { λ r. ⌜ r ≡ answerOf (verdict (now (model .entry))) ⌝ }
+    ensures { λ r. ⌜ CheckPromise (now (model .entry)) r ⌝ }
 {
     model::check::check(model)
 }
 
 // States initial, then the assertion; n = 0. The history is not lent.
 pub fn start(model: &[u8], values: &mut [i32], n: &mut usize) -> Answer
-    ensures { λ r. ⌜ ((history : List ℕ) → answered (seen r) (run (now (values .exit)) history (now (n .exit)))
-        ≡ onFile (verdict (now (model .entry))) (λ m. calls.start m (run (now (values .entry)) history (now (n .entry)))) (run (now (values .entry)) history (now (n .entry)))) ⌝ }
-    ensures { λ r. ⌜ CountBounded (verdict (now (model .entry))) (seen r) ⌝ }
+    ensures { λ r. ⌜ StartPromise (now (model .entry)) (now (values .entry)) (now (n .entry)) r (now (values .exit)) (now (n .exit)) ⌝ }
 {
     let answer = moves::advance(model, values, &[0u8; 0], 0, Move::Start);
     if let Answer::Rounds(_) = answer {
@@ -62,9 +54,8 @@ pub fn fire(
     n: &mut usize,
     transition: usize,
 ) -> Answer
-    ensures { λ r. ⌜ answered (seen r) (run (now (values .exit)) (now (history .exit)) (now (n .exit)))
-        ≡ onFile (verdict (now (model .entry))) (λ m. calls.fire m transition (run (now (values .entry)) (now (history .entry)) (now (n .entry)))) (run (now (values .entry)) (now (history .entry)) (now (n .entry))) ⌝ }
-    ensures { λ r. ⌜ CountBounded (verdict (now (model .entry))) (seen r) ⌝ }
+    ensures { λ r. ⌜ FirePromise (now (model .entry)) (now (values .entry)) (now (history .entry)) (now (n .entry)) transition r
+        (now (values .exit)) (now (history .exit)) (now (n .exit)) ⌝ }
 {
     let count = *n;
     let answer = moves::advance(model, values, history, count, Move::Fire(transition));
@@ -77,8 +68,7 @@ pub fn fire(
 
 // Back to the values before the last recorded transition (01: take back).
 pub fn undo(model: &[u8], values: &mut [i32], history: &[u8], n: &mut usize) -> Answer
-    ensures { λ r. ⌜ answered (seen r) (run (now (values .exit)) (now (history .entry)) (now (n .exit)))
-        ≡ onFile (verdict (now (model .entry))) (λ m. calls.undo m (run (now (values .entry)) (now (history .entry)) (now (n .entry)))) (run (now (values .entry)) (now (history .entry)) (now (n .entry))) ⌝ }
+    ensures { λ r. ⌜ UndoPromise (now (model .entry)) (now (values .entry)) (now (history .entry)) (now (n .entry)) r (now (values .exit)) (now (n .exit)) ⌝ }
 {
     let count = *n;
     let answer = moves::advance(model, values, history, count, Move::Undo);
@@ -90,15 +80,14 @@ pub fn undo(model: &[u8], values: &mut [i32], history: &[u8], n: &mut usize) -> 
 
 // For each transition 1 if its guard is true, 0 false, 2 failed.
 pub fn marks(model: &[u8], values: &[i32], history: &[u8], n: usize, marks: &mut [u8]) -> Answer
-    ensures { λ r. ⌜ answered (seen r) (now (marks .exit))
-        ≡ onFile (verdict (now (model .entry))) (λ m. looks.marks m (run (now (values .entry)) (now (history .entry)) n) (now (marks .entry))) (now (marks .entry)) ⌝ }
+    ensures { λ r. ⌜ MarksPromise (now (model .entry)) (now (values .entry)) (now (history .entry)) n (now (marks .entry)) r (now (marks .exit)) ⌝ }
 {
-    inspection::inspect(model, values, history, n, marks, Look::Marks)
+    inspection::inspect(model, values, history, n, marks, Query::Marks)
 }
 
 // The value of a variable.
 pub fn value(model: &[u8], values: &[i32], history: &[u8], n: usize, variable: usize) -> Answer
-    ensures { λ r. ⌜ seen r ≡ onFileAnswer (verdict (now (model .entry))) (λ m. looks.value m variable (run (now (values .entry)) (now (history .entry)) n)) ⌝ }
+    ensures { λ r. ⌜ ValuePromise (now (model .entry)) (now (values .entry)) (now (history .entry)) n variable r ⌝ }
 {
     inspection::inspect(
         model,
@@ -106,7 +95,7 @@ pub fn value(model: &[u8], values: &[i32], history: &[u8], n: usize, variable: u
         history,
         n,
         &mut [0u8; 0],
-        Look::Value(variable),
+        Query::Value(variable),
     )
 }
 
@@ -126,7 +115,7 @@ fn first_fireable(marks: &[u8]) -> Picked
 
 // Some fireable transition, or none exactly if no mark is 1: here the lowest.
 pub fn pick(model: &[u8], values: &[i32], history: &[u8], n: usize) -> Picked
-    ensures { λ r. ⌜ PickedBy (verdict (now (model .entry))) (run (now (values .entry)) (now (history .entry)) n) r ⌝ }
+    ensures { λ r. ⌜ PickPromise (now (model .entry)) (now (values .entry)) (now (history .entry)) n r ⌝ }
 {
     let mut held = [0u8; Model::MAX_TRANSITIONS];
     match marks(model, values, history, n, &mut held) {
@@ -147,9 +136,9 @@ pub fn perform(
     n: &mut usize,
     held: &mut [u8],
 ) -> Answer
-    ensures { λ r. ⌜ Promise (now (model .entry)) call
-        (store (run (now (values .entry)) (now (history .entry)) (now (n .entry))) (now (held .entry)))
-        (answered (seen r) (store (run (now (values .exit)) (now (history .exit)) (now (n .exit))) (now (held .exit)))) ⌝ }
+    ensures { λ r. ⌜ PerformPromise (now (model .entry)) call
+        (store (run (now (values .entry)) (now (history .entry)) (now (n .entry))) (now (held .entry))) r
+        (store (run (now (values .exit)) (now (history .exit)) (now (n .exit))) (now (held .exit))) ⌝ }
 {
     match call {
         Call::Check => match check(model) {

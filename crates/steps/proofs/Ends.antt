@@ -20,14 +20,14 @@ use Rattle.syntax.specs.Readings.{isTruth}
 use Rattle.model.specs.WellFormed.{Declared, All}
 use Rattle.interpreter.specs.declared.Fault.{Fault}
 use Rattle.interpreter.specs.declared.Fault.the-variants.{Failure, Outside}
-use Rattle.interpreter.specs.Expressions.{Valuation, knownFrom, nothingKnown}
+use Rattle.expressions.specs.Expressions.{Valuation, knownFrom, nothingKnown}
 use Rattle.interpreter.specs.Instructions.{Effect, any, effects, isFailure, isWithin, isOutside, givenBy, faultOf, firstOf, givenTo}
 use Rattle.interpreter.specs.Instructions.Effect.{fails, gives}
-use Rattle.engine.specs.Actions.{valueOr0, cells, changed, actedBy, act}
-use Rattle.engine.specs.Actions.Acted.{states}
-use Rattle.engine.specs.Propagation.{Reached, isKnown, isNew, extended, roundBy, rounds, firstValue, resetBy, finishedBy, finish, settledFrom, settle}
-use Rattle.engine.specs.Propagation.Reached.{stopped, reached}
-use Rattle.engine.specs.Propagation.Settled.{settled}
+use Rattle.semantics.specs.Actions.{valueOr0, cells, changed, actedBy, act}
+use Rattle.semantics.specs.Actions.Acted.{states}
+use Rattle.semantics.specs.Propagation.{Reached, isKnown, isNew, extended, roundBy, rounds, firstValue, resetBy, finishedBy, finish, settledFrom, settle}
+use Rattle.semantics.specs.Propagation.Reached.{stopped, reached}
+use Rattle.semantics.specs.Propagation.Settled.{settled}
 use Rattle.steps.proofs.Tests.{clash, by-test, neither, both}
 
 -- what is known lies within the ends of its variable
@@ -36,7 +36,7 @@ Within vs σ = (x : ℕ) (v : ℤ) → σ x ≡ some v → T (isWithin (getElem?
 
 -- ---- the values of a valuation as cells
 
-pub length-cells : (σ : Valuation) (n x : ℕ) → length (cells σ n x) ≡ n
+length-cells : (σ : Valuation) (n x : ℕ) → length (cells σ n x) ≡ n
 unfolding cells
 length-cells σ zero x = refl
 length-cells σ (suc n) x = ap suc (length-cells σ n (suc x))

@@ -13,24 +13,21 @@ use lib.Seq.{drop-at, take-append-le}
 use Rattle.evaluation.specs.declared.Evaluation.{Evaluation}
 use Rattle.evaluation.specs.declared.Evaluation.the-variants.{Unknown, Failed, Value}
 use Rattle.evaluation.specs.Numbers.{eqZ, boolean}
-use Rattle.engine.specs.declared.Firing.the-variants.{Disabled}
-use Rattle.engine.specs.Actions.{Acted}
-use Rattle.engine.specs.Actions.Acted.{faulty, states}
-use Rattle.engine.specs.Propagation.{Settled}
-use Rattle.engine.specs.Propagation.Settled.{refused, settled}
-use Rattle.engine.specs.Meanings.{Meaning}
-use Rattle.engine.specs.Firing.{Left, leaves, leftBySettling, leftByActing, leftByGuard, fired, begun}
-use Rattle.steps.specs.Calls.{goOn, refire, replay}
+use Rattle.results.specs.Results.{answered}
+use Rattle.semantics.specs.declared.Firing.the-variants.{Disabled}
+use Rattle.semantics.specs.Actions.{Acted}
+use Rattle.semantics.specs.Actions.Acted.{faulty, states}
+use Rattle.semantics.specs.Propagation.{Settled}
+use Rattle.semantics.specs.Propagation.Settled.{refused, settled}
+use Rattle.semantics.specs.Meanings.{Meaning}
+use Rattle.semantics.specs.Firing.{leftBySettling, leftByActing, leftByGuard, fired, begun}
+use Rattle.steps.specs.Calls.{isFired, goOn, refire, replay}
 use Rattle.steps.proofs.Written.{Complete}
 
 -- the cells of a result, with these after them
 unfoldable pub longer : List ℤ → Option (List ℤ) → Option (List ℤ)
 longer rest none = none
 longer rest (some vs) = some (vs ++ rest)
-
--- what comes of going on
-abbrev result : (List ℤ → Option (List ℤ)) → Left → Option (List ℤ)
-result next l = goOn next l (l .answer)
 
 module _ (m : Meaning) (complete : Complete m) (rest : List ℤ) where
   -- it does the same with more cells
@@ -40,8 +37,8 @@ module _ (m : Meaning) (complete : Complete m) (rest : List ℤ) where
   module _ (next : List ℤ → Option (List ℤ)) (same : Same next) where
     settling-longer : (short long : List ℤ) → length short ≡ length (m .declarations) → drop (length (m .declarations)) long ≡ rest
         → (ss : List ℤ) (x : Settled) → m .propagate ss ≡ x
-        → result next (leftBySettling long x) ≡ longer rest (result next (leftBySettling short x))
-    unfolding leftBySettling goOn longer
+        → goOn next (leftBySettling long x) ≡ longer rest (goOn next (leftBySettling short x))
+    unfolding leftBySettling goOn isFired longer
     settling-longer short long h r ss (refused f) e = refl
     settling-longer short long h r ss (settled count new) e =
         let size : length new ≡ length (m .declarations) = complete ss count new e in
@@ -50,27 +47,27 @@ module _ (m : Meaning) (complete : Complete m) (rest : List ℤ) where
         rw (full, size, r) (same new size)
 
     module _ (a : List ℤ) (h : length a ≡ length (m .declarations)) where
-      acting-longer : (x : Acted) → result next (leftByActing m (a ++ rest) x) ≡ longer rest (result next (leftByActing m a x))
-      unfolding leftByActing goOn longer
+      acting-longer : (x : Acted) → goOn next (leftByActing m (a ++ rest) x) ≡ longer rest (goOn next (leftByActing m a x))
+      unfolding leftByActing goOn isFired longer
       acting-longer (faulty f) = refl
       acting-longer (states ss) = settling-longer a (a ++ rest) h (drop-at a rest (length (m .declarations)) h) ss (m .propagate ss) refl
 
       used : take (length (m .declarations)) (a ++ rest) ≡ take (length (m .declarations)) a
       used = take-append-le (length (m .declarations)) a rest (omega arith)
 
-      guard-longer : (t : ℕ) (g : Evaluation) → result next (leftByGuard m t (a ++ rest) g) ≡ longer rest (result next (leftByGuard m t a g))
-      unfolding leftByGuard goOn longer
+      guard-longer : (t : ℕ) (g : Evaluation) → goOn next (leftByGuard m t (a ++ rest) g) ≡ longer rest (goOn next (leftByGuard m t a g))
+      unfolding leftByGuard goOn isFired longer
       guard-longer t Unknown = refl
       guard-longer t Failed = refl
       guard-longer t (Value v) = rw used (go (eqZ v (boolean true)))
         where
           go : (b : Bool)
-              → result next (cond b (leftByActing m (a ++ rest) (m .action t (take (length (m .declarations)) a))) (leaves Disabled (a ++ rest)))
-              ≡ longer rest (result next (cond b (leftByActing m a (m .action t (take (length (m .declarations)) a))) (leaves Disabled a)))
+              → goOn next (cond b (leftByActing m (a ++ rest) (m .action t (take (length (m .declarations)) a))) (answered Disabled (a ++ rest)))
+              ≡ longer rest (goOn next (cond b (leftByActing m a (m .action t (take (length (m .declarations)) a))) (answered Disabled a)))
           go true = acting-longer (m .action t (take (length (m .declarations)) a))
           go false = refl
 
-      fired-longer : (t : ℕ) → result next (fired m t (a ++ rest)) ≡ longer rest (result next (fired m t a))
+      fired-longer : (t : ℕ) → goOn next (fired m t (a ++ rest)) ≡ longer rest (goOn next (fired m t a))
       unfolding fired
       fired-longer t =
           let long : ltb (length (a ++ rest)) (length (m .declarations)) ≡ false =
@@ -87,7 +84,7 @@ module _ (m : Meaning) (complete : Complete m) (rest : List ℤ) where
 pub replay-longer : (m : Meaning) → Complete m → (ss : List ℤ) (ts : List ℕ) (short long : List ℤ) → length short ≡ length (m .declarations)
     → length (m .declarations) ≤ length long
     → replay m ss ts long ≡ longer (drop (length (m .declarations)) long) (replay m ss ts short)
-unfolding replay begun goOn longer
+unfolding replay begun goOn isFired longer
 replay-longer m complete ss ts short long h l =
     let a : ltb (length long) (length (m .declarations)) ≡ false = le-ltb _ _ l in
     let b : ltb (length short) (length (m .declarations)) ≡ false =
@@ -95,9 +92,9 @@ replay-longer m complete ss ts short long h l =
     rw (a, b) (go (not (eqb (length ss) (m .states))))
   where
     go : (b : Bool)
-        → result (λ x. refire m ts x) (cond (false || b) (leaves Disabled long) (leftBySettling long (m .propagate ss)))
+        → goOn (λ x. refire m ts x) (cond (false || b) (answered Disabled long) (leftBySettling long (m .propagate ss)))
         ≡ longer (drop (length (m .declarations)) long)
-        (result (λ x. refire m ts x) (cond (false || b) (leaves Disabled short) (leftBySettling short (m .propagate ss))))
+        (goOn (λ x. refire m ts x) (cond (false || b) (answered Disabled short) (leftBySettling short (m .propagate ss))))
     go true = refl
     go false =
         settling-longer m complete (drop (length (m .declarations)) long) (λ x. refire m ts x)

@@ -1,78 +1,101 @@
--- What the calls are made of, over the meaning of an accepted model. 01: "Every call goes 1 to 8, 9, 10, 11, 12, 20, 21,
--- 22, 23 up, skipping those foreign to it".
-use mathlib.Core.Bool.{Bool, true, false, cond, not, _&&_}
-use mathlib.Core.List.{List, [], _∷_, _++_, map}
+-- Start, fire and undo over the meaning of an accepted model and a run. 01: "Every call goes 1 to 8, 9, 10, 11, 12, 20, 21, 22, 23 up,
+-- skipping those foreign to it". "A refusal answers its number alone; values, record, n and marks keep their content."
+use mathlib.Core.Bool.{Bool, true, false, cond, not}
+use mathlib.Core.List.{List, [], _∷_, map}
 use mathlib.Core.Option.{Option, some, none}
-use Prim.Native.Nat.{ℕ, zero, suc}
-use lib.Dec.{leb, ltb}
-use lib.IntN.{ℤ, pos}
-use lib.Signed.{leZ}
-use lib.ListN.{length, getD, take, drop}
-use Rattle.evaluation.specs.declared.Evaluation.{Evaluation}
-use Rattle.evaluation.specs.declared.Evaluation.the-variants.{Unknown, Failed, Value}
-use Rattle.evaluation.specs.Numbers.{eqZ, boolean}
-use Rattle.model.specs.Trees.{Variable}
-use Rattle.engine.specs.declared.Firing.{Firing}
-use Rattle.engine.specs.declared.Firing.the-variants.{Disabled, GuardFailed, ActionFault, AssertionFault, Fired}
-use Rattle.interpreter.specs.declared.Fault.the-variants.{Failure}
+use Prim.Native.Nat.{ℕ, suc, _-_}
+use lib.Dec.{eqb, ltb}
+use lib.IntN.{ℤ}
+use lib.ListN.{length, take, set}
 use Rattle.interpreter.specs.Instructions.{numberOf}
-use Rattle.interpreter.specs.Instructions.Place.{guard, action, assertion}
-use Rattle.engine.specs.Meanings.{Meaning}
-use Rattle.engine.specs.Firing.{Left, fired, begun}
-use Rattle.steps.specs.Runs.{Run, Answer, Done, answered}
-use Rattle.steps.specs.Runs.Answer.{refused, rounds, done, number}
+use Rattle.interpreter.specs.Instructions.Place.{action, assertion}
+use Rattle.semantics.specs.declared.Firing.{Firing}
+use Rattle.semantics.specs.declared.Firing.the-variants.{Disabled, GuardFailed, ActionFault, AssertionFault, Fired}
+use Rattle.semantics.specs.Meanings.{Meaning}
+use Rattle.semantics.specs.Firing.{Left, fired, begun}
+use Rattle.standing.specs.Runs.{Run, Answer, Done, answered, withValues, withHistory, withCount}
+use Rattle.standing.specs.Runs.Answer.{refused, rounds, done}
+use Rattle.standing.specs.Holding.{tooShort, holds}
+use Rattle.steps.specs.declared.Move.{Move}
+use Rattle.steps.specs.declared.Move.the-variants.{Start, Fire, Undo}
 
--- 9 "values slice under S+F"
-abbrev pub tooShort : Meaning → List ℤ → Bool
-tooShort m values = ltb (length values) (length (m .declarations))
-
--- 20, the part of the values: the first variable whose value is outside its ends, lowest first, counted from x
-unfoldable pub firstOutside : List Variable → List ℤ → ℕ → Option ℕ
-firstOutside [] values x = none
-firstOutside (v ∷ vs) [] x = some x
-firstOutside (v ∷ vs) (c ∷ cs) x = cond (leZ (v .low) c && leZ c (v .high)) (firstOutside vs cs (suc x)) (some x)
-
-unfoldable pub isNone : Option ℕ → Bool
-isNone none = true
-isNone (some x) = false
-
--- 20, the part of the history: "n above the record's length, one of the first n entries T or above"
-unfoldable pub allBelow : ℕ → List ℕ → Bool
-allBelow t [] = true
-allBelow t (k ∷ ks) = ltb k t && allBelow t ks
-
-abbrev pub historyHolds : ℕ → ℕ → List ℕ → Bool
-historyHolds t n history = leb n (length history) && allBelow t (take n history)
-
--- 20 as a whole
-abbrev pub holds : Meaning → Run → Bool
-holds m r = historyHolds (m .transitions) (r .count) (r .history) && isNone (firstOutside (m .declarations) (r .values) 0)
-
--- 23 to 30, or the round count
+-- 23, 24 "guard false, guard failed", 25 to 30, or the round count
 unfoldable pub answerOf : Firing → Answer
 answerOf Disabled = refused 23
-answerOf GuardFailed = refused (numberOf guard Failure)
+answerOf GuardFailed = refused 24
 answerOf (ActionFault f) = refused (numberOf action f)
 answerOf (AssertionFault f) = refused (numberOf assertion f)
 answerOf (Fired n) = rounds n
+
+-- fired, not refused
+unfoldable pub isFired : Firing → Bool
+isFired Disabled = false
+isFired GuardFailed = false
+isFired (ActionFault f) = false
+isFired (AssertionFault f) = false
+isFired (Fired n) = true
+
+-- the answer of firing, with the new run if it was fired and the old one if it was refused
+abbrev pub firedInto : Run → Run → Firing → Done Run
+firedInto old new f = answered (answerOf f) (cond (isFired f) new old)
 
 -- the initial values of the states
 abbrev pub initial : Meaning → List ℤ
 initial m = map (λ v. v .first) (take (m .states) (m .declarations))
 
+-- Start: "states initial, then the assertion; n = 0". The history is not lent to it; here it stays.
+abbrev pub startedBy : Run → Left → Done Run
+startedBy r l = firedInto r (withCount 0 (withValues (l .left) r)) (l .answer)
+
+unfoldable pub start : Meaning → Run → Done Run
+start m r = cond (tooShort m (r .values)) (answered (refused 9) r) (startedBy r (begun m (initial m) (r .values)))
+
+-- Fire t: "guard, action, assertion, then t at record place n, n one higher". 11 "transition T or above", 21 "fire with n equal to the
+-- record's length".
+abbrev pub firedBy : ℕ → Run → Left → Done Run
+firedBy t r l =
+    firedInto r (withCount (suc (r .count)) (withHistory (set (r .history) (r .count) t) (withValues (l .left) r))) (l .answer)
+
+unfoldable pub fire : Meaning → ℕ → Run → Done Run
+fire m t r =
+    cond (tooShort m (r .values)) (answered (refused 9) r)
+    (cond (not (ltb t (m .transitions))) (answered (refused 11) r)
+    (cond (not (holds m r)) (answered (refused 20) r)
+    (cond (eqb (r .count) (length (r .history))) (answered (refused 21) r)
+    (firedBy t r (fired m t (r .values))))))
+
 -- what follows on the values left, unless firing is refused
-unfoldable pub goOn : (List ℤ → Option (List ℤ)) → Left → Firing → Option (List ℤ)
-goOn next l Disabled = none
-goOn next l GuardFailed = none
-goOn next l (ActionFault f) = none
-goOn next l (AssertionFault f) = none
-goOn next l (Fired n) = next (l .values)
+unfoldable pub goOn : (List ℤ → Option (List ℤ)) → Left → Option (List ℤ)
+goOn next l = cond (isFired (l .answer)) (next (l .left)) none
 
 -- the values after these transitions, fired one after another; none if one is refused
 unfoldable pub refire : Meaning → List ℕ → List ℤ → Option (List ℤ)
 refire m [] values = some values
-refire m (t ∷ ts) values = goOn (λ vs. refire m ts vs) (fired m t values) (fired m t values .answer)
+refire m (t ∷ ts) values = goOn (λ vs. refire m ts vs) (fired m t values)
 
 -- the values after starting from these states and firing these transitions
 unfoldable pub replay : Meaning → List ℤ → List ℕ → List ℤ → Option (List ℤ)
-replay m ss ts values = goOn (λ vs. refire m ts vs) (begun m ss values) (begun m ss values .answer)
+replay m ss ts values = goOn (λ vs. refire m ts vs) (begun m ss values)
+
+-- Undo (01: take back): "values become those of start and the first n − 1 recorded transitions fired again; n one lower, the
+-- record's bytes stay". 22 "take back with n = 0", 31 "start is refused, or the first n − 1 entries can't be fired again".
+unfoldable pub undoneBy : Run → Option (List ℤ) → Done Run
+undoneBy r none = answered (refused 31) r
+undoneBy r (some values) = answered done (withCount (r .count - 1) (withValues values r))
+
+unfoldable pub undo : Meaning → Run → Done Run
+undo m r =
+    cond (tooShort m (r .values)) (answered (refused 9) r)
+    (cond (not (holds m r)) (answered (refused 20) r)
+    (cond (eqb (r .count) 0) (answered (refused 22) r)
+    (undoneBy r (replay m (initial m) (take (r .count - 1) (r .history)) (r .values)))))
+
+-- start, fire or undo
+unfoldable pub stepOn : Meaning → Move → Run → Done Run
+stepOn m Start r = start m r
+stepOn m (Fire t) r = fire m t r
+stepOn m Undo r = undo m r
+
+-- the answer of a call, with the values that it leaves
+abbrev pub valuesOf : Done Run → Done (List ℤ)
+valuesOf d = answered (d .answer) (d .left .values)

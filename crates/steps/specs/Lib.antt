@@ -1,5 +1,6 @@
--- Definitions of crate `steps`, in document 01's order.
-pub mod Runs
+-- Definitions of crate `steps`.
+-- 01's own:
 pub mod Calls
-pub mod Moves
 pub mod Answers
+-- how the code goes about it:
+pub mod Replays

@@ -1,7 +1,6 @@
 // Start, fire and undo as far as the values go: on a model file.
 
 pub mod moves; // moves.rt: start, fire and undo
-pub mod standing; // standing.rt: does a run hold
 
 use model::Sizes;
 

@@ -1,29 +1,26 @@
 // Start, fire and undo (01: take back), as far as the values go.
 
 ghost use mathlib.Core.Path.{_≡_};
-ghost use mathlib.Core.List.{List, map};
-ghost use mathlib.Core.List.{_++_};
+ghost use mathlib.Core.List.{List};
 ghost use Prim.Native.Nat.{ℕ, _≤_};
-ghost use lib.ListN.{length, take, drop};
-ghost use Rattle.model.specs.Check.{verdict};
-ghost use Rattle.engine.specs.Cells.{Loaded};
-ghost use Rattle.engine.specs.Meanings.{meaningOf};
-ghost use Rattle.steps.specs.Runs.{run, answered};
-ghost use Rattle.steps.specs.Calls as calls;
-ghost use Rattle.steps.specs.Answers.{seen, onFile};
+ghost use lib.ListN.{length, take};
 ghost use Rattle.interpreter.specs.Instructions.{numberOf};
 ghost use Rattle.interpreter.specs.Instructions.Place.{action, assertion};
-ghost use Rattle.steps.specs.Moves.{move, isFired, resultOf, replayedInto};
-ghost use Rattle.steps.specs.declared.Move.the-variants as steps;
+ghost use Rattle.model.specs.Check.{verdict};
+ghost use Rattle.semantics.specs.Firing.{begun};
+ghost use Rattle.engine.specs.Cells.{Loaded};
+ghost use Rattle.standing.specs.Runs.{run, answered};
+ghost use Rattle.steps.specs.Calls as calls;
+ghost use Rattle.steps.specs.Calls.{isFired, initial, stepOn, valuesOf};
+ghost use Rattle.steps.specs.Replays.{resultOf, replayedOver};
+ghost use Rattle.steps.specs.Answers.{seen, onFile, OnLoaded};
 use super::Answer;
 use super::Move;
-use super::standing;
-use engine::Firing;
+use decoding::Prepared;
 use engine::transitions;
 use interpreter::Fault;
 use model::Model;
-use model::Prepared;
-use model::decode;
+use semantics::Firing;
 
 // The numbers of an action's faults.
 fn action_number(fault: Fault) -> u8
@@ -73,25 +70,51 @@ fn is_fired(firing: Firing) -> bool
     }
 }
 
+// Begins from the initial states.
+fn begin(
+    loaded: Model,
+    kinds: &[u8],
+    parameters: &[i32],
+    variables: &[[i32; 3]],
+    nexts: &[u16],
+    guards: &[u16],
+    values: &mut [i32],
+) -> Firing
+    requires { ⌜ Loaded loaded (now kinds) (now parameters) (now variables) (now nexts) (now guards) ⌝ }
+    ensures { λ r. ⌜ OnLoaded loaded (now (kinds .entry)) (now (parameters .entry)) (now (variables .entry)) (now (nexts .entry)) (now (guards .entry)) (λ m.
+        answered r (now (values .exit)) ≡ begun m (initial m) (now (values .entry))) ⌝ }
+{
+    let mut initial = [0i32; Model::MAX_VARIABLES];
+    let states = loaded.sizes.states;
+    variables::first_values(&variables[..states], &mut initial);
+    transitions::begin(
+        loaded,
+        kinds,
+        parameters,
+        variables,
+        nexts,
+        guards,
+        &initial[..states],
+        values,
+    )
+}
+
 // Fires the first `count` entries of the history again, over these values; stops at one that is refused.
 fn refire(
     loaded: Model,
     kinds: &[u8],
     parameters: &[i32],
-    sorts: &[u8],
-    lows: &[i32],
-    highs: &[i32],
-    firsts: &[i32],
+    variables: &[[i32; 3]],
     nexts: &[u16],
     guards: &[u16],
     history: &[u8],
     count: usize,
     values: &mut [i32],
 ) -> bool
-    requires { ⌜ Loaded loaded (now kinds) (now parameters) (now sorts) (now lows) (now highs) (now firsts) (now nexts) (now guards) ⌝ }
+    requires { ⌜ Loaded loaded (now kinds) (now parameters) (now variables) (now nexts) (now guards) ⌝ }
     requires { ⌜ count ≤ length (now history) ⌝ }
-    ensures { λ r. ⌜ ((d : Loaded loaded (now (kinds .entry)) (now (parameters .entry)) (now (sorts .entry)) (now (lows .entry)) (now (highs .entry)) (now (firsts .entry)) (now (nexts .entry)) (now (guards .entry)))
-        → resultOf r (now (values .exit)) ≡ calls.refire (meaningOf (d .decoded .system)) (take count (now (history .entry))) (now (values .entry))) ⌝ }
+    ensures { λ r. ⌜ OnLoaded loaded (now (kinds .entry)) (now (parameters .entry)) (now (variables .entry)) (now (nexts .entry)) (now (guards .entry)) (λ m.
+        resultOf r (now (values .exit)) ≡ calls.refire m (take count (now (history .entry))) (now (values .entry))) ⌝ }
 {
     let mut i = 0;
     while i < count {
@@ -100,10 +123,7 @@ fn refire(
             loaded,
             kinds,
             parameters,
-            sorts,
-            lows,
-            highs,
-            firsts,
+            variables,
             nexts,
             guards,
             values,
@@ -122,46 +142,26 @@ fn restart(
     loaded: Model,
     kinds: &[u8],
     parameters: &[i32],
-    sorts: &[u8],
-    lows: &[i32],
-    highs: &[i32],
-    firsts: &[i32],
+    variables: &[[i32; 3]],
     nexts: &[u16],
     guards: &[u16],
     history: &[u8],
     count: usize,
     values: &mut [i32],
 ) -> bool
-    requires { ⌜ Loaded loaded (now kinds) (now parameters) (now sorts) (now lows) (now highs) (now firsts) (now nexts) (now guards) ⌝ }
+    requires { ⌜ Loaded loaded (now kinds) (now parameters) (now variables) (now nexts) (now guards) ⌝ }
     requires { ⌜ count ≤ length (now history) ⌝ }
-    ensures { λ r. ⌜ ((d : Loaded loaded (now (kinds .entry)) (now (parameters .entry)) (now (sorts .entry)) (now (lows .entry)) (now (highs .entry)) (now (firsts .entry)) (now (nexts .entry)) (now (guards .entry)))
-        → resultOf r (now (values .exit)) ≡ calls.replay (meaningOf (d .decoded .system)) (calls.initial (meaningOf (d .decoded .system))) (take count (now (history .entry))) (now (values .entry))) ⌝ }
+    ensures { λ r. ⌜ OnLoaded loaded (now (kinds .entry)) (now (parameters .entry)) (now (variables .entry)) (now (nexts .entry)) (now (guards .entry)) (λ m.
+        resultOf r (now (values .exit)) ≡ calls.replay m (initial m) (take count (now (history .entry))) (now (values .entry))) ⌝ }
 {
-    let states = loaded.sizes.states;
-    let begun = transitions::begin(
-        loaded,
-        kinds,
-        parameters,
-        sorts,
-        lows,
-        highs,
-        firsts,
-        nexts,
-        guards,
-        &firsts[..states],
-        values,
-    );
-    if !is_fired(begun) {
+    if !is_fired(begin(loaded, kinds, parameters, variables, nexts, guards, values)) {
         return false;
     }
     refire(
         loaded,
         kinds,
         parameters,
-        sorts,
-        lows,
-        highs,
-        firsts,
+        variables,
         nexts,
         guards,
         history,
@@ -170,103 +170,68 @@ fn restart(
     )
 }
 
-// The first cells become these.
-fn store(from: &[i32], values: &mut [i32])
-    requires { ⌜ length (now from) ≤ length (now values) ⌝ }
-    ensures { λ _. ⌜ now (values .exit) ≡ now (from .entry) ++ drop (length (now (from .entry))) (now (values .entry)) ⌝ }
-{
-    let mut i = 0;
-    while i < from.len() {
-        values[i] = from[i];
-        i += 1;
-    }
-}
-
 // `restart` on cells of its own: the values are replaced only if nothing is refused.
 fn replay(
     loaded: Model,
     kinds: &[u8],
     parameters: &[i32],
-    sorts: &[u8],
-    lows: &[i32],
-    highs: &[i32],
-    firsts: &[i32],
+    variables: &[[i32; 3]],
     nexts: &[u16],
     guards: &[u16],
     history: &[u8],
     count: usize,
     values: &mut [i32],
 ) -> bool
-    requires { ⌜ Loaded loaded (now kinds) (now parameters) (now sorts) (now lows) (now highs) (now firsts) (now nexts) (now guards) ⌝ }
-    requires { ⌜ (count ≤ length (now history)) × (length (now lows) ≤ length (now values)) ⌝ }
-    ensures { λ r. ⌜ ((d : Loaded loaded (now (kinds .entry)) (now (parameters .entry)) (now (sorts .entry)) (now (lows .entry)) (now (highs .entry)) (now (firsts .entry)) (now (nexts .entry)) (now (guards .entry)))
-        → replayedInto r (now (values .entry)) (now (values .exit)) (calls.replay (meaningOf (d .decoded .system)) (calls.initial (meaningOf (d .decoded .system))) (take count (now (history .entry))) (now (values .entry)))) ⌝ }
+    requires { ⌜ Loaded loaded (now kinds) (now parameters) (now variables) (now nexts) (now guards) ⌝ }
+    requires { ⌜ (count ≤ length (now history)) × (length (now variables) ≤ length (now values)) ⌝ }
+    ensures { λ r. ⌜ OnLoaded loaded (now (kinds .entry)) (now (parameters .entry)) (now (variables .entry)) (now (nexts .entry)) (now (guards .entry)) (λ m.
+        answered r (now (values .exit)) ≡ replayedOver (now (values .entry)) (calls.replay m (initial m) (take count (now (history .entry))) (now (values .entry)))) ⌝ }
 {
     let mut copy = [0i32; Model::MAX_VARIABLES];
-    let variables = lows.len();
-    if !restart(
+    let n = variables.len();
+    let replayed = restart(
         loaded,
         kinds,
         parameters,
-        sorts,
-        lows,
-        highs,
-        firsts,
+        variables,
         nexts,
         guards,
         history,
         count,
-        &mut copy[..variables],
-    ) {
-        return false;
+        &mut copy[..n],
+    );
+    if replayed {
+        propagation::store(&copy[..n], values);
     }
-    store(&copy[..variables], values);
-    true
+    replayed
 }
 
+// 9, then the initial states and the assertion.
 fn start(
     loaded: Model,
     kinds: &[u8],
     parameters: &[i32],
-    sorts: &[u8],
-    lows: &[i32],
-    highs: &[i32],
-    firsts: &[i32],
+    variables: &[[i32; 3]],
     nexts: &[u16],
     guards: &[u16],
     values: &mut [i32],
 ) -> Answer
-    requires { ⌜ Loaded loaded (now kinds) (now parameters) (now sorts) (now lows) (now highs) (now firsts) (now nexts) (now guards) ⌝ }
-    ensures { λ r. ⌜ ((d : Loaded loaded (now (kinds .entry)) (now (parameters .entry)) (now (sorts .entry)) (now (lows .entry)) (now (highs .entry)) (now (firsts .entry)) (now (nexts .entry)) (now (guards .entry))) (history : List ℕ) (n : ℕ)
-        → answered (seen r) (now (values .exit)) ≡ move (meaningOf (d .decoded .system)) steps.Start (run (now (values .entry)) history n)) ⌝ }
+    requires { ⌜ Loaded loaded (now kinds) (now parameters) (now variables) (now nexts) (now guards) ⌝ }
+    ensures { λ r. ⌜ OnLoaded loaded (now (kinds .entry)) (now (parameters .entry)) (now (variables .entry)) (now (nexts .entry)) (now (guards .entry)) (λ m.
+        (history : List ℕ) (n : ℕ) → answered (seen r) (now (values .exit)) ≡ valuesOf (calls.start m (run (now (values .entry)) history n))) ⌝ }
 {
-    if values.len() < lows.len() {
+    if values.len() < variables.len() {
         return Answer::Refused(9);
     }
-    let states = loaded.sizes.states;
-    answer_of(transitions::begin(
-        loaded,
-        kinds,
-        parameters,
-        sorts,
-        lows,
-        highs,
-        firsts,
-        nexts,
-        guards,
-        &firsts[..states],
-        values,
-    ))
+    answer_of(begin(loaded, kinds, parameters, variables, nexts, guards, values))
 }
 
+// 9, 11, 20, 21, then guard, action and assertion.
 fn fire(
     loaded: Model,
     kinds: &[u8],
     parameters: &[i32],
-    sorts: &[u8],
-    lows: &[i32],
-    highs: &[i32],
-    firsts: &[i32],
+    variables: &[[i32; 3]],
     nexts: &[u16],
     guards: &[u16],
     values: &mut [i32],
@@ -274,17 +239,17 @@ fn fire(
     n: usize,
     transition: usize,
 ) -> Answer
-    requires { ⌜ Loaded loaded (now kinds) (now parameters) (now sorts) (now lows) (now highs) (now firsts) (now nexts) (now guards) ⌝ }
-    ensures { λ r. ⌜ ((d : Loaded loaded (now (kinds .entry)) (now (parameters .entry)) (now (sorts .entry)) (now (lows .entry)) (now (highs .entry)) (now (firsts .entry)) (now (nexts .entry)) (now (guards .entry)))
-        → answered (seen r) (now (values .exit)) ≡ move (meaningOf (d .decoded .system)) (steps.Fire transition) (run (now (values .entry)) (now (history .entry)) n)) ⌝ }
+    requires { ⌜ Loaded loaded (now kinds) (now parameters) (now variables) (now nexts) (now guards) ⌝ }
+    ensures { λ r. ⌜ OnLoaded loaded (now (kinds .entry)) (now (parameters .entry)) (now (variables .entry)) (now (nexts .entry)) (now (guards .entry)) (λ m.
+        answered (seen r) (now (values .exit)) ≡ valuesOf (calls.fire m transition (run (now (values .entry)) (now (history .entry)) n))) ⌝ }
 {
-    if values.len() < lows.len() {
+    if values.len() < variables.len() {
         return Answer::Refused(9);
     }
     if guards.len() <= transition {
         return Answer::Refused(11);
     }
-    if !standing::holds(guards.len(), lows, highs, values, history, n) {
+    if !standing::holds(guards.len(), variables, values, history, n) {
         return Answer::Refused(20);
     }
     if n == history.len() {
@@ -294,10 +259,7 @@ fn fire(
         loaded,
         kinds,
         parameters,
-        sorts,
-        lows,
-        highs,
-        firsts,
+        variables,
         nexts,
         guards,
         values,
@@ -305,28 +267,26 @@ fn fire(
     ))
 }
 
+// 9, 20, 22, then the history without its last entry, replayed; 31 if that is refused.
 fn undo(
     loaded: Model,
     kinds: &[u8],
     parameters: &[i32],
-    sorts: &[u8],
-    lows: &[i32],
-    highs: &[i32],
-    firsts: &[i32],
+    variables: &[[i32; 3]],
     nexts: &[u16],
     guards: &[u16],
     values: &mut [i32],
     history: &[u8],
     n: usize,
 ) -> Answer
-    requires { ⌜ Loaded loaded (now kinds) (now parameters) (now sorts) (now lows) (now highs) (now firsts) (now nexts) (now guards) ⌝ }
-    ensures { λ r. ⌜ ((d : Loaded loaded (now (kinds .entry)) (now (parameters .entry)) (now (sorts .entry)) (now (lows .entry)) (now (highs .entry)) (now (firsts .entry)) (now (nexts .entry)) (now (guards .entry)))
-        → answered (seen r) (now (values .exit)) ≡ move (meaningOf (d .decoded .system)) steps.Undo (run (now (values .entry)) (now (history .entry)) n)) ⌝ }
+    requires { ⌜ Loaded loaded (now kinds) (now parameters) (now variables) (now nexts) (now guards) ⌝ }
+    ensures { λ r. ⌜ OnLoaded loaded (now (kinds .entry)) (now (parameters .entry)) (now (variables .entry)) (now (nexts .entry)) (now (guards .entry)) (λ m.
+        answered (seen r) (now (values .exit)) ≡ valuesOf (calls.undo m (run (now (values .entry)) (now (history .entry)) n))) ⌝ }
 {
-    if values.len() < lows.len() {
+    if values.len() < variables.len() {
         return Answer::Refused(9);
     }
-    if !standing::holds(guards.len(), lows, highs, values, history, n) {
+    if !standing::holds(guards.len(), variables, values, history, n) {
         return Answer::Refused(20);
     }
     if n == 0 {
@@ -336,10 +296,7 @@ fn undo(
         loaded,
         kinds,
         parameters,
-        sorts,
-        lows,
-        highs,
-        firsts,
+        variables,
         nexts,
         guards,
         history,
@@ -352,14 +309,12 @@ fn undo(
     }
 }
 
+// One of the three, on a decoded model.
 fn dispatch(
     loaded: Model,
     kinds: &[u8],
     parameters: &[i32],
-    sorts: &[u8],
-    lows: &[i32],
-    highs: &[i32],
-    firsts: &[i32],
+    variables: &[[i32; 3]],
     nexts: &[u16],
     guards: &[u16],
     values: &mut [i32],
@@ -367,31 +322,17 @@ fn dispatch(
     n: usize,
     step: Move,
 ) -> Answer
-    requires { ⌜ Loaded loaded (now kinds) (now parameters) (now sorts) (now lows) (now highs) (now firsts) (now nexts) (now guards) ⌝ }
-    ensures { λ r. ⌜ ((d : Loaded loaded (now (kinds .entry)) (now (parameters .entry)) (now (sorts .entry)) (now (lows .entry)) (now (highs .entry)) (now (firsts .entry)) (now (nexts .entry)) (now (guards .entry)))
-        → answered (seen r) (now (values .exit)) ≡ move (meaningOf (d .decoded .system)) step (run (now (values .entry)) (now (history .entry)) n)) ⌝ }
+    requires { ⌜ Loaded loaded (now kinds) (now parameters) (now variables) (now nexts) (now guards) ⌝ }
+    ensures { λ r. ⌜ OnLoaded loaded (now (kinds .entry)) (now (parameters .entry)) (now (variables .entry)) (now (nexts .entry)) (now (guards .entry)) (λ m.
+        answered (seen r) (now (values .exit)) ≡ valuesOf (stepOn m step (run (now (values .entry)) (now (history .entry)) n))) ⌝ }
 {
     match step {
-        Move::Start => start(
-            loaded,
-            kinds,
-            parameters,
-            sorts,
-            lows,
-            highs,
-            firsts,
-            nexts,
-            guards,
-            values,
-        ),
+        Move::Start => start(loaded, kinds, parameters, variables, nexts, guards, values),
         Move::Fire(transition) => fire(
             loaded,
             kinds,
             parameters,
-            sorts,
-            lows,
-            highs,
-            firsts,
+            variables,
             nexts,
             guards,
             values,
@@ -403,10 +344,7 @@ fn dispatch(
             loaded,
             kinds,
             parameters,
-            sorts,
-            lows,
-            highs,
-            firsts,
+            variables,
             nexts,
             guards,
             values,
@@ -419,40 +357,33 @@ fn dispatch(
 // Decodes the model and makes the move.
 pub fn advance(model: &[u8], values: &mut [i32], history: &[u8], n: usize, step: Move) -> Answer
     ensures { λ r. ⌜ answered (seen r) (now (values .exit))
-        ≡ onFile (verdict (now (model .entry))) (λ m. move m step (run (now (values .entry)) (now (history .entry)) n)) (now (values .entry)) ⌝ }
+        ≡ valuesOf (onFile (verdict (now (model .entry))) (λ m. stepOn m step (run (now (values .entry)) (now (history .entry)) n)) (run (now (values .entry)) (now (history .entry)) n)) ⌝ }
 {
     let mut parameters = [0i32; Model::MAX_NODES];
     let mut sorts = [0u8; Model::MAX_VARIABLES];
-    let mut lows = [0i32; Model::MAX_VARIABLES];
-    let mut highs = [0i32; Model::MAX_VARIABLES];
-    let mut firsts = [0i32; Model::MAX_VARIABLES];
+    let mut variables = [[0i32; 3]; Model::MAX_VARIABLES];
     let mut nexts = [0u16; Model::MAX_NODES];
     let mut guards = [0u16; Model::MAX_TRANSITIONS];
-    match decode::prepare(
+    match decoding::prepare(
         model,
         &mut parameters,
         &mut sorts,
-        &mut lows,
-        &mut highs,
-        &mut firsts,
+        &mut variables,
         &mut nexts,
         &mut guards,
     ) {
         Prepared::Refused(number) => Answer::Refused(number),
         Prepared::Ready(loaded) => {
             let nodes = loaded.sizes.nodes;
-            let variables = loaded.sizes.states + loaded.sizes.flows;
-            let count = loaded.sizes.transitions;
+            let count = loaded.sizes.states + loaded.sizes.flows;
+            let transitions = loaded.sizes.transitions;
             dispatch(
                 loaded,
-                decode::kinds_of(model, nodes),
+                decoding::kinds_of(model, nodes),
                 &parameters[..nodes],
-                &sorts[..variables],
-                &lows[..variables],
-                &highs[..variables],
-                &firsts[..variables],
+                &variables[..count],
                 &nexts[..nodes],
-                &guards[..count],
+                &guards[..transitions],
                 values,
                 history,
                 n,

@@ -14,9 +14,9 @@ use mir.Val.{toZ, ofZ, SFits, Fits}
 use mir.ValLaws.{toZ-ofZ}
 use Rattle.evaluation.specs.Numbers.{eqZ}
 use Rattle.evaluation.proofs.Signed.{read-both, same-bits, equal-bits, other-bits, zero-fits, one-fits, answer-same, difference-widens}
-use Rattle.syntax.specs.declared.Row.{Row}
-use Rattle.syntax.specs.Kinds.{placeOf, resultOf, rowOf}
-use Rattle.syntax.specs.Readings.{isTruth, isTarget, isOfSort, expressionAllowed}
+use Rattle.kinds.specs.declared.Row.{Row}
+use Rattle.kinds.specs.Kinds.{rowIn, expressionPlace}
+use Rattle.syntax.specs.Readings.{isTruth, isTarget, isOfSort, standsAt, expressionAllowed}
 
 -- ---- the sign
 
@@ -135,33 +135,31 @@ module _ (k : ℕ) (p : ℤ) where
 
 -- ---- kinds
 
-module _ (k : ℕ) {r : Row} (e : r ≡ rowOf k) where
-  pub row-place : r .place ≡ placeOf k
-  unfolding rowOf
+module _ (rows : List ℕ) (k : ℕ) {r : Row} (e : r ≡ rowIn rows k) where
+  pub row-place : r .place ≡ rowIn rows k .place
   row-place = ap (λ (r : Row). r .place) e
 
-  row-result : r .result ≡ resultOf k
-  unfolding rowOf
+  row-result : r .result ≡ rowIn rows k .result
   row-result = ap (λ (r : Row). r .result) e
 
   module _ (wanted : ℕ) where
-    pub allowed-nowhere : (r .place ≡ 6 → ⊥) → false ≡ expressionAllowed wanted k
+    pub allowed-nowhere : (r .place ≡ expressionPlace → ⊥) → false ≡ expressionAllowed (rowIn rows) wanted k
     unfolding expressionAllowed
-    allowed-nowhere n = rw (ne-eqb (placeOf k) 6 (λ q. n (row-place ∙ q)))
+    allowed-nowhere n = rw (ne-eqb (rowIn rows k .place) expressionPlace (λ q. n (row-place ∙ q)))
 
-    module _ (h : r .place ≡ 6) where
-      here : eqb (placeOf k) 6 ≡ true
-      here = eq-eqb (placeOf k) 6 (sym row-place ∙ h)
+    module _ (h : r .place ≡ expressionPlace) where
+      here : standsAt (rowIn rows) expressionPlace k ≡ true
+      here = eq-eqb (rowIn rows k .place) expressionPlace (sym row-place ∙ h)
 
-      pub allowed-variable : k ≡ 34 → true ≡ expressionAllowed wanted k
+      pub allowed-variable : k ≡ 34 → true ≡ expressionAllowed (rowIn rows) wanted k
       unfolding expressionAllowed
       allowed-variable q = rw (here, eq-eqb k 34 q)
 
       module _ (n : k ≡ 34 → ⊥) where
-        pub allowed-choice : k ≡ 46 → true ≡ expressionAllowed wanted k
+        pub allowed-choice : k ≡ 46 → true ≡ expressionAllowed (rowIn rows) wanted k
         unfolding expressionAllowed
         allowed-choice q = rw (here, ne-eqb k 34 n, eq-eqb k 46 q)
 
-        pub allowed-result : (k ≡ 46 → ⊥) → eqb (r .result) wanted ≡ expressionAllowed wanted k
+        pub allowed-result : (k ≡ 46 → ⊥) → eqb (r .result) wanted ≡ expressionAllowed (rowIn rows) wanted k
         unfolding expressionAllowed
         allowed-result m = rw (here, ne-eqb k 34 n, ne-eqb k 46 m, row-result)

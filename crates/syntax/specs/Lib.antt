@@ -1,3 +1,3 @@
--- Definitions of crate `syntax`, in document 01's order.
-pub mod Kinds
+-- Definitions of crate `syntax`.
+-- 01's own:
 pub mod Readings

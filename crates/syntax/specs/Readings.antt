@@ -1,4 +1,6 @@
 -- The node that is due, with the rules for its kind and its parameter. 01: "4 to 7 are tried in that order".
+-- "A kind byte is looked up in a table of 256 rows": `row` is the row of a kind in the table that is lent; in the check it is
+-- 01's (`rowOf`).
 use mathlib.Core.Bool.{Bool, true, cond, not, _&&_, _||_}
 use mathlib.Core.List.{List}
 use Prim.Native.Nat.{ℕ, zero, suc, _+_, _<_}
@@ -7,10 +9,10 @@ use lib.IntN.{ℤ, pos, natAbs}
 use lib.Signed.{leZ, nonNeg}
 use lib.ListN.{length, getD}
 use Rattle.evaluation.specs.Numbers.{eqZ}
-use Rattle.syntax.specs.declared.Cursor.{Cursor}
 use Rattle.syntax.specs.declared.Reading.{Reading}
 use Rattle.syntax.specs.declared.Reading.the-variants as reading
-use Rattle.syntax.specs.Kinds.{placeOf, resultOf, variablePlace, transitionPlace, instructionPlace, expressionPlace}
+use Rattle.kinds.specs.declared.Row.{Row}
+use Rattle.kinds.specs.Kinds.{variablePlace, transitionPlace, instructionPlace, expressionPlace}
 
 abbrev pub isTruth : ℤ → Bool
 isTruth p = eqZ p (pos 0) || eqZ p (pos 1)
@@ -23,10 +25,14 @@ isTarget from past p = nonNeg p && (leb from (natAbs p) && ltb (natAbs p) past)
 abbrev pub isOfSort : List ℕ → ℕ → ℤ → Bool
 isOfSort sorts wanted p = nonNeg p && (ltb (natAbs p) (length sorts) && eqb (getD sorts (natAbs p) 0) wanted)
 
+-- the kind stands at this place of the table
+abbrev pub standsAt : (ℕ → Row) → ℕ → ℕ → Bool
+standsAt row place k = eqb (row k .place) place
+
 -- 01: "any other node of the wrong type 6"; 34 and 46 have no sort of their own
-unfoldable pub expressionAllowed : ℕ → ℕ → Bool
-expressionAllowed wanted k =
-    eqb (placeOf k) expressionPlace && (eqb k 34 || eqb k 46 || eqb (resultOf k) wanted)
+unfoldable pub expressionAllowed : (ℕ → Row) → ℕ → ℕ → Bool
+expressionAllowed row wanted k =
+    standsAt row expressionPlace k && (eqb k 34 || eqb k 46 || eqb (row k .result) wanted)
 
 -- 01: "A variable of the wrong type is number 7"; "33 Boolean P, 0 or 1"; "Kinds 16, 18 and 35 to 47 have P = 0."
 unfoldable pub expressionFits : List ℕ → ℕ → ℕ → ℤ → Bool
@@ -68,34 +74,35 @@ module _ (ks : List ℕ) (ps : List ℤ) where
   readingAt zero at = reading.Node (kindAt at) (parameterAt at) (record { at = at + 1 })
   readingAt (suc n) at = reading.Refused (suc n)
 
+module _ (row : ℕ → Row) (ks : List ℕ) (ps : List ℤ) where
   -- the nodes that the walk asks for, each with its own rules for 6 and 7
   unfoldable pub expressionRefusal : List ℕ → ℕ → ℕ → ℕ → ℕ
-  expressionRefusal sorts left wanted at = refusalAt (expressionAllowed wanted) (expressionFits sorts wanted) left at
+  expressionRefusal sorts left wanted at = refusalAt ks ps (expressionAllowed row wanted) (expressionFits sorts wanted) left at
 
   unfoldable pub instructionRefusal : ℕ → ℕ → ℕ → ℕ → ℕ
-  instructionRefusal from past left at = refusalAt (λ k. eqb (placeOf k) instructionPlace) (instructionFits from past) left at
+  instructionRefusal from past left at = refusalAt ks ps (standsAt row instructionPlace) (instructionFits from past) left at
 
   -- variables and transitions have no depth, so one level is always left
   unfoldable pub variableRefusal : ℕ → ℕ
-  variableRefusal at = refusalAt (λ k. eqb (placeOf k) variablePlace) (λ k p. eqb k 2 || isTruth p) 1 at
+  variableRefusal at = refusalAt ks ps (standsAt row variablePlace) (λ k p. eqb k 2 || isTruth p) 1 at
 
   unfoldable pub endRefusal : ℕ → ℤ → ℤ → ℕ → ℕ
-  endRefusal place low high at = refusalAt (λ k. eqb (placeOf k) place) (λ k p. leZ low p && leZ p high) 1 at
+  endRefusal place low high at = refusalAt ks ps (standsAt row place) (λ k p. leZ low p && leZ p high) 1 at
 
   unfoldable pub transitionRefusal : ℕ → ℕ → ℕ
-  transitionRefusal events at = refusalAt (λ k. eqb (placeOf k) transitionPlace) (λ k p. isTarget 0 events p) 1 at
+  transitionRefusal events at = refusalAt ks ps (standsAt row transitionPlace) (λ k p. isTarget 0 events p) 1 at
 
   abbrev pub expressionReading : List ℕ → ℕ → ℕ → ℕ → Reading
-  expressionReading sorts left wanted at = readingAt (expressionRefusal sorts left wanted at) at
+  expressionReading sorts left wanted at = readingAt ks ps (expressionRefusal sorts left wanted at) at
 
   abbrev pub instructionReading : ℕ → ℕ → ℕ → ℕ → Reading
-  instructionReading from past left at = readingAt (instructionRefusal from past left at) at
+  instructionReading from past left at = readingAt ks ps (instructionRefusal from past left at) at
 
   abbrev pub variableReading : ℕ → Reading
-  variableReading at = readingAt (variableRefusal at) at
+  variableReading at = readingAt ks ps (variableRefusal at) at
 
   abbrev pub endReading : ℕ → ℤ → ℤ → ℕ → Reading
-  endReading place low high at = readingAt (endRefusal place low high at) at
+  endReading place low high at = readingAt ks ps (endRefusal place low high at) at
 
   abbrev pub transitionReading : ℕ → ℕ → Reading
-  transitionReading events at = readingAt (transitionRefusal events at) at
+  transitionReading events at = readingAt ks ps (transitionRefusal events at) at

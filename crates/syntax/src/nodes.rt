@@ -1,14 +1,12 @@
 // The node that is due, read with the cursor moved on. 4, 5, 6, 7 are tried in this order.
 
 ghost use mathlib.Core.Path.{_≡_};
-ghost use lib.Dec.{eqb};
 ghost use lib.IntN.{natAbs, pos};
 ghost use lib.ListN.{getD};
-ghost use Rattle.syntax.specs.Kinds.{placeOf, table};
-ghost use Rattle.syntax.specs.Readings.{isTruth, isTarget, isOfSort, expressionAllowed, expressionFits, instructionFits, DepthLeft, expressionReading, instructionReading, variableReading, endReading, transitionReading};
+ghost use Rattle.kinds.specs.Kinds.{rowIn};
+ghost use Rattle.syntax.specs.Readings.{isTruth, isTarget, isOfSort, standsAt, expressionAllowed, expressionFits, instructionFits, DepthLeft, expressionReading, instructionReading, variableReading, endReading, transitionReading};
 use super::Cursor;
 use super::Reading;
-use super::kinds;
 
 // The parameter without its sign.
 pub fn magnitude(parameter: i32) -> usize
@@ -21,6 +19,7 @@ pub fn magnitude(parameter: i32) -> usize
     }
 }
 
+// Is the parameter 0 or 1.
 fn is_truth(parameter: i32) -> bool
     ensures { λ r. ⌜ r ≡ isTruth parameter ⌝ }
 {
@@ -46,19 +45,21 @@ fn is_between(parameter: i32, from: usize, past: usize) -> bool
 
 // Does the kind stand at this place of the table.
 fn stands_at(rows: &[u8; 256], kind: u8, place: u8) -> bool
-    ensures { λ r. ⌜ (now (rows .entry) ≡ table → r ≡ eqb (placeOf kind) place) ⌝ }
+    ensures { λ r. ⌜ r ≡ standsAt (rowIn (now (rows .entry))) place kind ⌝ }
 {
     let row = kinds::row_of(rows, kind);
     row.place == place
 }
 
+// May the kind stand where an expression of the wanted sort is due.
 fn expression_allowed(rows: &[u8; 256], wanted: u8, kind: u8) -> bool
-    ensures { λ r. ⌜ (now (rows .entry) ≡ table → r ≡ expressionAllowed wanted kind) ⌝ }
+    ensures { λ r. ⌜ r ≡ expressionAllowed (rowIn (now (rows .entry))) wanted kind ⌝ }
 {
     let row = kinds::row_of(rows, kind);
-    if row.place != 6 {
+    if row.place != kinds::EXPRESSION {
         return false;
     }
+    // A variable has its own sort, an if-then-else the wanted one.
     if kind == 34 {
         return true;
     }
@@ -82,6 +83,7 @@ fn has_sort(sorts: &[u8], wanted: u8, parameter: i32) -> bool
     sorts[number] == wanted
 }
 
+// Does the parameter fit an expression: a number, a Boolean, a variable, any other.
 fn expression_fits(sorts: &[u8], wanted: u8, kind: u8, parameter: i32) -> bool
     ensures { λ r. ⌜ r ≡ expressionFits (now (sorts .entry)) wanted kind parameter ⌝ }
 {
@@ -97,6 +99,7 @@ fn expression_fits(sorts: &[u8], wanted: u8, kind: u8, parameter: i32) -> bool
     parameter == 0
 }
 
+// Does the parameter fit an instruction: an assignment, a block, any other.
 fn instruction_fits(from: usize, past: usize, kind: u8, parameter: i32) -> bool
     ensures { λ r. ⌜ r ≡ instructionFits from past kind parameter ⌝ }
 {
@@ -138,7 +141,7 @@ impl Cursor {
         left: usize,
         wanted: u8,
     ) -> Reading
-        ensures { λ r. ⌜ (now (rows .entry) ≡ table → r ≡ expressionReading (now (kinds .entry)) (now (parameters .entry)) (now (sorts .entry)) left wanted (self .at)) × DepthLeft left r ⌝ }
+        ensures { λ r. ⌜ (r ≡ expressionReading (rowIn (now (rows .entry))) (now (kinds .entry)) (now (parameters .entry)) (now (sorts .entry)) left wanted (self .at)) × DepthLeft left r ⌝ }
     {
         let at = self.at;
         if kinds.len() <= at {
@@ -168,7 +171,7 @@ impl Cursor {
         past: usize,
         left: usize,
     ) -> Reading
-        ensures { λ r. ⌜ (now (rows .entry) ≡ table → r ≡ instructionReading (now (kinds .entry)) (now (parameters .entry)) from past left (self .at)) × DepthLeft left r ⌝ }
+        ensures { λ r. ⌜ (r ≡ instructionReading (rowIn (now (rows .entry))) (now (kinds .entry)) (now (parameters .entry)) from past left (self .at)) × DepthLeft left r ⌝ }
     {
         let at = self.at;
         if kinds.len() <= at {
@@ -178,7 +181,7 @@ impl Cursor {
             return Reading::Refused(5);
         }
         let kind = kinds[at];
-        if !stands_at(rows, kind, 5) {
+        if !stands_at(rows, kind, kinds::INSTRUCTION) {
             return Reading::Refused(6);
         }
         let parameter = parameter_at(parameters, at);
@@ -190,17 +193,18 @@ impl Cursor {
 
     // The first node of a variable.
     pub fn variable_node(self, rows: &[u8; 256], kinds: &[u8], parameters: &[i32]) -> Reading
-        ensures { λ r. ⌜ (now (rows .entry) ≡ table → r ≡ variableReading (now (kinds .entry)) (now (parameters .entry)) (self .at)) ⌝ }
+        ensures { λ r. ⌜ r ≡ variableReading (rowIn (now (rows .entry))) (now (kinds .entry)) (now (parameters .entry)) (self .at) ⌝ }
     {
         let at = self.at;
         if kinds.len() <= at {
             return Reading::Refused(4);
         }
         let kind = kinds[at];
-        if !stands_at(rows, kind, 1) {
+        if !stands_at(rows, kind, kinds::VARIABLE) {
             return Reading::Refused(6);
         }
         let parameter = parameter_at(parameters, at);
+        // Kind 2 is a number's low end, any number; kind 1 a Boolean's first value.
         if kind != 2 {
             if !is_truth(parameter) {
                 return Reading::Refused(7);
@@ -219,7 +223,7 @@ impl Cursor {
         low: i32,
         high: i32,
     ) -> Reading
-        ensures { λ r. ⌜ (now (rows .entry) ≡ table → r ≡ endReading (now (kinds .entry)) (now (parameters .entry)) place low high (self .at)) ⌝ }
+        ensures { λ r. ⌜ r ≡ endReading (rowIn (now (rows .entry))) (now (kinds .entry)) (now (parameters .entry)) place low high (self .at) ⌝ }
     {
         let at = self.at;
         if kinds.len() <= at {
@@ -247,14 +251,14 @@ impl Cursor {
         parameters: &[i32],
         events: usize,
     ) -> Reading
-        ensures { λ r. ⌜ (now (rows .entry) ≡ table → r ≡ transitionReading (now (kinds .entry)) (now (parameters .entry)) events (self .at)) ⌝ }
+        ensures { λ r. ⌜ r ≡ transitionReading (rowIn (now (rows .entry))) (now (kinds .entry)) (now (parameters .entry)) events (self .at) ⌝ }
     {
         let at = self.at;
         if kinds.len() <= at {
             return Reading::Refused(4);
         }
         let kind = kinds[at];
-        if !stands_at(rows, kind, 4) {
+        if !stands_at(rows, kind, kinds::TRANSITION) {
             return Reading::Refused(6);
         }
         let parameter = parameter_at(parameters, at);

@@ -6,10 +6,10 @@ use Rattle.call_cases.proofs.all_lists.Statement.{statement}
 use Rattle.call_cases.proofs.all_lists.Tie as tie
 
 abbrev Inv-loop : tie.InvT-loop
-Inv-loop fd of-twin model₀ twin₀ body₀ tally₀ turns₀ model twin body tally turns = (length model ≡ length model₀) × (length twin ≡ length twin₀) × (length body ≡ length body₀)
+Inv-loop fd of-twin model₀ twin₀ tally₀ turns₀ model twin tally turns = (length model ≡ length model₀) × (length twin ≡ length twin₀)
 
 abbrev μ-loop : tie.MeasureT-loop
-μ-loop fd of-twin model₀ twin₀ body₀ tally₀ turns₀ model twin body tally turns = turns
+μ-loop fd of-twin model₀ twin₀ tally₀ turns₀ model twin tally turns = turns
 
 loop-holds : tie.Need-loop-holds Inv-loop μ-loop
 loop-holds c = search needs
@@ -29,9 +29,6 @@ same-length c = search needs
 same-length-2 : tie.Need-same-length-2 Inv-loop μ-loop
 same-length-2 c = search needs
 
-same-length-3 : tie.Need-same-length-3 Inv-loop μ-loop
-same-length-3 c = search needs
-
 returns : tie.Need-returns Inv-loop μ-loop
 returns c = search needs
 
@@ -44,14 +41,11 @@ loop-less c = search needs
 loop-again : tie.Need-loop-again Inv-loop μ-loop
 loop-again c = search needs
 
+same-length-3 : tie.Need-same-length-3 Inv-loop μ-loop
+same-length-3 c = search needs
+
 same-length-4 : tie.Need-same-length-4 Inv-loop μ-loop
 same-length-4 c = search needs
-
-same-length-5 : tie.Need-same-length-5 Inv-loop μ-loop
-same-length-5 c = search needs
-
-same-length-6 : tie.Need-same-length-6 Inv-loop μ-loop
-same-length-6 c = search needs
 
 returns-2 : tie.Need-returns-2 Inv-loop μ-loop
 returns-2 c = search needs
@@ -68,12 +62,10 @@ all-lists-spec =
     enum-told
     same-length
     same-length-2
-    same-length-3
     returns
     enum-known-next
     loop-less
     loop-again
+    same-length-3
     same-length-4
-    same-length-5
-    same-length-6
     returns-2)

@@ -2,7 +2,6 @@
 use borrow.Author.Needs.{needs}
 use native.Mathlib.Omega.{arith}
 use lib.ListN.{set, length-set}
-use Rattle.model.specs.Check.{verdict}
 use Rattle.capi.proofs.Sizing.{sizes-fit, check-refused, check-short, check-written}
 use Rattle.capi.proofs.gts_check.Statement.{statement}
 use Rattle.capi.proofs.gts_check.Tie as tie
@@ -20,7 +19,7 @@ returns : tie.Need-returns
 returns c =
     let start = c .before .before .before .before .before .before .before .args in
     let called = c .before .before .before .before .check in
-    check-short (start .sizes .now) (called .result) (c .before .before .found .given .0 .0) (c .before .before .found .given .1) (verdict (start .model .now)) (called .ensures) (c .if1 .taken)
+    check-short (start .model .now) (start .sizes .now) (called .result) (called .ensures) (c .before .before .found .given .0 .0) (c .before .before .found .given .1) (c .if1 .taken)
 
 cast-sizes : tie.Need-cast-sizes
 cast-sizes c =
@@ -80,7 +79,7 @@ returns-2 : tie.Need-returns-2
 returns-2 c =
     let start = c .before .before .before .before .before .before .args in
     let called = c .before .before .before .check in
-    check-refused (start .sizes .now) (called .result) (verdict (start .model .now)) (called .ensures) (c .before .number .given .0 .0) (c .before .number .given .1)
+    check-refused (start .model .now) (start .sizes .now) (called .result) (called .ensures) (c .before .number .given .0 .0) (c .before .number .given .1)
 
 same-length : tie.Need-same-length
 same-length c = search needs
@@ -89,7 +88,7 @@ returns-3 : tie.Need-returns-3
 returns-3 c =
     let start = c .before .before .before .before .before .before .before .before .before .before .before .before .args in
     let called = c .before .before .before .before .before .before .before .before .before .check in
-    check-written (start .sizes .now) (called .result) (c .before .before .before .before .before .before .before .found .given .0 .0) (c .before .before .before .before .before .before .before .found .given .1) (verdict (start .model .now)) (called .ensures) (c .before .before .before .before .before .if1 .left)
+    check-written (start .model .now) (start .sizes .now) (called .result) (called .ensures) (c .before .before .before .before .before .before .before .found .given .0 .0) (c .before .before .before .before .before .before .before .found .given .1) (c .before .before .before .before .before .if1 .left)
 
 pub gts-check-spec : {M : Type 1} → statement M
 gts-check-spec =

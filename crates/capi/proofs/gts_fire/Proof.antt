@@ -1,29 +1,17 @@
 -- `gts_fire` meets its contract.
 use borrow.Author.Needs.{needs}
-use Rattle.steps.specs.Runs.{answered, run}
-use Rattle.steps.specs.Answers.{seen}
-use Rattle.capi.proofs.Following.{follows}
-use Rattle.capi.specs.Codes.{codedRounds, codeOf, roundsOr}
+use Rattle.capi.proofs.Coding.{fire-coded}
 use Rattle.capi.proofs.gts_fire.Statement.{statement}
 use Rattle.capi.proofs.gts_fire.Tie as tie
 
 fire-requires : tie.Need-fire-requires
 fire-requires c κs = search needs
 
-enum-known-number : tie.Need-enum-known-number
-enum-known-number c = search needs
+rounds-or-requires : tie.Need-rounds-or-requires
+rounds-or-requires c κs = search needs
 
-enum-known-count : tie.Need-enum-known-count
-enum-known-count c = search needs
-
-enum-told : tie.Need-enum-told
-enum-told c = search needs
-
-enum-told-2 : tie.Need-enum-told-2
-enum-told-2 c = search needs
-
-enum-told-3 : tie.Need-enum-told-3
-enum-told-3 c = search needs
+code-of-requires : tie.Need-code-of-requires
+code-of-requires c κs = search needs
 
 same-length : tie.Need-same-length
 same-length c = search needs
@@ -32,86 +20,14 @@ same-length-2 : tie.Need-same-length-2
 same-length-2 c = search needs
 
 returns : tie.Need-returns
-unfolding seen codeOf roundsOr
 returns c =
     let start = c .before .before .before .before .before .before .before .before .before .before .before .before .args in
-    let called = c .before .before .before .before .before .before .fire in
-    follows (codedRounds (start .rounds .now)) (λ a. answered (seen a) (run (called .last .1 .0) (called .last .1 .1 .0) (called .last .1 .1 .1 .0))) (called .ensures .0) (c .before .number .given .1)
-
-same-length-3 : tie.Need-same-length-3
-same-length-3 c = search needs
-
-same-length-4 : tie.Need-same-length-4
-same-length-4 c = search needs
-
-returns-2 : tie.Need-returns-2
-unfolding seen codeOf roundsOr
-returns-2 c =
-    let start = c .before .before .before .before .before .before .before .before .before .before .before .before .args in
-    let called = c .before .before .before .before .before .before .fire in
-    follows (codedRounds (start .rounds .now)) (λ a. answered (seen a) (run (called .last .1 .0) (called .last .1 .1 .0) (called .last .1 .1 .1 .0))) (called .ensures .0) (c .before .count .given .1)
-
-same-length-5 : tie.Need-same-length-5
-same-length-5 c = search needs
-
-same-length-6 : tie.Need-same-length-6
-same-length-6 c = search needs
-
-returns-3 : tie.Need-returns-3
-unfolding seen codeOf roundsOr
-returns-3 c =
-    let start = c .before .before .before .before .before .before .before .before .before .before .before .args in
     let called = c .before .before .before .before .before .fire in
-    follows (codedRounds (start .rounds .now)) (λ a. answered (seen a) (run (called .last .1 .0) (called .last .1 .1 .0) (called .last .1 .1 .1 .0))) (called .ensures .0) (c .enum-told .given .1)
-
-same-length-7 : tie.Need-same-length-7
-same-length-7 c = search needs
-
-same-length-8 : tie.Need-same-length-8
-same-length-8 c = search needs
-
-returns-4 : tie.Need-returns-4
-unfolding seen codeOf roundsOr
-returns-4 c =
-    let start = c .before .before .before .before .before .before .before .before .before .before .before .args in
-    let called = c .before .before .before .before .before .fire in
-    follows (codedRounds (start .rounds .now)) (λ a. answered (seen a) (run (called .last .1 .0) (called .last .1 .1 .0) (called .last .1 .1 .1 .0))) (called .ensures .0) (c .enum-told2 .given .1)
-
-same-length-9 : tie.Need-same-length-9
-same-length-9 c = search needs
-
-same-length-10 : tie.Need-same-length-10
-same-length-10 c = search needs
-
-returns-5 : tie.Need-returns-5
-unfolding seen codeOf roundsOr
-returns-5 c =
-    let start = c .before .before .before .before .before .before .before .before .before .before .before .args in
-    let called = c .before .before .before .before .before .fire in
-    follows (codedRounds (start .rounds .now)) (λ a. answered (seen a) (run (called .last .1 .0) (called .last .1 .1 .0) (called .last .1 .1 .1 .0))) (called .ensures .0) (c .enum-told3 .given .1)
+    fire-coded (start .model .now) (start .rounds .now) (c .code-of .result) (c .before .rounds-or .result) (called .result)
+    (c .code-of .ensures) (c .before .rounds-or .ensures) (start .values .now) (start .history .now) (start .n .now) (start .transition)
+    (called .last .1 .0) (called .last .1 .1 .0) (called .last .1 .1 .1 .0) (called .ensures)
 
 pub gts-fire-spec : {M : Type 1} → statement M
 gts-fire-spec =
     tie.close
-    (tie.spec
-    fire-requires
-    enum-known-number
-    enum-known-count
-    enum-told
-    enum-told-2
-    enum-told-3
-    same-length
-    same-length-2
-    returns
-    same-length-3
-    same-length-4
-    returns-2
-    same-length-5
-    same-length-6
-    returns-3
-    same-length-7
-    same-length-8
-    returns-4
-    same-length-9
-    same-length-10
-    returns-5)
+    (tie.spec fire-requires rounds-or-requires code-of-requires same-length same-length-2 returns)

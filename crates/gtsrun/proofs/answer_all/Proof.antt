@@ -1,4 +1,4 @@
--- The turns fall, and the buffer and everything lent keep their lengths.
+-- The turns fall, and the buffer keeps its length.
 use borrow.Author.Needs.{needs}
 use mathlib.Core.Path.{_≡_}
 use lib.ListN.{length}
@@ -6,11 +6,10 @@ use Rattle.gtsrun.proofs.answer_all.Statement.{statement}
 use Rattle.gtsrun.proofs.answer_all.Tie as tie
 
 abbrev Inv-loop : tie.InvT-loop
-Inv-loop model values₀ history₀ n₀ marks₀ out₀ part₀ line₀ turns₀ values history n marks out part line turns =
-    (length values ≡ length values₀) × (length history ≡ length history₀) × (length marks ≡ length marks₀) × (length out ≡ length out₀) × (4096 ≡ length part)
+Inv-loop file dimensions values₀ history₀ n₀ marks₀ out₀ part₀ line₀ turns₀ values history n marks out part line turns = 4096 ≡ length part
 
 abbrev μ-loop : tie.MeasureT-loop
-μ-loop model values₀ history₀ n₀ marks₀ out₀ part₀ line₀ turns₀ values history n marks out part line turns = turns
+μ-loop file dimensions values₀ history₀ n₀ marks₀ out₀ part₀ line₀ turns₀ values history n marks out part line turns = turns
 
 empty-requires : tie.Need-empty-requires Inv-loop μ-loop
 empty-requires c κs = search needs
@@ -57,18 +56,6 @@ close-requires c κs = search needs
 print-requires : tie.Need-print-requires Inv-loop μ-loop
 print-requires c κs = search needs
 
-same-length : tie.Need-same-length Inv-loop μ-loop
-same-length c = search needs
-
-same-length-2 : tie.Need-same-length-2 Inv-loop μ-loop
-same-length-2 c = search needs
-
-same-length-3 : tie.Need-same-length-3 Inv-loop μ-loop
-same-length-3 c = search needs
-
-same-length-4 : tie.Need-same-length-4 Inv-loop μ-loop
-same-length-4 c = search needs
-
 returns : tie.Need-returns Inv-loop μ-loop
 returns c = search needs
 
@@ -93,8 +80,4 @@ answer-all-spec =
     loop-again
     close-requires
     print-requires
-    same-length
-    same-length-2
-    same-length-3
-    same-length-4
     returns)

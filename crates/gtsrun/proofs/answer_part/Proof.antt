@@ -1,50 +1,34 @@
--- The part is read within its length, and everything lent keeps its length.
-use borrow.Author.Needs.{needs}
-use mathlib.Core.Path.{_≡_}
-use Prim.Native.Nat.{_-_, _≤_}
+-- Each turn takes some bytes of the part.
+use Prim.Native.Nat.{_-_}
+use native.Mathlib.Omega.{arith}
 use lib.ListN.{length}
+use Rattle.dialogue.proofs.Scanning.{line-taken}
+use borrow.Author.Needs.{needs}
 use Rattle.gtsrun.proofs.answer_part.Statement.{statement}
 use Rattle.gtsrun.proofs.answer_part.Tie as tie
 
 abbrev Inv-loop : tie.InvT-loop
-Inv-loop part model values₀ history₀ n₀ marks₀ out₀ line₀ i₀ values history n marks out line i =
-    (length values ≡ length values₀) × (length history ≡ length history₀) × (length marks ≡ length marks₀) × (length out ≡ length out₀) × (i ≤ length part)
+Inv-loop part file dimensions values₀ history₀ n₀ marks₀ out₀ line₀ at₀ values history n marks out line at = Unit {0}
 
 abbrev μ-loop : tie.MeasureT-loop
-μ-loop part model values₀ history₀ n₀ marks₀ out₀ line₀ i₀ values history n marks out line i = length part - i
+μ-loop part file dimensions values₀ history₀ n₀ marks₀ out₀ line₀ at₀ values history n marks out line at = length part - at
 
 loop-holds : tie.Need-loop-holds Inv-loop μ-loop
 loop-holds c = search needs
 
-shared-slice-read-step : tie.Need-shared-slice-read-step Inv-loop μ-loop
-shared-slice-read-step c = search needs
-
-step-requires : tie.Need-step-requires Inv-loop μ-loop
-step-requires c κs = search needs
+take-line-requires : tie.Need-take-line-requires Inv-loop μ-loop
+take-line-requires c κs = search needs
 
 print-requires : tie.Need-print-requires Inv-loop μ-loop
 print-requires c κs = search needs
 
-add-i : tie.Need-add-i Inv-loop μ-loop
-add-i c = search needs
-
 loop-less : tie.Need-loop-less Inv-loop μ-loop
-loop-less c = search needs
+loop-less c =
+    let at = c .before .before .before .before .before .before .before .before .before .before .loop .at in
+    omega (arith, c .before .before .before .before .before .before .before .before .before .loop-test .taken, c .before .before .before .take-line .ensures .0, line-taken (c .before .before .before .before .before .before .before .before .before .before .before .before .args .part .now) at (c .before .before .before .before .before .before .before .before .before .loop-test .taken))
 
 loop-again : tie.Need-loop-again Inv-loop μ-loop
 loop-again c = search needs
-
-same-length : tie.Need-same-length Inv-loop μ-loop
-same-length c = search needs
-
-same-length-2 : tie.Need-same-length-2 Inv-loop μ-loop
-same-length-2 c = search needs
-
-same-length-3 : tie.Need-same-length-3 Inv-loop μ-loop
-same-length-3 c = search needs
-
-same-length-4 : tie.Need-same-length-4 Inv-loop μ-loop
-same-length-4 c = search needs
 
 returns : tie.Need-returns Inv-loop μ-loop
 returns c = search needs
@@ -56,14 +40,8 @@ answer-part-spec =
     Inv-loop
     μ-loop
     loop-holds
-    shared-slice-read-step
-    step-requires
+    take-line-requires
     print-requires
-    add-i
     loop-less
     loop-again
-    same-length
-    same-length-2
-    same-length-3
-    same-length-4
     returns)

@@ -3,7 +3,7 @@ use borrow.Author.Needs.{needs}
 use mir.Syntax.{w32}
 use lib.IntN.{pos}
 use Rattle.evaluation.proofs.Signed.{one-fits, equal-bits, other-bits}
-use Rattle.inspection.specs.Looks.{markOf}
+use Rattle.inspection.specs.Queries.{markOf}
 use Rattle.inspection.proofs.mark_of.Statement.{statement}
 use Rattle.inspection.proofs.mark_of.Tie as tie
 

@@ -6,10 +6,10 @@ use Rattle.program_cases.proofs.all_cases.Statement.{statement}
 use Rattle.program_cases.proofs.all_cases.Tie as tie
 
 abbrev Inv-loop : tie.InvT-loop
-Inv-loop fd body₀ tally₀ turns₀ body tally turns = length body ≡ length body₀
+Inv-loop fd body₀ file₀ tally₀ turns₀ body file tally turns = length body ≡ length body₀
 
 abbrev μ-loop : tie.MeasureT-loop
-μ-loop fd body₀ tally₀ turns₀ body tally turns = turns
+μ-loop fd body₀ file₀ tally₀ turns₀ body file tally turns = turns
 
 loop-holds : tie.Need-loop-holds Inv-loop μ-loop
 loop-holds c = search needs

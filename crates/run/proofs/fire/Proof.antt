@@ -5,10 +5,10 @@ use borrow.Author.Needs.{needs}
 use Prim.Native.Nat.{_<_}
 use lib.ListN.{length}
 use Rattle.model.specs.Check.{verdict}
-use Rattle.steps.specs.Runs.{run}
+use Rattle.standing.specs.Runs.{run}
 use Rattle.steps.specs.Answers.{seen}
 use Rattle.run.proofs.Following.{fire-counted, fire-kept}
-use Rattle.run.proofs.Bounds.{fire-bounded, fire-fits}
+use Rattle.run.proofs.Promised.{fire-promised, fire-allowed}
 use Rattle.run.proofs.fire.Statement.{statement}
 use Rattle.run.proofs.fire.Tie as tie
 
@@ -18,8 +18,9 @@ unfolding seen
 fits c =
     let start = c .before .before .before .before .before .before .before .before .before .args in
     let called = c .before .before .before .advance in
-    fire-fits (start .model .now) (c .before .before .before .before .before .before .before .before .shared-slice-known .given) (start .values .now) (start .history .now) (start .n .now) (start .values .now)
-    (called .last .1 .0) (seen (called .result)) (start .transition) (c .enum-told .given .0 .0) (ap seen (c .enum-told .given .1)) (called .ensures)
+    fire-allowed (start .model .now) (c .before .before .before .before .before .before .before .before .shared-slice-known .given)
+    (start .values .now) (called .last .1 .0) (start .history .now) (start .n .now) (start .transition) (seen (called .result))
+    (c .enum-told .given .0 .0) (ap seen (c .enum-told .given .1)) (called .ensures)
 
 advance-requires : tie.Need-advance-requires
 advance-requires c κs = search needs
@@ -31,7 +32,7 @@ cast-history : tie.Need-cast-history
 cast-history c = omega (arith, fits c .0)
 
 slice-write-history : tie.Need-slice-write-history
-slice-write-history c = fits c .1
+slice-write-history c = omega (arith, fits c .1)
 
 add-n : tie.Need-add-n
 add-n c = omega (arith, fits c .1, c .before .before .before .before .before .before .before .before .before .good)
@@ -45,12 +46,11 @@ same-length-2 c = search needs
 returns : tie.Need-returns
 returns c =
     let start = c .before .before .before .before .before .before .before .before .before .args in
-    let called = c .before .before .before .advance in (
-      fire-counted (verdict (start .model .now)) (start .values .now) (called .last .1 .0) (start .history .now) (start .n .now) (called .result)
-          (start .transition) (called .ensures) (c .enum-told .given .0 .0) (c .enum-told .given .1),
-      fire-bounded (start .model .now) (c .before .before .before .before .before .before .before .before .shared-slice-known .given) (start .transition) (run (start .values .now) (start .history .now) (start .n .now))
-          (start .values .now) (called .last .1 .0) (seen (called .result)) (called .ensures),
-    )
+    let called = c .before .before .before .advance in
+    fire-promised (start .model .now) (c .before .before .before .before .before .before .before .before .shared-slice-known .given)
+    (run (start .values .now) (start .history .now) (start .n .now)) (start .transition) (called .result) _
+    (fire-counted (verdict (start .model .now)) (start .values .now) (called .last .1 .0) (start .history .now) (start .n .now) (called .result)
+    (start .transition) (called .ensures) (c .enum-told .given .0 .0) (c .enum-told .given .1))
 
 same-length-3 : tie.Need-same-length-3
 same-length-3 c = search needs
@@ -61,12 +61,11 @@ same-length-4 c = search needs
 returns-2 : tie.Need-returns-2
 returns-2 c =
     let start = c .before .before .before .before .before .before .before .before .args in
-    let called = c .before .before .advance in (
-      fire-kept (verdict (start .model .now)) (start .values .now) (called .last .1 .0) (start .history .now) (start .n .now) (called .result)
-          (start .transition) (called .ensures) (c .match .keys2),
-      fire-bounded (start .model .now) (c .before .before .before .before .before .before .before .shared-slice-known .given) (start .transition) (run (start .values .now) (start .history .now) (start .n .now))
-          (start .values .now) (called .last .1 .0) (seen (called .result)) (called .ensures),
-    )
+    let called = c .before .before .advance in
+    fire-promised (start .model .now) (c .before .before .before .before .before .before .before .shared-slice-known .given)
+    (run (start .values .now) (start .history .now) (start .n .now)) (start .transition) (called .result) _
+    (fire-kept (verdict (start .model .now)) (start .values .now) (called .last .1 .0) (start .history .now) (start .n .now) (called .result)
+    (start .transition) (called .ensures) (c .match .keys2))
 
 pub fire-spec : {M : Type 1} → statement M
 fire-spec =

@@ -1,6 +1,6 @@
 -- Marks, by looking at the decoded model.
 use borrow.Author.Needs.{needs}
-use Rattle.inspection.specs.Looks.{look}
+use Rattle.inspection.specs.Queries.{queryOn}
 use Rattle.run.proofs.marks.Statement.{statement}
 use Rattle.run.proofs.marks.Tie as tie
 
@@ -11,7 +11,7 @@ same-length : tie.Need-same-length
 same-length c = search needs
 
 returns : tie.Need-returns
-unfolding look
+unfolding queryOn
 returns c = c .before .before .inspect .ensures
 
 pub marks-spec : {M : Type 1} → statement M

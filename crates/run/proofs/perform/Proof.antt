@@ -1,9 +1,13 @@
 -- `perform` meets its contract: each call from what its function ensures.
+use mathlib.Core.Path.{ap}
 use borrow.Author.Needs.{needs}
-use Rattle.model.specs.Check.{verdict}
-use Rattle.steps.specs.Runs.{run, store}
+use Rattle.standing.specs.Runs.{run, store}
 use Rattle.steps.specs.Answers.{seen}
-use Rattle.run.proofs.Performing.{check-refused, check-accepted, start-performed, fire-performed, undo-performed, marks-performed, value-performed}
+use Rattle.steps.specs.declared.Answer.the-variants.{Refused, Sizes}
+use Rattle.run.specs.Promises.{seenCheck}
+use Rattle.run.specs.declared.Call.the-variants.{Start, Fire, Undo, Marks, Value}
+use Rattle.run.proofs.Reached.{calls-reached}
+use Rattle.run.proofs.Promised.{performed, checked}
 use Rattle.run.proofs.perform.Statement.{statement}
 use Rattle.run.proofs.perform.Tie as tie
 
@@ -50,20 +54,26 @@ value-requires : tie.Need-value-requires
 value-requires c κs = search needs
 
 returns : tie.Need-returns
-unfolding seen
+unfolding seen seenCheck
 returns c =
     let start = c .before .before .before .before .before .before .before .before .before .args in
+    let m = start .model .now in
+    let bytes = c .before .before .before .before .before .before .before .before .shared-slice-known .given in
     let lent = store (run (start .values .now) (start .history .now) (start .n .now)) (start .held .now) in
     let called = c .before .before .before .check in
-    check-refused (start .call) lent (verdict (start .model .now)) (called .result) (called .ensures) (c .before .number .given .0 .0) (c .before .number .given .1) (c .before .before .before .before .enum-told .given .1)
+    checked m bytes (start .call) lent (called .result) (Refused (c .before .number .given .0 .0)) (c .before .before .before .before .enum-told .given .1)
+    (called .ensures) (ap seenCheck (c .before .number .given .1))
 
 returns-2 : tie.Need-returns-2
-unfolding seen
+unfolding seen seenCheck
 returns-2 c =
     let start = c .before .before .before .before .before .before .before .before .before .args in
+    let m = start .model .now in
+    let bytes = c .before .before .before .before .before .before .before .before .shared-slice-known .given in
     let lent = store (run (start .values .now) (start .history .now) (start .n .now)) (start .held .now) in
     let called = c .before .before .before .check in
-    check-accepted (start .call) lent (verdict (start .model .now)) (called .result) (called .ensures) (c .before .sizes .given .0 .0) (c .before .sizes .given .1) (c .before .before .before .before .enum-told .given .1)
+    checked m bytes (start .call) lent (called .result) (Sizes (c .before .sizes .given .0 .0)) (c .before .before .before .before .enum-told .given .1)
+    (called .ensures) (ap seenCheck (c .before .sizes .given .1))
 
 same-length : tie.Need-same-length
 same-length c = search needs
@@ -71,10 +81,13 @@ same-length c = search needs
 returns-3 : tie.Need-returns-3
 returns-3 c =
     let start = c .before .before .before .before .before .before .before .before .before .args in
+    let m = start .model .now in
+    let bytes = c .before .before .before .before .before .before .before .before .shared-slice-known .given in
     let lent = store (run (start .values .now) (start .history .now) (start .n .now)) (start .held .now) in
     let called = c .before .start in
-    start-performed (start .call) lent (verdict (start .model .now)) (seen (called .result)) (run (called .last .1 .0) (start .history .now) (called .last .1 .1 .0))
-    (called .ensures .0 (start .history .now)) (c .before .before .before .before .enum-told2 .given .1)
+    performed m bytes (start .call) Start lent (called .result) _ (c .before .before .before .before .enum-told2 .given .1)
+    (calls-reached .start m (start .values .now) (start .history .now) (start .n .now) (start .held .now) (called .result)
+    (called .last .1 .0) (called .last .1 .1 .0) (called .ensures))
 
 same-length-2 : tie.Need-same-length-2
 same-length-2 c = search needs
@@ -85,10 +98,14 @@ same-length-3 c = search needs
 returns-4 : tie.Need-returns-4
 returns-4 c =
     let start = c .before .before .before .before .before .before .before .before .before .before .before .before .before .args in
+    let m = start .model .now in
+    let bytes = c .before .before .before .before .before .before .before .before .before .before .before .before .shared-slice-known .given in
     let lent = store (run (start .values .now) (start .history .now) (start .n .now)) (start .held .now) in
     let called = c .before .before .before .fire in
-    fire-performed (start .call) lent (verdict (start .model .now)) (seen (called .result)) (run (called .last .1 .0) (called .last .1 .1 .0) (called .last .1 .1 .1 .0))
-    (c .before .before .before .before .before .before .before .before .call .given .0 .0) (called .ensures .0) (c .before .before .before .before .before .before .before .before .call .given .1)
+    let transition = c .before .before .before .before .before .before .before .before .call .given .0 .0 in
+    performed m bytes (start .call) (Fire transition) lent (called .result) _ (c .before .before .before .before .before .before .before .before .call .given .1)
+    (calls-reached .fire m (start .values .now) (start .history .now) (start .n .now) transition (start .held .now) (called .result)
+    (called .last .1 .0) (called .last .1 .1 .0) (called .last .1 .1 .1 .0) (called .ensures))
 
 same-length-4 : tie.Need-same-length-4
 same-length-4 c = search needs
@@ -99,10 +116,13 @@ same-length-5 c = search needs
 returns-5 : tie.Need-returns-5
 returns-5 c =
     let start = c .before .before .before .before .before .before .before .before .before .before .args in
+    let m = start .model .now in
+    let bytes = c .before .before .before .before .before .before .before .before .before .shared-slice-known .given in
     let lent = store (run (start .values .now) (start .history .now) (start .n .now)) (start .held .now) in
     let called = c .before .undo in
-    undo-performed (start .call) lent (verdict (start .model .now)) (seen (called .result)) (run (called .last .1 .0) (start .history .now) (called .last .1 .1 .1 .0))
-    (called .ensures) (c .before .before .before .before .before .enum-told3 .given .1)
+    performed m bytes (start .call) Undo lent (called .result) _ (c .before .before .before .before .before .enum-told3 .given .1)
+    (calls-reached .undo m (start .values .now) (start .history .now) (start .n .now) (start .held .now) (called .result)
+    (called .last .1 .0) (called .last .1 .1 .1 .0) (called .ensures))
 
 same-length-6 : tie.Need-same-length-6
 same-length-6 c = search needs
@@ -116,9 +136,13 @@ same-length-8 c = search needs
 returns-6 : tie.Need-returns-6
 returns-6 c =
     let start = c .before .before .before .before .before .before .before .before .before .before .before .before .args in
+    let m = start .model .now in
+    let bytes = c .before .before .before .before .before .before .before .before .before .before .before .shared-slice-known .given in
     let lent = store (run (start .values .now) (start .history .now) (start .n .now)) (start .held .now) in
     let called = c .before .before .marks in
-    marks-performed (start .call) lent (verdict (start .model .now)) (seen (called .result)) (called .last .1 .1 .1 .1 .0) (called .ensures) (c .before .before .before .before .before .before .before .enum-told4 .given .1)
+    performed m bytes (start .call) Marks lent (called .result) _ (c .before .before .before .before .before .before .before .enum-told4 .given .1)
+    (calls-reached .marks m (start .values .now) (start .history .now) (start .n .now) (start .held .now) (called .result)
+    (called .last .1 .1 .1 .1 .0) (called .ensures))
 
 same-length-9 : tie.Need-same-length-9
 same-length-9 c = search needs
@@ -129,9 +153,13 @@ same-length-10 c = search needs
 returns-7 : tie.Need-returns-7
 returns-7 c =
     let start = c .before .before .before .before .before .before .before .before .before .before .args in
+    let m = start .model .now in
+    let bytes = c .before .before .before .before .before .before .before .before .before .shared-slice-known .given in
     let lent = store (run (start .values .now) (start .history .now) (start .n .now)) (start .held .now) in
     let called = c .value in
-    value-performed (start .call) lent (verdict (start .model .now)) (seen (called .result)) (c .before .before .before .before .before .call2 .given .0 .0) (called .ensures) (c .before .before .before .before .before .call2 .given .1)
+    let variable = c .before .before .before .before .before .call2 .given .0 .0 in
+    performed m bytes (start .call) (Value variable) lent (called .result) lent (c .before .before .before .before .before .call2 .given .1)
+    (calls-reached .value m (start .values .now) (start .history .now) (start .n .now) variable (start .held .now) (called .result) (called .ensures))
 
 pub perform-spec : {M : Type 1} → statement M
 perform-spec =

@@ -1,5 +1,5 @@
 -- Pick, by the marks.
-use Rattle.steps.specs.Runs.{run}
+use Rattle.standing.specs.Runs.{run}
 use Rattle.run.proofs.Picking.{picked-refused, picked-done, picked-rounds, picked-number, picked-sizes}
 use borrow.Author.Needs.{needs}
 use Rattle.run.proofs.pick.Statement.{statement}
@@ -33,19 +33,44 @@ enum-told-4 : tie.Need-enum-told-4
 enum-told-4 c = search needs
 
 returns : tie.Need-returns
-returns c = picked-refused (c .before .before .before .before .before .before .before .before .args .model .now) (λ i h. c .before .before .before .before .before .before .before .shared-slice-known .given i .fits) (run (c .before .before .before .before .before .before .before .before .args .values .now) (c .before .before .before .before .before .before .before .before .args .history .now) (c .before .before .before .before .before .before .before .before .args .n)) (c .before .before .before .before .marks .result) _ (c .before .before .before .before .marks .ensures) (c .before .number .given .0 .0) (c .before .number .given .1)
+returns c =
+    let start = c .before .before .before .before .before .before .before .before .args in
+    let called = c .before .before .before .before .marks in
+    picked-refused (start .model .now) (λ i h. c .before .before .before .before .before .before .before .shared-slice-known .given i .fits)
+    (run (start .values .now) (start .history .now) (start .n))
+    (called .result) _ (called .ensures) (c .before .number .given .0 .0) (c .before .number .given .1)
 
 returns-2 : tie.Need-returns-2
-returns-2 c = picked-rounds (c .before .before .before .before .before .before .before .args .model .now) (λ i h. c .before .before .before .before .before .before .shared-slice-known .given i .fits) (run (c .before .before .before .before .before .before .before .args .values .now) (c .before .before .before .before .before .before .before .args .history .now) (c .before .before .before .before .before .before .before .args .n)) (c .before .before .before .marks .result) _ (c .before .before .before .marks .ensures) _ (c .enum-told .given .1)
+returns-2 c =
+    let start = c .before .before .before .before .before .before .before .args in
+    let called = c .before .before .before .marks in
+    picked-rounds (start .model .now) (λ i h. c .before .before .before .before .before .before .shared-slice-known .given i .fits)
+    (run (start .values .now) (start .history .now) (start .n))
+    (called .result) _ (called .ensures) _ (c .enum-told .given .1)
 
 returns-3 : tie.Need-returns-3
-returns-3 c = picked-done (c .before .before .before .before .before .before .before .before .before .args .model .now) (λ i h. c .before .before .before .before .before .before .before .before .shared-slice-known .given i .fits) (run (c .before .before .before .before .before .before .before .before .before .args .values .now) (c .before .before .before .before .before .before .before .before .before .args .history .now) (c .before .before .before .before .before .before .before .before .before .args .n)) (c .before .before .before .before .before .marks .result) _ (c .before .before .before .before .before .marks .ensures) (c .before .before .enum-told2 .given .1) (c .first-fireable .result) (c .first-fireable .ensures)
+returns-3 c =
+    let start = c .before .before .before .before .before .before .before .before .before .args in
+    let called = c .before .before .before .before .before .marks in
+    picked-done (start .model .now) (λ i h. c .before .before .before .before .before .before .before .before .shared-slice-known .given i .fits)
+    (run (start .values .now) (start .history .now) (start .n))
+    (called .result) _ (called .ensures) (c .before .before .enum-told2 .given .1) (c .first-fireable .result) (c .first-fireable .ensures)
 
 returns-4 : tie.Need-returns-4
-returns-4 c = picked-number (c .before .before .before .before .before .before .before .args .model .now) (λ i h. c .before .before .before .before .before .before .shared-slice-known .given i .fits) (run (c .before .before .before .before .before .before .before .args .values .now) (c .before .before .before .before .before .before .before .args .history .now) (c .before .before .before .before .before .before .before .args .n)) (c .before .before .before .marks .result) _ (c .before .before .before .marks .ensures) _ (c .enum-told3 .given .1)
+returns-4 c =
+    let start = c .before .before .before .before .before .before .before .args in
+    let called = c .before .before .before .marks in
+    picked-number (start .model .now) (λ i h. c .before .before .before .before .before .before .shared-slice-known .given i .fits)
+    (run (start .values .now) (start .history .now) (start .n))
+    (called .result) _ (called .ensures) _ (c .enum-told3 .given .1)
 
 returns-5 : tie.Need-returns-5
-returns-5 c = picked-sizes (c .before .before .before .before .before .before .before .args .model .now) (λ i h. c .before .before .before .before .before .before .shared-slice-known .given i .fits) (run (c .before .before .before .before .before .before .before .args .values .now) (c .before .before .before .before .before .before .before .args .history .now) (c .before .before .before .before .before .before .before .args .n)) (c .before .before .before .marks .result) _ (c .before .before .before .marks .ensures) _ (c .enum-told4 .given .1)
+returns-5 c =
+    let start = c .before .before .before .before .before .before .before .args in
+    let called = c .before .before .before .marks in
+    picked-sizes (start .model .now) (λ i h. c .before .before .before .before .before .before .shared-slice-known .given i .fits)
+    (run (start .values .now) (start .history .now) (start .n))
+    (called .result) _ (called .ensures) _ (c .enum-told4 .given .1)
 
 pub pick-spec : {M : Type 1} → statement M
 pick-spec =

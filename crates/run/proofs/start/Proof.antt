@@ -1,11 +1,8 @@
 -- `start` meets its contract.
-use mathlib.Core.List.{[]}
 use borrow.Author.Needs.{needs}
 use Rattle.model.specs.Check.{verdict}
-use Rattle.steps.specs.Runs.{run}
-use Rattle.steps.specs.Answers.{seen}
 use Rattle.run.proofs.Following.{start-counted, start-kept}
-use Rattle.run.proofs.Bounds.{start-bounded}
+use Rattle.run.proofs.Promised.{start-promised}
 use Rattle.run.proofs.start.Statement.{statement}
 use Rattle.run.proofs.start.Tie as tie
 
@@ -24,12 +21,11 @@ same-length c = search needs
 returns : tie.Need-returns
 returns c =
     let start = c .before .before .before .before .before .before .before .args in
-    let called = c .before .before .before .advance in (
-      λ history.
-          start-counted (verdict (start .model .now)) (start .values .now) (called .last .1 .0) history (start .n .now) (called .result) (called .ensures)
-          (c .enum-told .given .0 .0) (c .enum-told .given .1),
-      start-bounded (start .model .now) (c .before .before .before .before .before .before .shared-slice-known .given) (run (start .values .now) [] 0) (start .values .now) (called .last .1 .0) (seen (called .result)) (called .ensures),
-    )
+    let called = c .before .before .before .advance in
+    start-promised (start .model .now) (c .before .before .before .before .before .before .shared-slice-known .given)
+    (start .values .now) (start .n .now) (called .result) (called .last .1 .0) 0 (λ history.
+    start-counted (verdict (start .model .now)) (start .values .now) (called .last .1 .0) history (start .n .now) (called .result) (called .ensures)
+    (c .enum-told .given .0 .0) (c .enum-told .given .1))
 
 same-length-2 : tie.Need-same-length-2
 same-length-2 c = search needs
@@ -37,11 +33,11 @@ same-length-2 c = search needs
 returns-2 : tie.Need-returns-2
 returns-2 c =
     let start = c .before .before .before .before .before .before .args in
-    let called = c .before .before .advance in (
-      λ history.
-          start-kept (verdict (start .model .now)) (start .values .now) (called .last .1 .0) history (start .n .now) (called .result) (called .ensures) (c .match .keys2),
-      start-bounded (start .model .now) (c .before .before .before .before .before .shared-slice-known .given) (run (start .values .now) [] 0) (start .values .now) (called .last .1 .0) (seen (called .result)) (called .ensures),
-    )
+    let called = c .before .before .advance in
+    start-promised (start .model .now) (c .before .before .before .before .before .shared-slice-known .given)
+    (start .values .now) (start .n .now) (called .result) (called .last .1 .0) (start .n .now) (λ history.
+    start-kept (verdict (start .model .now)) (start .values .now) (called .last .1 .0) history (start .n .now) (called .result) (called .ensures)
+    (c .match .keys2))
 
 pub start-spec : {M : Type 1} → statement M
 start-spec =

@@ -5,7 +5,7 @@ use borrow.Author.Needs.{needs}
 use Rattle.model.specs.Check.{verdict}
 use Rattle.steps.specs.Answers.{seen}
 use Rattle.run.proofs.Following.{undo-counted, undo-kept}
-use Rattle.run.proofs.Bounds.{undo-fits}
+use Rattle.run.proofs.Promised.{undo-allowed}
 use Rattle.run.proofs.undo.Statement.{statement}
 use Rattle.run.proofs.undo.Tie as tie
 
@@ -22,8 +22,8 @@ sub-n c =
     let called = c .before .before .before .advance in
     omega (
       arith,
-      undo-fits (start .values .now) (start .history .now) (start .n .now) (start .values .now) (called .last .1 .0) (seen (called .result))
-          (verdict (start .model .now)) (ap seen (c .enum-told .given .1)) (called .ensures),
+      undo-allowed (start .model .now) (start .values .now) (called .last .1 .0) (start .history .now) (start .n .now) (seen (called .result))
+          (ap seen (c .enum-told .given .1)) (called .ensures),
     )
 
 same-length : tie.Need-same-length

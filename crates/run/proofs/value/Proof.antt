@@ -5,18 +5,18 @@ use Prim.Native.Nat.{ℕ}
 use borrow.Author.Needs.{needs}
 use Rattle.model.specs.Check.{Verdict}
 use Rattle.model.specs.Check.Verdict.{refusal, accepted}
-use Rattle.inspection.specs.declared.Look.the-variants.{Value}
-use Rattle.steps.specs.Runs.{Run}
-use Rattle.inspection.specs.Looks as looks
-use Rattle.inspection.specs.Looks.{look}
+use Rattle.inspection.specs.declared.Query.the-variants.{Value}
+use Rattle.standing.specs.Runs.{Run}
+use Rattle.inspection.specs.Queries as queries
+use Rattle.inspection.specs.Queries.{queryOn}
 use Rattle.steps.specs.Answers.{onFile, onFileAnswer}
 use Rattle.run.proofs.value.Statement.{statement}
 use Rattle.run.proofs.value.Tie as tie
 
 -- the answer alone
 answer-alone : (v : Verdict) (x : ℕ) (r : Run) (old : List ℕ)
-    → onFile v (λ m. look m (Value x) r old) old .answer ≡ onFileAnswer v (λ m. looks.value m x r)
-unfolding onFile onFileAnswer look
+    → onFile v (λ m. queryOn m (Value x) r old) old .answer ≡ onFileAnswer v (λ m. queries.value m x r)
+unfolding onFile onFileAnswer queryOn
 answer-alone (refusal n) x r old = refl
 answer-alone (accepted z t) x r old = refl
 

@@ -42,22 +42,22 @@ array-share-prefix-states c =
     let after-act = c .before .before .before in
     let after-store = c .before .before .before .before .before .before in
     let start = c .before .before .before .before .before .before .before .before .before .before .before in
-    new-within (start .pre) (after-store .store .last .1 .0) (after-store .store .ensures) (after-act .act .last .1 .1 .1 .1 .1 .1 .1 .0) (after-act .act .kept .1 .1 .1 .1 .1 .1 .1 .0)
+    new-within (start .pre) (after-store .store .last .1 .0) (after-store .store .ensures) (after-act .act .last .1 .1 .1 .1 .1 .1 .0) (after-act .act .kept .1 .1 .1 .1 .1 .1 .0)
 
 slice-aggregate-enter : tie.Need-slice-aggregate-enter
 slice-aggregate-enter c =
     let after-act = c .before .before .before .before in
     let after-store = c .before .before .before .before .before .before .before in
     let start = c .before .before .before .before .before .before .before .before .before .before .before .before in
-    length-taken (start .pre) (after-store .store .last .1 .0) (after-store .store .ensures) (after-act .act .last .1 .1 .1 .1 .1 .1 .1 .0) (after-act .act .kept .1 .1 .1 .1 .1 .1 .1 .0)
+    length-taken (start .pre) (after-store .store .last .1 .0) (after-store .store .ensures) (after-act .act .last .1 .1 .1 .1 .1 .1 .0) (after-act .act .kept .1 .1 .1 .1 .1 .1 .0)
 
 enter-requires : tie.Need-enter-requires
 enter-requires c κs =
     let after-act = c .before .before .before .before .before in
     let after-store = c .before .before .before .before .before .before .before .before in
     let start = c .before .before .before .before .before .before .before .before .before .before .before .before .before in (
-      propagation-stands (start .pre) (after-store .store .last .1 .0) (after-store .store .ensures) (after-act .act .last .1 .1 .1 .1 .1 .1 .1 .0) (after-act .act .kept .1 .1 .1 .1 .1 .1 .1 .0),
-      room-for-all (start .pre) (after-store .store .last .1 .0) (after-store .store .ensures) (after-act .act .last .1 .1 .1 .1 .1 .1 .1 .0) (after-act .act .kept .1 .1 .1 .1 .1 .1 .1 .0),
+      propagation-stands (start .pre) (after-store .store .last .1 .0) (after-store .store .ensures) (after-act .act .last .1 .1 .1 .1 .1 .1 .0) (after-act .act .kept .1 .1 .1 .1 .1 .1 .0),
+      room-for-all (start .pre) (after-store .store .last .1 .0) (after-store .store .ensures) (after-act .act .last .1 .1 .1 .1 .1 .1 .0) (after-act .act .kept .1 .1 .1 .1 .1 .1 .0),
     )
 
 same-length : tie.Need-same-length
@@ -68,7 +68,7 @@ returns c =
     let after-act = c .before .before .before .before in
     let after-store = c .before .before .before .before .before .before .before in
     λ t.
-    carried-faulty t (after-store .store .last .1 .0) (after-store .store .ensures) (after-act .act .last .1 .1 .1 .1 .1 .1 .1 .0) (after-act .act .kept .1 .1 .1 .1 .1 .1 .1 .0) (after-act .act .result)
+    carried-faulty t (after-store .store .last .1 .0) (after-store .store .ensures) (after-act .act .last .1 .1 .1 .1 .1 .1 .0) (after-act .act .kept .1 .1 .1 .1 .1 .1 .0) (after-act .act .result)
     (after-act .act .ensures (action-stands t (after-store .store .last .1 .0) (after-store .store .ensures))) _ (c .before .fault .given .1)
 
 same-length-2 : tie.Need-same-length-2
@@ -79,8 +79,8 @@ returns-2 c =
     let after-act = c .before .before .before .before .before .before .before in
     let after-store = c .before .before .before .before .before .before .before .before .before .before in
     λ t.
-    carried-clear t (after-store .store .last .1 .0) (after-store .store .ensures) (after-act .act .last .1 .1 .1 .1 .1 .1 .1 .0) (after-act .act .kept .1 .1 .1 .1 .1 .1 .1 .0) (after-act .act .result)
-    (after-act .act .ensures (action-stands t (after-store .store .last .1 .0) (after-store .store .ensures))) (c .before .before .before .before .enum-told .given .1) _ (c .before .enter .ensures (propagation-stands t (after-store .store .last .1 .0) (after-store .store .ensures) (after-act .act .last .1 .1 .1 .1 .1 .1 .1 .0) (after-act .act .kept .1 .1 .1 .1 .1 .1 .1 .0)))
+    carried-clear t (after-store .store .last .1 .0) (after-store .store .ensures) (after-act .act .last .1 .1 .1 .1 .1 .1 .0) (after-act .act .kept .1 .1 .1 .1 .1 .1 .0) (after-act .act .result)
+    (after-act .act .ensures (action-stands t (after-store .store .last .1 .0) (after-store .store .ensures))) (c .before .before .before .before .enum-told .given .1) _ (c .before .enter .ensures (propagation-stands t (after-store .store .last .1 .0) (after-store .store .ensures) (after-act .act .last .1 .1 .1 .1 .1 .1 .0) (after-act .act .kept .1 .1 .1 .1 .1 .1 .0)))
 
 pub carry-out-spec : {M : Type 1} → statement M
 carry-out-spec =

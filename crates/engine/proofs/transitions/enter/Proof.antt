@@ -35,7 +35,7 @@ store-requires : tie.Need-store-requires
 store-requires c κs =
     let after-propagate = c .before .before .before .before .before in
     let start = c .before .before .before .before .before .before .before .before .before in
-    states-fit (start .args .states .now) (start .args .values .now) (start .pre .0) (start .pre .1) (after-propagate .propagate .last .1 .1 .1 .1 .1 .1 .1 .1 .0) (after-propagate .propagate .kept .1 .1 .1 .1 .1 .1 .1 .1 .0)
+    states-fit (start .args .states .now) (start .args .values .now) (start .pre .0) (start .pre .1) (after-propagate .propagate .last .1 .1 .1 .1 .1 .1 .0) (after-propagate .propagate .kept .1 .1 .1 .1 .1 .1 .0)
 
 same-length : tie.Need-same-length
 same-length c = search needs
@@ -45,8 +45,8 @@ returns c =
     let after-propagate = c .before .before .before .before in
     let start = c .before .before .before .before .before .before .before .before in
     λ p.
-    enter-refused (start .args .states .now) (start .args .values .now) p (start .pre .1) (after-propagate .propagate .result) (after-propagate .propagate .last .1 .1 .1 .1 .1 .1 .1 .1 .0)
-    (after-propagate .propagate .ensures (part-stands (start .args .states .now) (start .args .values .now) p (start .pre .1)) .0) _ (c .before .fault .given .1)
+    enter-refused (start .args .states .now) (start .args .values .now) p (start .pre .1) (after-propagate .propagate .result) (after-propagate .propagate .last .1 .1 .1 .1 .1 .1 .0)
+    (after-propagate .propagate .ensures .0 (part-stands (start .args .states .now) (start .args .values .now) p (start .pre .1))) _ (c .before .fault .given .1)
 
 same-length-2 : tie.Need-same-length-2
 same-length-2 c = search needs
@@ -56,8 +56,8 @@ returns-2 c =
     let after-propagate = c .before .before .before .before .before .before .before in
     let start = c .before .before .before .before .before .before .before .before .before .before .before in
     λ p.
-    enter-settled (start .args .states .now) (start .args .values .now) p (start .pre .1) (after-propagate .propagate .result) (after-propagate .propagate .last .1 .1 .1 .1 .1 .1 .1 .1 .0)
-    (after-propagate .propagate .ensures (part-stands (start .args .states .now) (start .args .values .now) p (start .pre .1)) .0) _ (c .before .before .before .before .count .given .1) _ (c .before .store .ensures)
+    enter-settled (start .args .states .now) (start .args .values .now) p (start .pre .1) (after-propagate .propagate .result) (after-propagate .propagate .last .1 .1 .1 .1 .1 .1 .0)
+    (after-propagate .propagate .ensures .0 (part-stands (start .args .states .now) (start .args .values .now) p (start .pre .1))) _ (c .before .before .before .before .count .given .1) _ (c .before .store .ensures)
 
 pub enter-spec : {M : Type 1} → statement M
 enter-spec =

@@ -6,11 +6,11 @@ use Rattle.engine.proofs.transitions.fire.Statement.{statement}
 use Rattle.engine.proofs.transitions.fire.Tie as tie
 
 add-n : tie.Need-add-n
-add-n c = omega (arith, few-variables (c .before .before .before .before .before .pre))
+add-n c = omega (arith, few-variables (c .before .before .before .before .pre))
 
 returns : tie.Need-returns
 returns c =
-    let start = c .before .before .before .before .before .before in
+    let start = c .before .before .before .before .before in
     λ d. fire-short d (start .args .transition) (start .args .values .now) (c .if1 .taken)
 
 slice-reshare-prefix-overwrite : tie.Need-slice-reshare-prefix-overwrite
@@ -18,7 +18,7 @@ slice-reshare-prefix-overwrite c = search needs
 
 slice-aggregate-overwrite : tie.Need-slice-aggregate-overwrite
 slice-aggregate-overwrite c =
-    let start = c .before .before .before .before .before .before .before in
+    let start = c .before .before .before .before .before .before in
     length-values (start .pre) (start .args .transition) (start .args .values .now) (c .before .if1 .left)
 
 slice-aggregate-overwrite-2 : tie.Need-slice-aggregate-overwrite-2
@@ -26,18 +26,18 @@ slice-aggregate-overwrite-2 c = search needs
 
 overwrite-requires : tie.Need-overwrite-requires
 overwrite-requires c κs =
-    let start = c .before .before .before .before .before .before .before .before in
+    let start = c .before .before .before .before .before .before .before in
     values-fit (start .pre) (start .args .transition) (start .args .values .now) (c .before .before .if1 .left)
 
 array-share-prefix-cells : tie.Need-array-share-prefix-cells
 array-share-prefix-cells c =
-    let start = c .before .before .before .before .before .before .before .before .before .before in
+    let start = c .before .before .before .before .before .before .before .before .before in
     held-within (start .pre) (start .args .transition) (start .args .values .now) (c .before .before .before .before .if1 .left) (c .before .overwrite .last .1 .0) (c .before .overwrite .ensures .0)
 
 slice-aggregate-guard : tie.Need-slice-aggregate-guard
 slice-aggregate-guard c =
     let after-overwrite = c .before .before in
-    let start = c .before .before .before .before .before .before .before .before .before .before .before in
+    let start = c .before .before .before .before .before .before .before .before .before .before in
     length-held (start .pre) (start .args .transition) (start .args .values .now) (c .before .before .before .before .before .if1 .left) (after-overwrite .overwrite .last .1 .0) (after-overwrite .overwrite .ensures .0)
 
 guard-requires : tie.Need-guard-requires
@@ -61,7 +61,7 @@ returns-2 c =
     let after-guard = c .before .before .before .before in
     let after-overwrite = c .before .before .before .before .before .before .before in
     let after-if1 = c .before .before .before .before .before .before .before .before .before .before in
-    let start = c .before .before .before .before .before .before .before .before .before .before .before .before .before .before .before .before in
+    let start = c .before .before .before .before .before .before .before .before .before .before .before .before .before .before .before in
     λ d. fire-false d (start .args .transition) (start .args .values .now) (after-if1 .if1 .left) (after-overwrite .overwrite .last .1 .0) (after-overwrite .overwrite .ensures .0) (after-overwrite .overwrite .ensures .1)
     (after-guard .guard .result) (after-guard .guard .ensures d) (after-v .v .given .0 .0) (c .before .known-told .given .0 .1) (after-v .v .given .1) (c .if2 .taken)
 
@@ -69,14 +69,14 @@ array-share-prefix-cells-2 : tie.Need-array-share-prefix-cells-2
 array-share-prefix-cells-2 c =
     let after-overwrite = c .before .before .before .before .before .before .before in
     let after-if1 = c .before .before .before .before .before .before .before .before .before .before in
-    let start = c .before .before .before .before .before .before .before .before .before .before .before .before .before .before .before .before in
+    let start = c .before .before .before .before .before .before .before .before .before .before .before .before .before .before .before in
     held-within (start .pre) (start .args .transition) (start .args .values .now) (after-if1 .if1 .left) (after-overwrite .overwrite .last .1 .0) (after-overwrite .overwrite .ensures .0)
 
 slice-aggregate-carry-out : tie.Need-slice-aggregate-carry-out
 slice-aggregate-carry-out c =
     let after-overwrite = c .before .before .before .before .before .before .before .before in
     let after-if1 = c .before .before .before .before .before .before .before .before .before .before .before in
-    let start = c .before .before .before .before .before .before .before .before .before .before .before .before .before .before .before .before .before in
+    let start = c .before .before .before .before .before .before .before .before .before .before .before .before .before .before .before .before in
     length-held (start .pre) (start .args .transition) (start .args .values .now) (after-if1 .if1 .left) (after-overwrite .overwrite .last .1 .0) (after-overwrite .overwrite .ensures .0)
 
 action-place-requires : tie.Need-action-place-requires
@@ -86,7 +86,7 @@ action-place-requires c κs =
     let after-guard = c .before .before .before .before .before in
     let after-overwrite = c .before .before .before .before .before .before .before .before in
     let after-if1 = c .before .before .before .before .before .before .before .before .before .before .before in
-    let start = c .before .before .before .before .before .before .before .before .before .before .before .before .before .before .before .before .before in (
+    let start = c .before .before .before .before .before .before .before .before .before .before .before .before .before .before .before .before in (
       fire-within (start .pre) (start .args .transition) (start .args .values .now) (after-if1 .if1 .left) (after-overwrite .overwrite .last .1 .0) (after-overwrite .overwrite .ensures .0) (after-overwrite .overwrite .ensures .1)
           (after-guard .guard .result) (after-guard .guard .ensures (start .pre)) (after-v .v .given .0 .0) (after-known-told .known-told .given .0 .1) (after-v .v .given .1),
       guard-within (start .pre) (start .args .transition) (start .args .values .now) (after-if1 .if1 .left) (after-overwrite .overwrite .last .1 .0) (after-overwrite .overwrite .ensures .0) (after-overwrite .overwrite .ensures .1)
@@ -100,7 +100,7 @@ carry-out-requires c κs =
     let after-guard = c .before .before .before .before .before .before .before in
     let after-overwrite = c .before .before .before .before .before .before .before .before .before .before in
     let after-if1 = c .before .before .before .before .before .before .before .before .before .before .before .before .before in
-    let start = c .before .before .before .before .before .before .before .before .before .before .before .before .before .before .before .before .before .before .before in
+    let start = c .before .before .before .before .before .before .before .before .before .before .before .before .before .before .before .before .before .before in
     fire-stands (start .pre) (start .args .transition) (start .args .values .now) (after-if1 .if1 .left) (after-overwrite .overwrite .last .1 .0) (after-overwrite .overwrite .ensures .0) (after-overwrite .overwrite .ensures .1)
     (after-guard .guard .result) (after-guard .guard .ensures (start .pre)) (after-v .v .given .0 .0) (after-known-told .known-told .given .0 .1) (after-v .v .given .1)
     (c .before .action-place .ensures)
@@ -113,7 +113,7 @@ returns-3 c =
     let after-guard = c .before .before in
     let after-overwrite = c .before .before .before .before .before in
     let after-if1 = c .before .before .before .before .before .before .before .before in
-    let start = c .before .before .before .before .before .before .before .before .before .before .before .before .before .before in
+    let start = c .before .before .before .before .before .before .before .before .before .before .before .before .before in
     λ d. fire-unknown d (start .args .transition) (start .args .values .now) (after-if1 .if1 .left) (after-overwrite .overwrite .last .1 .0) (after-overwrite .overwrite .ensures .0) (after-overwrite .overwrite .ensures .1)
     (after-guard .guard .result) (after-guard .guard .ensures d) (c .enum-told .given .1)
 
@@ -125,7 +125,7 @@ returns-4 c =
     let after-guard = c .before .before in
     let after-overwrite = c .before .before .before .before .before in
     let after-if1 = c .before .before .before .before .before .before .before .before in
-    let start = c .before .before .before .before .before .before .before .before .before .before .before .before .before .before in
+    let start = c .before .before .before .before .before .before .before .before .before .before .before .before .before in
     λ d. fire-failed d (start .args .transition) (start .args .values .now) (after-if1 .if1 .left) (after-overwrite .overwrite .last .1 .0) (after-overwrite .overwrite .ensures .0) (after-overwrite .overwrite .ensures .1)
     (after-guard .guard .result) (after-guard .guard .ensures d) (c .enum-told2 .given .1)
 
@@ -141,7 +141,7 @@ returns-5 c =
     let after-guard = c .before .before .before .before .before .before .before .before .before in
     let after-overwrite = c .before .before .before .before .before .before .before .before .before .before .before .before in
     let after-if1 = c .before .before .before .before .before .before .before .before .before .before .before .before .before .before .before in
-    let start = c .before .before .before .before .before .before .before .before .before .before .before .before .before .before .before .before .before .before .before .before .before in
+    let start = c .before .before .before .before .before .before .before .before .before .before .before .before .before .before .before .before .before .before .before .before in
     λ d.
     fire-carried d (start .args .transition) (start .args .values .now) (after-if1 .if1 .left) (after-overwrite .overwrite .last .1 .0) (after-overwrite .overwrite .ensures .0) (after-overwrite .overwrite .ensures .1)
     (after-guard .guard .result) (after-guard .guard .ensures d) (after-v .v .given .0 .0) (after-known-told .known-told .given .0 .1) (after-v .v .given .1) (after-if2 .if2 .left) _

@@ -1,36 +1,23 @@
 -- A value is within its variable's ends, by two tests.
 use borrow.Author.Needs.{needs}
+use Rattle.variables.specs.Rows.{lowsIn, highsIn}
 use Rattle.interpreter.proofs.Giving.{under-low, from-low}
 use Rattle.interpreter.proofs.instructions.is_within.Statement.{statement}
 use Rattle.interpreter.proofs.instructions.is_within.Tie as tie
 
-mul-if1 : tie.Need-mul-if1
-mul-if1 c = search needs
-
-shared-slice-copy-out-if1 : tie.Need-shared-slice-copy-out-if1
-shared-slice-copy-out-if1 c = search needs
+low-requires : tie.Need-low-requires
+low-requires c κs = search needs
 
 returns : tie.Need-returns
 returns c =
-    under-low (c .before .before .args .lows .now) (c .before .before .args .highs .now) (c .before .before .args .variable) (c .before .before .fits .value) (c .before .if12 .given) (c .if1 .taken)
+    under-low (lowsIn (c .before .before .args .variables .now)) (highsIn (c .before .before .args .variables .now)) (c .before .before .args .variable) (c .before .before .fits .value) (record { sfits = c .before .low .ok }) (c .before .low .ensures) (c .if1 .taken)
 
-mul-result : tie.Need-mul-result
-mul-result c = search needs
-
-shared-slice-copy-out-result : tie.Need-shared-slice-copy-out-result
-shared-slice-copy-out-result c = search needs
+high-requires : tie.Need-high-requires
+high-requires c κs = search needs
 
 returns-2 : tie.Need-returns-2
 returns-2 c =
-    from-low (c .before .before .before .args .lows .now) (c .before .before .before .args .highs .now) (c .before .before .before .args .variable) (c .before .before .before .fits .value) (c .before .before .if12 .given) (c .before .if1 .left) (c .result .given)
+    from-low (lowsIn (c .before .before .before .args .variables .now)) (highsIn (c .before .before .before .args .variables .now)) (c .before .before .before .args .variable) (c .before .before .before .fits .value) (record { sfits = c .before .before .low .ok }) (c .before .before .low .ensures) (c .before .if1 .left) (record { sfits = c .high .ok }) (c .high .ensures)
 
 pub is-within-spec : {M : Type 1} → statement M
-is-within-spec =
-    tie.close
-    (tie.spec
-    mul-if1
-    shared-slice-copy-out-if1
-    returns
-    mul-result
-    shared-slice-copy-out-result
-    returns-2)
+is-within-spec = tie.close (tie.spec low-requires returns high-requires returns-2)

@@ -3,8 +3,8 @@ use native.Mathlib.Omega.{arith}
 use mir.Syntax.{w32}
 use borrow.Author.Needs.{needs}
 use Rattle.evaluation.proofs.Signed.{equal-bits, other-bits, one-fits}
-use Rattle.interpreter.specs.Cells.{valuationOf}
-use Rattle.interpreter.proofs.Evaluating.{expression-within}
+use Rattle.expressions.specs.Cells.{valuationOf}
+use Rattle.expressions.proofs.Evaluating.{expression-within}
 use Rattle.interpreter.proofs.Stepping.{condition-stands, body-within, unknown-tested, failed-tested, true-tested, false-tested}
 use Rattle.interpreter.proofs.instructions.test.Statement.{statement}
 use Rattle.interpreter.proofs.instructions.test.Tie as tie

@@ -52,7 +52,7 @@ slice-aggregate-system c =
 
 system-requires : tie.Need-system-requires
 system-requires c κs =
-    let s = c .before .before .before .before .before .before .before .before in few-variables (read s) (c .before .before .before .before .before .before .before .shared-slice-known .given)
+    let s = c .before .before .before .before .before .before .before .before in (c .before .before .before .rows .ensures, few-variables (read s) (c .before .before .before .before .before .before .before .shared-slice-known .given))
 
 returns : tie.Need-returns
 unfolding rest
@@ -60,7 +60,7 @@ returns c =
     let s = c .before .before .before .before .before .before .before .before .before in
     walked-parts (s .args .model .now) (s .args .sizes)
     (prefix-same (s .args .model .now) (6 + s .args .sizes .nodes) (s .args .sizes .nodes) (rest s) (c .before .before .before .before .before .before .parameters-in .ensures))
-    (c .system .ensures (c .before .before .before .before .rows .ensures))
+    (c .system .ensures)
 
 pub nodes-of-spec : {M : Type 1} → statement M
 nodes-of-spec =

@@ -5,6 +5,7 @@ use borrow.Author.Needs.{needs}
 use borrow.Fn.Kinds.{In}
 use borrow.Fn.PlainCycle.{Measures, is, falls, and}
 use Rattle.model.proofs.Expressions.{expression-refused, expression-operands, condition-refused, first-refused, second-walked, no-operands, conditional-operands, operand-refused, one-operand, two-operands}
+use Rattle.kinds.proofs.Follows.{row-lent}
 use Rattle.model.proofs.Walking.{node-depth}
 use Rattle.model.proofs.walk.conditional.Reads as conditional
 use Rattle.model.proofs.walk.conditional.Kinds as conditional-kinds
@@ -16,8 +17,8 @@ use Rattle.model.proofs.walk.operands.Reads as operands
 use Rattle.model.proofs.walk.operands.Kinds as operands-kinds
 use Rattle.model.proofs.walk.+conditional+expression+operands.Lts-operands as operands-lts
 use Rattle.syntax.proofs.Cursor.expression_node.Reads as expression-node-reads
-use Rattle.syntax.proofs.kinds.operand_sort.Reads as operand-sort-reads
-use Rattle.syntax.proofs.kinds.row_of.Reads as row-of-reads
+use Rattle.kinds.proofs.operand_sort.Reads as operand-sort-reads
+use Rattle.kinds.proofs.row_of.Reads as row-of-reads
 use Rattle.model.proofs.walk.+conditional+expression+operands.{statement}
 use Rattle.model.proofs.walk.+conditional+expression+operands.Tie.{close}
 
@@ -74,7 +75,7 @@ operands-claims t = (
 )
 
 conditional-expression-requires : (t : ℕ) → conditional-lts.Need-expression-requires (conditional-claims t) (conditional-at t) conditional.Post
-conditional-expression-requires t c κs = (omega (arith, (c .before .before .pre .0)), tt)
+conditional-expression-requires t c κs = (omega (arith, (c .before .before .pre .0)), (c .before .before .pre .1))
 
 conditional-enum-known-number : (t : ℕ) → conditional-lts.Need-enum-known-number (conditional-claims t) (conditional-at t) conditional.Post
 conditional-enum-known-number t c = search needs
@@ -83,7 +84,7 @@ conditional-enum-known-second : (t : ℕ) → conditional-lts.Need-enum-known-se
 conditional-enum-known-second t c = search needs
 
 conditional-expression-requires-2 : (t : ℕ) → conditional-lts.Need-expression-requires-2 (conditional-claims t) (conditional-at t) conditional.Post
-conditional-expression-requires-2 t c κs = (omega (arith, (c .before .before .before .before .before .before .pre .0)), tt)
+conditional-expression-requires-2 t c κs = (omega (arith, (c .before .before .before .before .before .before .pre .0)), (c .before .before .before .before .before .before .pre .1))
 
 conditional-enum-known-number-2 : (t : ℕ) → conditional-lts.Need-enum-known-number-2 (conditional-claims t) (conditional-at t) conditional.Post
 conditional-enum-known-number-2 t c = search needs
@@ -92,16 +93,16 @@ conditional-enum-known-third : (t : ℕ) → conditional-lts.Need-enum-known-thi
 conditional-enum-known-third t c = search needs
 
 conditional-expression-requires-3 : (t : ℕ) → conditional-lts.Need-expression-requires-3 (conditional-claims t) (conditional-at t) conditional.Post
-conditional-expression-requires-3 t c κs = (omega (arith, (c .before .before .before .before .before .before .before .before .before .before .pre .0)), tt)
+conditional-expression-requires-3 t c κs = (omega (arith, (c .before .before .before .before .before .before .before .before .before .before .pre .0)), (c .before .before .before .before .before .before .before .before .before .before .pre .1))
 
 conditional-returns : (t : ℕ) → conditional-lts.Need-returns (conditional-claims t) (conditional-at t) conditional.Post
-conditional-returns t c = λ e k p. condition-refused _ _ _ _ k p _ (c .before .before .before .expression .ensures e) (c .before .number .given .1)
+conditional-returns t c = λ k p. condition-refused _ _ _ _ k p _ (c .before .before .before .expression .ensures) (c .before .number .given .1)
 
 conditional-returns-2 : (t : ℕ) → conditional-lts.Need-returns-2 (conditional-claims t) (conditional-at t) conditional.Post
-conditional-returns-2 t c = λ e k p. first-refused _ _ _ _ k p _ (c .before .before .before .before .before .before .before .expression .ensures e) (c .before .before .before .before .before .second .given .1) (c .before .before .before .expression2 .ensures e) (c .before .number2 .given .1)
+conditional-returns-2 t c = λ k p. first-refused _ _ _ _ k p _ (c .before .before .before .before .before .before .before .expression .ensures) (c .before .before .before .before .before .second .given .1) (c .before .before .before .expression2 .ensures) (c .before .number2 .given .1)
 
 conditional-returns-3 : (t : ℕ) → conditional-lts.Need-returns-3 (conditional-claims t) (conditional-at t) conditional.Post
-conditional-returns-3 t c = λ e k p. second-walked _ _ _ _ k p _ (c .before .before .before .before .before .before .before .before .expression .ensures e) (c .before .before .before .before .before .before .second .given .1) (c .before .before .before .before .expression2 .ensures e) (c .before .before .third .given .1) (c .expression3 .ensures e)
+conditional-returns-3 t c = λ k p. second-walked _ _ _ _ k p _ (c .before .before .before .before .before .before .before .before .expression .ensures) (c .before .before .before .before .before .before .second .given .1) (c .before .before .before .before .expression2 .ensures) (c .before .before .third .given .1) (c .expression3 .ensures)
 
 expression-expression-node-requires : (t : ℕ) → expression-lts.Need-expression-node-requires (expression-claims t) (expression-at t) expression.Post
 expression-expression-node-requires t c κs = search needs
@@ -116,31 +117,31 @@ expression-sub-operands : (t : ℕ) → expression-lts.Need-sub-operands (expres
 expression-sub-operands t c = node-depth _ (c .before .before .before .expression-node .ensures .1) (c .before .kind .given .1)
 
 expression-operands-requires : (t : ℕ) → expression-lts.Need-operands-requires (expression-claims t) (expression-at t) expression.Post
-expression-operands-requires t c κs = (omega (arith, (c .before .before .before .before .before .before .pre .0), expression-sub-operands t c), tt)
+expression-operands-requires t c κs = (omega (arith, (c .before .before .before .before .before .before .pre .0), expression-sub-operands t c), (c .before .before .before .before .before .before .pre .1))
 
 expression-returns : (t : ℕ) → expression-lts.Need-returns (expression-claims t) (expression-at t) expression.Post
-expression-returns t c = λ e. expression-refused _ _ _ _ _ _ (c .before .before .before .expression-node .ensures .0 e) (c .before .number .given .1)
+expression-returns t c = expression-refused _ _ _ _ _ _ (c .before .before .before .before .before .before .pre .1) (c .before .before .before .expression-node .ensures .0) (c .before .number .given .1)
 
 expression-returns-2 : (t : ℕ) → expression-lts.Need-returns-2 (expression-claims t) (expression-at t) expression.Post
-expression-returns-2 t c = λ e. expression-operands _ _ _ _ _ _ (c .before .before .before .before .expression-node .ensures .0 e) (c .before .before .kind .given .1) (c .operands .ensures e)
+expression-returns-2 t c = expression-operands _ _ _ _ _ _ (c .before .before .before .before .before .before .before .pre .1) (c .before .before .before .before .expression-node .ensures .0) (c .before .before .kind .given .1) (c .operands .ensures)
 
 operands-row-of-requires : (t : ℕ) → operands-lts.Need-row-of-requires (operands-claims t) (operands-at t) operands.Post
 operands-row-of-requires t c κs = search needs
 
 operands-returns : (t : ℕ) → operands-lts.Need-returns (operands-claims t) (operands-at t) operands.Post
-operands-returns t c = λ e p. no-operands _ _ _ _ _ p _ (c .before .row-of .ensures e) (c .if1 .taken)
+operands-returns t c = λ p. no-operands _ _ _ _ _ p _ (row-lent _ (c .before .before .before .before .pre .1) (c .before .row-of .ensures)) (c .if1 .taken)
 
 operands-conditional-requires : (t : ℕ) → operands-lts.Need-conditional-requires (operands-claims t) (operands-at t) operands.Post
-operands-conditional-requires t c κs = (omega (arith, (c .before .before .before .before .before .pre .0)), tt)
+operands-conditional-requires t c κs = (omega (arith, (c .before .before .before .before .before .pre .0)), (c .before .before .before .before .before .pre .1))
 
 operands-returns-2 : (t : ℕ) → operands-lts.Need-returns-2 (operands-claims t) (operands-at t) operands.Post
-operands-returns-2 t c = λ e p. conditional-operands _ _ _ _ _ p _ (c .before .before .before .row-of .ensures e) (c .before .if2 .taken) (c .conditional .ensures e (c .before .before .before .before .before .before .args .kind) p)
+operands-returns-2 t c = λ p. conditional-operands _ _ _ _ _ p _ (row-lent _ (c .before .before .before .before .before .before .pre .1) (c .before .before .before .row-of .ensures)) (c .before .if2 .taken) (c .conditional .ensures (c .before .before .before .before .before .before .args .kind) p)
 
 operands-operand-sort-requires : (t : ℕ) → operands-lts.Need-operand-sort-requires (operands-claims t) (operands-at t) operands.Post
 operands-operand-sort-requires t c κs = search needs
 
 operands-expression-requires : (t : ℕ) → operands-lts.Need-expression-requires (operands-claims t) (operands-at t) operands.Post
-operands-expression-requires t c κs = (omega (arith, (c .before .before .before .before .before .before .pre .0)), tt)
+operands-expression-requires t c κs = (omega (arith, (c .before .before .before .before .before .before .pre .0)), (c .before .before .before .before .before .before .pre .1))
 
 operands-enum-known-number : (t : ℕ) → operands-lts.Need-enum-known-number (operands-claims t) (operands-at t) operands.Post
 operands-enum-known-number t c = search needs
@@ -149,16 +150,16 @@ operands-enum-known-second : (t : ℕ) → operands-lts.Need-enum-known-second (
 operands-enum-known-second t c = search needs
 
 operands-expression-requires-2 : (t : ℕ) → operands-lts.Need-expression-requires-2 (operands-claims t) (operands-at t) operands.Post
-operands-expression-requires-2 t c κs = (omega (arith, (c .before .before .before .before .before .before .before .before .before .before .before .pre .0)), tt)
+operands-expression-requires-2 t c κs = (omega (arith, (c .before .before .before .before .before .before .before .before .before .before .before .pre .0)), (c .before .before .before .before .before .before .before .before .before .before .before .pre .1))
 
 operands-returns-3 : (t : ℕ) → operands-lts.Need-returns-3 (operands-claims t) (operands-at t) operands.Post
-operands-returns-3 t c = λ e p. operand-refused _ _ _ _ _ p _ (c .before .before .before .before .before .before .before .row-of .ensures e) (c .before .before .before .before .operand-sort .ensures) (c .before .before .before .expression .ensures e) (c .before .before .before .before .before .before .if1 .left) (c .before .before .before .before .before .if2 .left) (c .before .number .given .1)
+operands-returns-3 t c = λ p. operand-refused _ _ _ _ _ p _ (row-lent _ (c .before .before .before .before .before .before .before .before .before .before .pre .1) (c .before .before .before .before .before .before .before .row-of .ensures)) (c .before .before .before .before .operand-sort .ensures) (c .before .before .before .expression .ensures) (c .before .before .before .before .before .before .if1 .left) (c .before .before .before .before .before .if2 .left) (c .before .number .given .1)
 
 operands-returns-4 : (t : ℕ) → operands-lts.Need-returns-4 (operands-claims t) (operands-at t) operands.Post
-operands-returns-4 t c = λ e p. one-operand _ _ _ _ _ p _ (c .before .before .before .before .before .before .before .before .row-of .ensures e) (c .before .before .before .before .before .operand-sort .ensures) (c .before .before .before .before .expression .ensures e) (c .before .before .second .given .1) (c .if3 .taken)
+operands-returns-4 t c = λ p. one-operand _ _ _ _ _ p _ (row-lent _ (c .before .before .before .before .before .before .before .before .before .before .before .pre .1) (c .before .before .before .before .before .before .before .before .row-of .ensures)) (c .before .before .before .before .before .operand-sort .ensures) (c .before .before .before .before .expression .ensures) (c .before .before .second .given .1) (c .if3 .taken)
 
 operands-returns-5 : (t : ℕ) → operands-lts.Need-returns-5 (operands-claims t) (operands-at t) operands.Post
-operands-returns-5 t c = λ e p. two-operands _ _ _ _ _ p _ (c .before .before .before .before .before .before .before .before .before .row-of .ensures e) (c .before .before .before .before .before .before .operand-sort .ensures) (c .before .before .before .before .before .expression .ensures e) (c .before .before .before .second .given .1) (c .before .before .before .before .before .before .before .before .if1 .left) (c .before .before .before .before .before .before .before .if2 .left) (c .before .if3 .left) (c .expression2 .ensures e)
+operands-returns-5 t c = λ p. two-operands _ _ _ _ _ p _ (row-lent _ (c .before .before .before .before .before .before .before .before .before .before .before .before .pre .1) (c .before .before .before .before .before .before .before .before .before .row-of .ensures)) (c .before .before .before .before .before .before .operand-sort .ensures) (c .before .before .before .before .before .expression .ensures) (c .before .before .before .second .given .1) (c .before .before .before .before .before .before .before .before .if1 .left) (c .before .before .before .before .before .before .before .if2 .left) (c .before .if3 .left) (c .expression2 .ensures)
 
 pub +conditional+expression+operands-spec : {M : Type 1} → statement M
 +conditional+expression+operands-spec =

@@ -23,13 +23,13 @@ enum-known-first : tie.Need-enum-known-first
 enum-known-first c = search needs
 
 returns : tie.Need-returns
-returns c = λ e. high-refused _ _ (c .before .before .before .before .before .fits .low) _ (c .before .before .before .end-node .ensures e) (c .before .number .given .1)
+returns c = high-refused _ _ (c .before .before .before .before .before .pre) (c .before .before .before .before .before .fits .low) _ (c .before .before .before .end-node .ensures) (c .before .number .given .1)
 
 returns-2 : tie.Need-returns-2
-returns-2 c = λ e. first-refused _ _ (c .before .before .before .before .before .before .before .before .before .fits .low) _ (c .before .before .before .before .before .before .before .end-node .ensures e) (c .before .before .before .before .before .high .given .1) (record { sfits = (c .before .before .before .before .known-told2 .given .1 .0 .1) }) (c .before .before .before .end-node2 .ensures e) (c .before .number2 .given .1)
+returns-2 c = first-refused _ _ (c .before .before .before .before .before .before .before .before .before .pre) (c .before .before .before .before .before .before .before .before .before .fits .low) _ (c .before .before .before .before .before .before .before .end-node .ensures) (c .before .before .before .before .before .high .given .1) (record { sfits = (c .before .before .before .before .known-told2 .given .1 .0 .1) }) (c .before .before .before .end-node2 .ensures) (c .before .number2 .given .1)
 
 returns-3 : tie.Need-returns-3
-returns-3 c = λ e. range-walked _ _ (c .before .before .before .before .before .before .before .before .before .fits .low) _ (c .before .before .before .before .before .before .before .end-node .ensures e) (c .before .before .before .before .before .high .given .1) (record { sfits = (c .before .before .before .before .known-told2 .given .1 .0 .1) }) (c .before .before .before .end-node2 .ensures e) (c .before .first .given .1) (record { sfits = (c .known-told4 .given .1 .0 .1) })
+returns-3 c = range-walked _ _ (c .before .before .before .before .before .before .before .before .before .pre) (c .before .before .before .before .before .before .before .before .before .fits .low) _ (c .before .before .before .before .before .before .before .end-node .ensures) (c .before .before .before .before .before .high .given .1) (record { sfits = (c .before .before .before .before .known-told2 .given .1 .0 .1) }) (c .before .before .before .end-node2 .ensures) (c .before .first .given .1) (record { sfits = (c .known-told4 .given .1 .0 .1) })
 
 pub range-spec : {M : Type 1} → statement M
 range-spec =

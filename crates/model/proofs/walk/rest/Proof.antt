@@ -26,16 +26,16 @@ enum-known-next : tie.Need-enum-known-next
 enum-known-next c = search needs
 
 returns : tie.Need-returns
-returns c = λ e. transitions-refused _ _ _ _ _ (c .before .before .before .transitions .ensures e) (c .before .number .given .1)
+returns c = transitions-refused _ _ _ _ _ (c .before .before .before .transitions .ensures) (c .before .number .given .1)
 
 returns-2 : tie.Need-returns-2
-returns-2 c = λ e. assertion-refused _ _ _ _ _ (c .before .before .before .before .before .before .before .transitions .ensures e) (c .before .before .before .before .before .second .given .1) (c .before .before .before .instruction .ensures e) (c .before .number2 .given .1)
+returns-2 c = assertion-refused _ _ _ _ _ (c .before .before .before .before .before .before .before .transitions .ensures) (c .before .before .before .before .before .second .given .1) (c .before .before .before .instruction .ensures) (c .before .number2 .given .1)
 
 returns-3 : tie.Need-returns-3
-returns-3 c = λ e. nodes-over _ _ _ _ _ (c .before .before .before .before .before .before .before .before .before .before .transitions .ensures e) (c .before .before .before .before .before .before .before .before .second .given .1) (c .before .before .before .before .before .before .instruction .ensures e) (c .before .before .before .before .next .given .1) (c .if1 .taken)
+returns-3 c = nodes-over _ _ _ _ _ (c .before .before .before .before .before .before .before .before .before .before .transitions .ensures) (c .before .before .before .before .before .before .before .before .second .given .1) (c .before .before .before .before .before .before .instruction .ensures) (c .before .before .before .before .next .given .1) (c .if1 .taken)
 
 returns-4 : tie.Need-returns-4
-returns-4 c = λ e. nodes-used _ _ _ _ _ (c .before .before .before .before .before .before .before .before .before .before .transitions .ensures e) (c .before .before .before .before .before .before .before .before .second .given .1) (c .before .before .before .before .before .before .instruction .ensures e) (c .before .before .before .before .next .given .1) (c .if1 .left)
+returns-4 c = nodes-used _ _ _ _ _ (c .before .before .before .before .before .before .before .before .before .before .transitions .ensures) (c .before .before .before .before .before .before .before .before .second .given .1) (c .before .before .before .before .before .before .instruction .ensures) (c .before .before .before .before .next .given .1) (c .if1 .left)
 
 pub rest-spec : {M : Type 1} → statement M
 rest-spec =

@@ -31,10 +31,10 @@ rest-requires : tie.Need-rest-requires
 rest-requires c κs = search needs
 
 returns : tie.Need-returns
-returns c = λ e. variables-refused _ _ _ (c .before .before .before .before .variables .ensures e .0) (c .before .number .given .1)
+returns c = variables-refused _ _ _ (c .before .before .before .before .variables .ensures .0) (c .before .number .given .1)
 
 returns-2 : tie.Need-returns-2
-returns-2 c = λ e. system-walked _ _ _ (c .before .before .before .before .before .before .variables .ensures e .0) _ (c .before .before .before .next .given .1) (c .before .before .before .before .before .before .variables .ensures e .1) (c .rest .ensures e)
+returns-2 c = system-walked _ _ _ (c .before .before .before .before .before .before .variables .ensures .0) _ (c .before .before .before .next .given .1) (c .before .before .before .before .before .before .variables .ensures .1) (c .rest .ensures)
 
 pub system-spec : {M : Type 1} → statement M
 system-spec =

@@ -27,13 +27,13 @@ instruction-requires : tie.Need-instruction-requires
 instruction-requires c κs = search needs
 
 returns : tie.Need-returns
-returns c = λ e. transition-refused _ _ _ (scopeOf (c .before .before .before .before .before .before .args .sorts .now) 0 _) 32 _ (c .before .before .before .transition-node .ensures e) (c .before .number .given .1)
+returns c = transition-refused _ _ _ (scopeOf (c .before .before .before .before .before .before .args .sorts .now) 0 _) 32 _ (c .before .before .before .before .before .before .pre) (c .before .before .before .transition-node .ensures) (c .before .number .given .1)
 
 returns-2 : tie.Need-returns-2
-returns-2 c = λ e. guard-refused _ _ _ (scopeOf (c .before .before .before .before .before .before .before .before .before .before .args .sorts .now) 0 _) 32 _ (c .before .before .before .before .before .before .before .transition-node .ensures e) (c .before .before .before .before .before .next .given .1) (c .before .before .before .expression .ensures e) (c .before .number2 .given .1)
+returns-2 c = guard-refused _ _ _ (scopeOf (c .before .before .before .before .before .before .before .before .before .before .args .sorts .now) 0 _) 32 _ (c .before .before .before .before .before .before .before .before .before .before .pre) (c .before .before .before .before .before .before .before .transition-node .ensures) (c .before .before .before .before .before .next .given .1) (c .before .before .before .expression .ensures) (c .before .number2 .given .1)
 
 returns-3 : tie.Need-returns-3
-returns-3 c = λ e. transition-walked _ _ _ (scopeOf (c .before .before .before .before .before .before .before .before .before .before .before .args .sorts .now) 0 _) 32 _ (c .before .before .before .before .before .before .before .before .transition-node .ensures e) (c .before .before .before .before .before .before .next .given .1) (c .before .before .before .before .expression .ensures e) (c .before .before .second .given .1) (c .instruction .ensures e)
+returns-3 c = transition-walked _ _ _ (scopeOf (c .before .before .before .before .before .before .before .before .before .before .before .args .sorts .now) 0 _) 32 _ (c .before .before .before .before .before .before .before .before .before .before .before .pre) (c .before .before .before .before .before .before .before .before .transition-node .ensures) (c .before .before .before .before .before .before .next .given .1) (c .before .before .before .before .expression .ensures) (c .before .before .second .given .1) (c .instruction .ensures)
 
 pub transition-spec : {M : Type 1} → statement M
 transition-spec =

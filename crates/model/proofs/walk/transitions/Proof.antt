@@ -1,8 +1,7 @@
--- All transitions: with the table lent, the outcome of all is that of the transitions that are left.
+-- All transitions: the outcome of all is that of the transitions that are left.
 use mathlib.Core.Path.{_≡_, refl}
 use native.Mathlib.Omega.{arith}
 use Rattle.model.specs.Check.{maxDepth}
-use Rattle.syntax.specs.Kinds.{table}
 use Rattle.model.specs.Walk.{outcome, transitionAt, rowAt, scopeOf}
 use Rattle.model.proofs.Walking.{list-row, row-refused, row-next, row-done}
 use borrow.Author.Needs.{needs}
@@ -11,15 +10,14 @@ use Rattle.model.proofs.walk.transitions.Tie as tie
 
 abbrev Inv-loop : tie.InvT-loop
 Inv-loop rows kinds parameters sorts events states due₀ at₀ due at =
-    rows ≡ table
-    → outcome (rowAt (transitionAt kinds parameters events (scopeOf sorts 0 states) maxDepth) due₀ at₀)
+    outcome (rowAt (transitionAt kinds parameters events (scopeOf sorts 0 states) maxDepth) due₀ at₀)
     ≡ outcome (rowAt (transitionAt kinds parameters events (scopeOf sorts 0 states) maxDepth) due at)
 
 abbrev μ-loop : tie.MeasureT-loop
 μ-loop rows kinds parameters sorts events states due₀ at₀ due at = due
 
 loop-holds : tie.Need-loop-holds Inv-loop μ-loop
-loop-holds c = λ e. refl
+loop-holds c = refl
 
 sub-due : tie.Need-sub-due Inv-loop μ-loop
 sub-due c = omega arith
@@ -31,7 +29,7 @@ enum-known-number : tie.Need-enum-known-number Inv-loop μ-loop
 enum-known-number c = search needs
 
 returns : tie.Need-returns Inv-loop μ-loop
-returns c = λ e. row-refused (list-row _) _ _ (c .before .before .before .before .loop-test .taken) (c .before .before .before .before .before .loop .inv e) (c .before .before .before .transition .ensures e) (c .before .number .given .1)
+returns c = row-refused (list-row _) _ _ (c .before .before .before .before .loop-test .taken) (c .before .before .before .before .before .loop .inv) (c .before .before .before .transition .ensures) (c .before .number .given .1)
 
 enum-known-next : tie.Need-enum-known-next Inv-loop μ-loop
 enum-known-next c = search needs
@@ -40,10 +38,10 @@ loop-less : tie.Need-loop-less Inv-loop μ-loop
 loop-less c = omega arith
 
 loop-again : tie.Need-loop-again Inv-loop μ-loop
-loop-again c = λ e. row-next (list-row _) _ _ (c .before .before .before .before .loop-test .taken) (c .before .before .before .before .before .loop .inv e) (c .before .before .before .transition .ensures e) (c .before .next .given .1)
+loop-again c = row-next (list-row _) _ _ (c .before .before .before .before .loop-test .taken) (c .before .before .before .before .before .loop .inv) (c .before .before .before .transition .ensures) (c .before .next .given .1)
 
 returns-2 : tie.Need-returns-2 Inv-loop μ-loop
-returns-2 c = λ e. row-done (list-row _) _ _ (c .loop-test .left) (c .before .loop .inv e)
+returns-2 c = row-done (list-row _) _ _ (c .loop-test .left) (c .before .loop .inv)
 
 pub transitions-spec : {M : Type 1} → statement M
 transitions-spec =

@@ -17,13 +17,13 @@ range-requires : tie.Need-range-requires
 range-requires c κs = search needs
 
 returns : tie.Need-returns
-returns c = λ e. variable-refused _ _ _ (c .before .before .before .variable-node .ensures e) (c .before .number .given .1)
+returns c = variable-refused _ _ (c .before .before .before .before .before .pre) _ (c .before .before .before .variable-node .ensures) (c .before .number .given .1)
 
 returns-2 : tie.Need-returns-2
-returns-2 c = λ e. boolean-walked _ _ _ (c .before .before .before .before .variable-node .ensures e) (c .before .before .kind .given .1) (record { sfits = (c .before .known-told2 .given .1 .0 .1) }) (c .if1 .taken)
+returns-2 c = boolean-walked _ _ (c .before .before .before .before .before .before .pre) _ (c .before .before .before .before .variable-node .ensures) (c .before .before .kind .given .1) (record { sfits = (c .before .known-told2 .given .1 .0 .1) }) (c .if1 .taken)
 
 returns-3 : tie.Need-returns-3
-returns-3 c = λ e. number-walked _ _ _ (c .before .before .before .before .before .variable-node .ensures e) (c .before .before .before .kind .given .1) (record { sfits = (c .before .before .known-told2 .given .1 .0 .1) }) (c .before .if1 .left) (c .range .ensures e)
+returns-3 c = number-walked _ _ (c .before .before .before .before .before .before .before .pre) _ (c .before .before .before .before .before .variable-node .ensures) (c .before .before .before .kind .given .1) (record { sfits = (c .before .before .known-told2 .given .1 .0 .1) }) (c .before .if1 .left) (c .range .ensures)
 
 pub variable-spec : {M : Type 1} → statement M
 variable-spec =

@@ -2,7 +2,6 @@
 use borrow.Author.Needs.{needs}
 use Rattle.steps.specs.Calls.{answerOf}
 use Rattle.steps.specs.Answers.{seen}
-use Rattle.interpreter.specs.Instructions.{numberOf}
 use Rattle.steps.proofs.moves.answer_of.Statement.{statement}
 use Rattle.steps.proofs.moves.answer_of.Tie as tie
 
@@ -32,7 +31,7 @@ unfolding answerOf seen
 returns c = cc
 
 returns-2 : tie.Need-returns-2
-unfolding answerOf seen numberOf
+unfolding answerOf seen
 returns-2 c = cc
 
 returns-3 : tie.Need-returns-3

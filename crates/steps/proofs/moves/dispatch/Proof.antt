@@ -1,9 +1,9 @@
 -- `moves::dispatch` meets its contract.
 use mathlib.Core.Path.{_≡_, sym, subst}
 use borrow.Author.Needs.{needs}
-use Rattle.steps.specs.Runs.{run, answered}
+use Rattle.standing.specs.Runs.{run, answered}
 use Rattle.steps.specs.Answers.{seen}
-use Rattle.steps.specs.Moves.{move}
+use Rattle.steps.specs.Calls.{stepOn, valuesOf}
 use Rattle.steps.proofs.Slices.{meaning}
 use Rattle.steps.proofs.moves.dispatch.Statement.{statement}
 use Rattle.steps.proofs.moves.dispatch.Tie as tie
@@ -12,51 +12,54 @@ enum-told : tie.Need-enum-told
 enum-told c = search needs
 
 start-requires : tie.Need-start-requires
-start-requires c κs = search needs
+start-requires c κs = c .before .before .before .before .before .before .before .pre
 
 enum-known-step : tie.Need-enum-known-step
 enum-known-step c = search needs
 
 fire-requires : tie.Need-fire-requires
-fire-requires c κs = search needs
+fire-requires c κs = c .before .before .before .before .before .before .before .before .pre
 
 enum-told-2 : tie.Need-enum-told-2
 enum-told-2 c = search needs
 
 undo-requires : tie.Need-undo-requires
-undo-requires c κs = search needs
+undo-requires c κs = c .before .before .before .before .before .before .before .pre
 
 same-length : tie.Need-same-length
-same-length c = search needs
+same-length c = c .before .start .kept .1 .1 .1 .1 .1 .1 .0
 
 returns : tie.Need-returns
+unfolding stepOn
 returns c =
-    let start = c .before .before .before .before .before .before .before .before .before .before in
+    let start = c .before .before .before .before .before .before .before .before .before in
     let called = c .before .start in
     λ d.
-    subst (λ s. answered (seen (called .result)) (called .last .1 .1 .1 .1 .1 .1 .1 .1 .1 .0) ≡ move (meaning d) s (run (start .args .values .now) (start .args .history .now) (start .args .n)))
+    subst (λ s. answered (seen (called .result)) (called .last .1 .1 .1 .1 .1 .1 .0) ≡ valuesOf (stepOn (meaning d) s (run (start .args .values .now) (start .args .history .now) (start .args .n))))
     (sym (c .before .before .before .enum-told .given .1)) (called .ensures d (start .args .history .now) (start .args .n))
 
 same-length-2 : tie.Need-same-length-2
-same-length-2 c = search needs
+same-length-2 c = c .before .fire .kept .1 .1 .1 .1 .1 .1 .0
 
 returns-2 : tie.Need-returns-2
+unfolding stepOn
 returns-2 c =
-    let start = c .before .before .before .before .before .before .before .before .before .before .before in
+    let start = c .before .before .before .before .before .before .before .before .before .before in
     let called = c .before .fire in
     λ d.
-    subst (λ s. answered (seen (called .result)) (called .last .1 .1 .1 .1 .1 .1 .1 .1 .1 .0) ≡ move (meaning d) s (run (start .args .values .now) (start .args .history .now) (start .args .n)))
+    subst (λ s. answered (seen (called .result)) (called .last .1 .1 .1 .1 .1 .1 .0) ≡ valuesOf (stepOn (meaning d) s (run (start .args .values .now) (start .args .history .now) (start .args .n))))
     (sym (c .before .before .before .before .step .given .1)) (called .ensures d)
 
 same-length-3 : tie.Need-same-length-3
-same-length-3 c = search needs
+same-length-3 c = c .before .undo .kept .1 .1 .1 .1 .1 .1 .0
 
 returns-3 : tie.Need-returns-3
+unfolding stepOn
 returns-3 c =
-    let start = c .before .before .before .before .before .before .before .before .before .before in
+    let start = c .before .before .before .before .before .before .before .before .before in
     let called = c .before .undo in
     λ d.
-    subst (λ s. answered (seen (called .result)) (called .last .1 .1 .1 .1 .1 .1 .1 .1 .1 .0) ≡ move (meaning d) s (run (start .args .values .now) (start .args .history .now) (start .args .n)))
+    subst (λ s. answered (seen (called .result)) (called .last .1 .1 .1 .1 .1 .1 .0) ≡ valuesOf (stepOn (meaning d) s (run (start .args .values .now) (start .args .history .now) (start .args .n))))
     (sym (c .before .before .before .enum-told2 .given .1)) (called .ensures d)
 
 pub dispatch-spec : {M : Type 1} → statement M

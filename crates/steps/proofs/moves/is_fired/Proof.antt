@@ -1,6 +1,6 @@
 -- `moves::is_fired` meets its contract.
 use borrow.Author.Needs.{needs}
-use Rattle.steps.specs.Moves.{isFired}
+use Rattle.steps.specs.Calls.{isFired}
 use Rattle.steps.proofs.moves.is_fired.Statement.{statement}
 use Rattle.steps.proofs.moves.is_fired.Tie as tie
 

@@ -1,4 +1,5 @@
 -- The node of an expression.
+use Rattle.kinds.specs.Kinds.{rowIn}
 use Rattle.syntax.specs.Readings.{expressionAllowed, expressionFits, expressionRefusal, DepthLeft}
 use Rattle.syntax.proofs.Refusals.{Due, kind, refused-4, refused-5, refused-6, refused-7, node-found, test-failed, test-passed}
 use native.Mathlib.Omega.{arith}
@@ -11,7 +12,7 @@ due s =
     record {
       kinds = s .args .kinds .now;
       parameters = s .args .parameters .now;
-      allowed = expressionAllowed (s .args .wanted);
+      allowed = expressionAllowed (rowIn (s .args .rows .now)) (s .args .wanted);
       fits = expressionFits (s .args .sorts .now) (s .args .wanted);
       left = s .args .left;
       at = s .args .self .at;
@@ -19,11 +20,11 @@ due s =
 
 returns : tie.Need-returns
 unfolding expressionRefusal DepthLeft
-returns c = (λ t. refused-4 (due (c .before .before .before)) (c .if1 .taken), tt)
+returns c = (refused-4 (due (c .before .before .before)) (c .if1 .taken), tt)
 
 returns-2 : tie.Need-returns-2
 unfolding expressionRefusal DepthLeft
-returns-2 c = (λ t. refused-5 (due (c .before .before .before .before)) (c .before .if1 .left) (c .if2 .taken), tt)
+returns-2 c = (refused-5 (due (c .before .before .before .before)) (c .before .if1 .left) (c .if2 .taken), tt)
 
 shared-slice-read-kind : tie.Need-shared-slice-read-kind
 shared-slice-read-kind c = search needs
@@ -35,7 +36,7 @@ returns-3 : tie.Need-returns-3
 unfolding expressionRefusal DepthLeft
 returns-3 c =
     let b = c .before .before .before in
-    (λ t. refused-6 (due (b .before .before .before .before)) (b .before .if1 .left) (b .if2 .left) (c .before .expression-allowed .ensures t) (c .if3 .taken), tt)
+    (refused-6 (due (b .before .before .before .before)) (b .before .if1 .left) (b .if2 .left) (c .before .expression-allowed .ensures) (c .if3 .taken), tt)
 
 parameter-at-requires : tie.Need-parameter-at-requires
 parameter-at-requires c κs = search needs
@@ -50,7 +51,7 @@ returns-4 c =
     let r = p .parameter-at in
     let b = p .before .before .before .before in
     let d = due (b .before .before .before .before) in (
-      λ t. refused-7 d (b .before .if1 .left) (b .if2 .left) (p .before .before .expression-allowed .ensures t) (p .before .if3 .left) (r .ensures)
+      refused-7 d (b .before .if1 .left) (b .if2 .left) (p .before .before .expression-allowed .ensures) (p .before .if3 .left) (r .ensures)
           (test-failed (d .fits (kind d)) (r .result) (r .ok) (c .before .expression-fits .ensures) (c .if4 .taken)),
       tt,
     )
@@ -65,7 +66,7 @@ returns-5 c =
     let r = p .parameter-at in
     let b = p .before .before .before .before in
     let d = due (b .before .before .before .before) in (
-      λ t. node-found d (b .before .if1 .left) (b .if2 .left) (p .before .before .expression-allowed .ensures t) (p .before .if3 .left) (r .ensures) (r .ok)
+      node-found d (b .before .if1 .left) (b .if2 .left) (p .before .before .expression-allowed .ensures) (p .before .if3 .left) (r .ensures) (r .ok)
           (test-passed (d .fits (kind d)) (r .result) (r .ok) (c .before .expression-fits .ensures) (c .if4 .left)),
       omega (arith, b .if2 .left),
     )

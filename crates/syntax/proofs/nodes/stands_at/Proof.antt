@@ -10,7 +10,9 @@ row-of-requires : tie.Need-row-of-requires
 row-of-requires c κs = search needs
 
 returns : tie.Need-returns
-returns c t = ap (λ p. eqb p (c .before .before .args .place)) (row-place (c .before .before .args .kind) (c .before .row-of .ensures t))
+returns c =
+    let s = c .before .before in
+    ap (λ p. eqb p (s .args .place)) (row-place (s .args .rows .now) (s .args .kind) (c .before .row-of .ensures))
 
 pub stands-at-spec : {M : Type 1} → statement M
 stands-at-spec = tie.close (tie.spec row-of-requires returns)

@@ -1,0 +1,96 @@
+-- The code and the results of an answer, from what the function of crate `run` promises.
+use mathlib.Core.Path.{_≡_, refl, sym, ap, ap₂, _∙_, subst}
+use mathlib.Core.List.{List, []}
+use Prim.Native.Nat.{ℕ, zero, suc, _≤_}
+use native.Mathlib.Omega.{arith}
+use mir.Syntax.{w32}
+use mir.Val.{toZ, ofZ, SFits}
+use mir.ValLaws.{toZ-ofZ}
+use lib.IntN.{ℤ}
+use Rattle.results.specs.Results.{answered}
+use Rattle.model.specs.declared.Sizes.{Sizes}
+use Rattle.model.specs.Trees.{System}
+use Rattle.model.specs.Check.{Verdict, verdict}
+use Rattle.model.specs.Check.Verdict.{refusal, accepted}
+use Rattle.semantics.specs.Meanings.{Meaning, meaningOf}
+use Rattle.steps.specs.declared.Answer as declared
+use Rattle.standing.specs.Runs.{Run, Answer, Done, run}
+use Rattle.standing.specs.Runs.Answer.{rounds}
+use Rattle.steps.specs.Answers.{seen, onFile}
+use Rattle.steps.specs.Calls as calls
+use Rattle.run.specs.Lists.{CountWithin, CountBounded}
+use Rattle.run.specs.Promises.{StartPromise, FirePromise, UndoPromise, MarksPromise, ValuePromise}
+use Rattle.run.proofs.Cases.{start-cases, fire-cases}
+use Rattle.capi.specs.Codes.{codeOf, roundsOr, numberOr, codedBy, codedRounds, codedNumber}
+use Rattle.capi.specs.Promises.{CellBounded, StartCoded, FireCoded, UndoCoded, MarksCoded, ValueCoded}
+
+-- a code 0 is that of a round count
+abbrev Counts : Answer → Type 0
+Counts a = (old : ℕ) → codeOf a ≡ 0 → a ≡ rounds (roundsOr old a)
+
+module _ (m : Meaning) (r : Run) where
+  start-counts : Counts (calls.start m r .answer)
+  unfolding codeOf roundsOr
+  start-counts = start-cases m r (λ d. Counts (d .answer)) (λ k o old e. absurd (omega (arith, o .2))) (λ n long e old z. refl)
+
+  fire-counts : (t : ℕ) → Counts (calls.fire m t r .answer)
+  unfolding codeOf roundsOr
+  fire-counts t =
+      fire-cases m r (λ d. Counts (d .answer)) (λ k o old e. absurd (omega (arith, o .2))) (λ e old z. absurd (omega arith)) t
+      (λ below held free n e old z. refl)
+
+cell-bounded : (z : Sizes) (t : System) (code count : ℕ) → (code ≡ 0 → (1 ≤ count) × (count ≤ suc (z .flows))) → CellBounded (accepted z t) code count
+unfolding CellBounded
+cell-bounded z t zero count h = h refl
+cell-bounded z t (suc code) count h = tt
+
+-- a call whose result is the round count
+module _ (f : Meaning → Done Run) (counts : (m : Meaning) → Counts (f m .answer)) (r left : Run) (a : Answer) (old code count : ℕ)
+    (coded : code ≡ codeOf a) (counted : count ≡ roundsOr old a) where
+  rounds-bounded : (v : Verdict) → answered a left ≡ onFile v f r → CountBounded v a → CellBounded v code count
+  unfolding onFile CountWithin CountBounded CellBounded
+  rounds-bounded (refusal k) e b = tt
+  rounds-bounded (accepted z t) e b =
+      let c : Counts a = subst Counts (sym (ap (λ (d : Done Run). d .answer) e)) (counts (meaningOf t)) in
+      cell-bounded z t code count (λ none. subst (CountWithin (z .flows)) (c old (sym coded ∙ none) ∙ ap rounds (sym counted)) b)
+
+  rounds-coded : (v : Verdict) → answered a left ≡ onFile v f r → answered code (left, count) ≡ codedRounds old (onFile v f r)
+  rounds-coded v e = ap₂ (λ c k. answered c (left, k)) coded counted ∙ ap (codedRounds old) e
+
+module _ (m : List ℕ) (old code count : ℕ) (r : declared.Answer) (coded : code ≡ codeOf (seen r)) (counted : count ≡ roundsOr old (seen r)) where
+  pub start-coded : (values : List ℤ) (n : ℕ) (values′ : List ℤ) (n′ : ℕ) → StartPromise m values n r values′ n′
+      → StartCoded m values n old code values′ n′ count
+  start-coded values n values′ n′ p = (
+    λ history.
+        rounds-coded (λ m. calls.start m (run values history n)) (λ m. start-counts m (run values history n)) (run values history n)
+        (run values′ history n′) (seen r) old code count coded counted (verdict m) (p .0 history),
+    rounds-bounded (λ m. calls.start m (run values [] n)) (λ m. start-counts m (run values [] n)) (run values [] n)
+        (run values′ [] n′) (seen r) old code count coded counted (verdict m) (p .0 []) (p .1),
+  )
+
+  pub fire-coded : (values : List ℤ) (history : List ℕ) (n t : ℕ) (values′ : List ℤ) (history′ : List ℕ) (n′ : ℕ)
+      → FirePromise m values history n t r values′ history′ n′ → FireCoded m values history n t old code values′ history′ n′ count
+  fire-coded values history n t values′ history′ n′ p = (
+    rounds-coded (λ m. calls.fire m t (run values history n)) (λ m. fire-counts m (run values history n) t) (run values history n)
+        (run values′ history′ n′) (seen r) old code count coded counted (verdict m) (p .0),
+    rounds-bounded (λ m. calls.fire m t (run values history n)) (λ m. fire-counts m (run values history n) t) (run values history n)
+        (run values′ history′ n′) (seen r) old code count coded counted (verdict m) (p .0) (p .1),
+  )
+
+-- a call without results
+module _ (m : List ℕ) (code : ℕ) (r : declared.Answer) (coded : code ≡ codeOf (seen r)) where
+  pub undo-coded : (values : List ℤ) (history : List ℕ) (n : ℕ) (values′ : List ℤ) (n′ : ℕ) → UndoPromise m values history n r values′ n′
+      → UndoCoded m values history n code values′ n′
+  undo-coded values history n values′ n′ p = ap (λ k. answered k (run values′ history n′)) coded ∙ ap codedBy p
+
+  pub marks-coded : (values : List ℤ) (history : List ℕ) (n : ℕ) (marks marks′ : List ℕ) → MarksPromise m values history n marks r marks′
+      → MarksCoded m values history n marks code marks′
+  marks-coded values history n marks marks′ p = ap (λ k. answered k marks′) coded ∙ ap codedBy p
+
+-- a call whose result is a number; signed numbers are handed on as their bits
+pub value-coded : (m : List ℕ) (values : List ℤ) (history : List ℕ) (n x : ℕ) (old new : ℤ) (code : ℕ) (r : declared.Answer) → SFits w32 old
+    → SFits w32 new → code ≡ codeOf (seen r) → new ≡ numberOr (toZ w32 (ofZ w32 old)) (seen r) → ValuePromise m values history n x r
+    → ValueCoded m values history n x old code (toZ w32 (ofZ w32 new))
+value-coded m values history n x old new code r old-fits new-fits coded stored p =
+    ap₂ (λ c v. answered c v) coded (toZ-ofZ w32 new new-fits ∙ stored ∙ ap (λ v. numberOr v (seen r)) (toZ-ofZ w32 old old-fits))
+    ∙ ap (codedNumber old) p

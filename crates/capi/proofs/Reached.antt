@@ -1,0 +1,55 @@
+-- What each function promises is its call: theorem CallsReached.
+use mathlib.Core.Path.{_≡_, refl, ap, _∙_}
+use mathlib.Core.List.{List}
+use Prim.Native.Nat.{ℕ}
+use Rattle.results.specs.Results.{Answered, answered}
+use Rattle.model.specs.Check.{verdict, answerOf}
+use Rattle.standing.specs.Runs.{Run, Store, Done, run, store}
+use Rattle.steps.specs.Answers.{onFile, onFileAnswer}
+use Rattle.steps.specs.Calls as calls
+use Rattle.inspection.specs.Queries as queries
+use Rattle.run.proofs.Reached as runs
+use Rattle.capi.specs.Codes.{codedBy, codedRounds, codedNumber, codedSizes}
+use Rattle.capi.specs.Theorems.{CallsReached}
+
+answer-of : {d e : Done Store} → d ≡ e → d .answer ≡ e .answer
+answer-of p = ap (λ (d : Done Store). d .answer) p
+
+left-of : {d e : Done Store} → d ≡ e → d .left ≡ e .left
+left-of p = ap (λ (d : Done Store). d .left) p
+
+-- the run, or the run and a result, placed into the store
+abbrev inStore : List ℕ → Answered ℕ Run → Answered ℕ Store
+inStore held x = answered (x .answer) (store (x .left) held)
+
+abbrev inStoreBeside : List ℕ → Answered ℕ (Run × ℕ) → Answered ℕ (Store × ℕ)
+inStoreBeside held x = answered (x .answer) (store (x .left .0) held, x .left .1)
+
+-- the marks placed into the store
+abbrev marksInStore : Run → Answered ℕ (List ℕ) → Answered ℕ Store
+marksInStore r x = answered (x .answer) (store r (x .left))
+
+pub calls-reached : CallsReached
+calls-reached = record {
+  check = λ m sizes code sizes′ s e.
+      let p = runs.check-reached s (verdict m) (answerOf (verdict m)) refl in
+      (e ∙ ap (codedSizes sizes) (answer-of p), left-of p);
+  start = λ m values history n held rounds code values′ n′ rounds′ e.
+      let d = onFile (verdict m) (λ m. calls.start m (run values history n)) (run values history n) in
+      ap (inStoreBeside held) (e .0 history)
+      ∙ ap (codedRounds rounds) (runs.start-reached m (store (run values history n) held) (d .answer) (d .left) refl);
+  fire = λ m values history n t held rounds code values′ history′ n′ rounds′ e.
+      let d = onFile (verdict m) (λ m. calls.fire m t (run values history n)) (run values history n) in
+      ap (inStoreBeside held) (e .0)
+      ∙ ap (codedRounds rounds) (runs.fire-reached m (store (run values history n) held) (d .answer) (d .left) t refl);
+  undo = λ m values history n held code values′ n′ e.
+      let d = onFile (verdict m) (λ m. calls.undo m (run values history n)) (run values history n) in
+      ap (inStore held) e ∙ ap codedBy (runs.undo-reached m (store (run values history n) held) (d .answer) (d .left) refl);
+  marks = λ m values history n held code held′ e.
+      let d = onFile (verdict m) (λ m. queries.marks m (run values history n) held) held in
+      ap (marksInStore (run values history n)) e
+      ∙ ap codedBy (runs.marks-reached (store (run values history n) held) (verdict m) (d .answer) (d .left) refl);
+  value = λ m values history n x held old code new e.
+      let p = runs.value-reached (store (run values history n) held) x (verdict m) (onFileAnswer (verdict m) (λ m. queries.value m x (run values history n))) refl in
+      (e ∙ ap (codedNumber old) (answer-of p), left-of p);
+}

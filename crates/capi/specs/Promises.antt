@@ -1,0 +1,56 @@
+-- What each function promises of its code and of all that it is lent: its `ensures`, word for word. Names with ′ stand for what is left.
+use mathlib.Core.Path.{_≡_}
+use mathlib.Core.List.{List}
+use Prim.Native.Nat.{ℕ, zero, suc, _≤_}
+use lib.IntN.{ℤ}
+use Rattle.results.specs.Results.{answered}
+use Rattle.model.specs.Check.{Verdict, verdict, answerOf}
+use Rattle.model.specs.Check.Verdict.{refusal, accepted}
+use Rattle.standing.specs.Runs.{run}
+use Rattle.steps.specs.Answers.{onFile, onFileAnswer}
+use Rattle.steps.specs.Calls as calls
+use Rattle.inspection.specs.Queries as queries
+use Rattle.run.specs.declared.Picked.{Picked}
+use Rattle.run.specs.Promises.{seenCheck, PickPromise}
+use Rattle.capi.specs.Codes.{codedBy, codedRounds, codedNumber, codedSizes, codedPick}
+
+-- the cell of the round count, by the code. 01: "so it is at most F + 1"
+unfoldable pub CellBounded : Verdict → ℕ → ℕ → Type 0
+CellBounded (refusal n) code rounds = Unit {0}
+CellBounded (accepted z t) zero rounds = (1 ≤ rounds) × (rounds ≤ suc (z .flows))
+CellBounded (accepted z t) (suc code) rounds = Unit {0}
+
+abbrev pub CheckCoded : List ℕ → List ℕ → ℕ → List ℕ → Type 0
+CheckCoded m sizes code sizes′ = answered code sizes′ ≡ codedSizes sizes (seenCheck (answerOf (verdict m)))
+
+-- the history is not lent to start
+abbrev pub StartCoded : List ℕ → List ℤ → ℕ → ℕ → ℕ → List ℤ → ℕ → ℕ → Type 0
+StartCoded m values n rounds code values′ n′ rounds′ =
+    ((history : List ℕ) → answered code (run values′ history n′, rounds′)
+    ≡ codedRounds rounds (onFile (verdict m) (λ m. calls.start m (run values history n)) (run values history n)))
+    × CellBounded (verdict m) code rounds′
+
+abbrev pub FireCoded : List ℕ → List ℤ → List ℕ → ℕ → ℕ → ℕ → ℕ → List ℤ → List ℕ → ℕ → ℕ → Type 0
+FireCoded m values history n t rounds code values′ history′ n′ rounds′ =
+    (answered code (run values′ history′ n′, rounds′)
+    ≡ codedRounds rounds (onFile (verdict m) (λ m. calls.fire m t (run values history n)) (run values history n)))
+    × CellBounded (verdict m) code rounds′
+
+abbrev pub UndoCoded : List ℕ → List ℤ → List ℕ → ℕ → ℕ → List ℤ → ℕ → Type 0
+UndoCoded m values history n code values′ n′ =
+    answered code (run values′ history n′)
+    ≡ codedBy (onFile (verdict m) (λ m. calls.undo m (run values history n)) (run values history n))
+
+abbrev pub MarksCoded : List ℕ → List ℤ → List ℕ → ℕ → List ℕ → ℕ → List ℕ → Type 0
+MarksCoded m values history n marks code marks′ =
+    answered code marks′ ≡ codedBy (onFile (verdict m) (λ m. queries.marks m (run values history n) marks) marks)
+
+abbrev pub ValueCoded : List ℕ → List ℤ → List ℕ → ℕ → ℕ → ℤ → ℕ → ℤ → Type 0
+ValueCoded m values history n x value code value′ =
+    answered code value′ ≡ codedNumber value (onFileAnswer (verdict m) (λ m. queries.value m x (run values history n)))
+
+-- which transition is picked is left free, as in crate `run`
+pub record PickCoded (m : List ℕ) (values : List ℤ) (history : List ℕ) (n transition found code transition′ found′ : ℕ) : Type 0 where
+  pub picked : Picked
+  pub by : PickPromise m values history n picked
+  pub same : answered code (transition′, found′) ≡ codedPick (transition, found) picked

@@ -1,0 +1,5 @@
+-- Definitions and statements of crate `commands`.
+-- 01's own:
+pub mod Commands
+-- statements:
+pub mod Theorems

@@ -1,0 +1,9 @@
+pub mod Accepted
+pub mod Decoded
+pub mod Filling
+pub mod Handed
+pub mod InUse
+pub mod Places
+pub mod Preparing
+pub mod StoredGuards
+pub mod StoredVariables

@@ -1,0 +1,2 @@
+-- Proofs of crate `kinds`: the rule of the table.
+pub mod Follows

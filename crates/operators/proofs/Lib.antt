@@ -1,0 +1,2 @@
+-- Proofs of crate `operators`: what the functions are proved by.
+pub mod Operators

@@ -1,0 +1,81 @@
+-- The operators at each form of their operands, with values as they are read back from their bits.
+use mathlib.Core.Path.{_≡_, _∙_}
+use mathlib.Core.Bool.{Bool, true, false, cond, or-false}
+use Prim.Native.Nat.{_<_, _^_}
+use lib.IntN.{ℤ}
+use lib.Signed.{mag}
+use mir.Syntax.{w32}
+use mir.Val.{SFits}
+use Rattle.evaluation.specs.declared.Evaluation.{Evaluation}
+use Rattle.evaluation.specs.declared.Evaluation.the-variants.{Unknown, Failed, Value}
+use Rattle.evaluation.specs.declared.Operator.{Operator}
+use Rattle.evaluation.specs.Meaning.{operated, decides, decisive, decision, isUnknown, isFailed, number, calculated}
+use Rattle.evaluation.proofs.Signed.{stored, read-back, read-both, read-test}
+
+-- one operand is a value
+module _ (op : Operator) (other : Evaluation) {v : ℤ} (f : SFits w32 v) {t : Bool} (test : t ≡ decisive op (stored v)) where
+  pub beside-decides : {r : Evaluation} → t ≡ true → r ≡ Value (decision op) → r ≡ cond (decisive op v) (Value (decision op)) other
+  beside-decides e h = rw (read-test (decisive op) f test e) h
+
+  pub beside-leaves : t ≡ false → other ≡ cond (decisive op v) (Value (decision op)) other
+  beside-leaves e = rw (read-test (decisive op) f test e)
+
+-- both are values: the left one decides, the right one, or neither
+module _ (op : Operator) {x y : ℤ} (f : SFits w32 x) (g : SFits w32 y) {r : Evaluation}
+    {t : Bool} (test : t ≡ decisive op (stored x)) where
+  pub left-decides : t ≡ true → r ≡ Value (decision op) → r ≡ operated op (Value x) (Value y)
+  unfolding operated decides
+  left-decides e h = rw (read-test (decisive op) f test e) h
+
+  module _ {u : Bool} (e : t ≡ false) (test′ : u ≡ decisive op (stored y)) where
+    pub right-decides : u ≡ true → r ≡ Value (decision op) → r ≡ operated op (Value x) (Value y)
+    unfolding operated decides
+    right-decides e′ h = rw (read-test (decisive op) f test e, read-test (decisive op) g test′ e′) h
+
+    pub neither-decides : u ≡ false → r ≡ calculated op (stored x) (stored y) → r ≡ operated op (Value x) (Value y)
+    unfolding operated decides isUnknown isFailed number
+    neither-decides e′ h =
+        rw (read-test (decisive op) f test e, read-test (decisive op) g test′ e′) (h ∙ read-both (calculated op) f g)
+
+-- any two evaluations
+module _ (op : Operator) {a b : Evaluation} where
+  pub unknown-unknown : a ≡ Unknown → b ≡ Unknown → Unknown ≡ operated op a b
+  unfolding operated decides isUnknown
+  unknown-unknown p q = rw (p, q)
+
+  pub unknown-failed : a ≡ Unknown → b ≡ Failed → Unknown ≡ operated op a b
+  unfolding operated decides isUnknown
+  unknown-failed p q = rw (p, q)
+
+  pub failed-unknown : a ≡ Failed → b ≡ Unknown → Unknown ≡ operated op a b
+  unfolding operated decides isUnknown
+  failed-unknown p q = rw (p, q)
+
+  pub failed-failed : a ≡ Failed → b ≡ Failed → Failed ≡ operated op a b
+  unfolding operated decides isUnknown isFailed
+  failed-failed p q = rw (p, q)
+
+  module _ {r : Evaluation} {v : ℤ} (h : mag v < 2 ^ 31) where
+    pub unknown-value : a ≡ Unknown → b ≡ Value v
+        → r ≡ cond (decisive op (stored v)) (Value (decision op)) Unknown → r ≡ operated op a b
+    unfolding operated decides isUnknown
+    unknown-value p q e = e ∙ rw (p, q, read-back v h)
+
+    pub failed-value : a ≡ Failed → b ≡ Value v
+        → r ≡ cond (decisive op (stored v)) (Value (decision op)) Failed → r ≡ operated op a b
+    unfolding operated decides isUnknown isFailed
+    failed-value p q e = e ∙ rw (p, q, read-back v h)
+
+    pub value-unknown : a ≡ Value v → b ≡ Unknown
+        → r ≡ cond (decisive op (stored v)) (Value (decision op)) Unknown → r ≡ operated op a b
+    unfolding operated decides isUnknown
+    value-unknown p q e = e ∙ rw (p, q, read-back v h, or-false (decisive op v))
+
+    pub value-failed : a ≡ Value v → b ≡ Failed
+        → r ≡ cond (decisive op (stored v)) (Value (decision op)) Failed → r ≡ operated op a b
+    unfolding operated decides isUnknown isFailed
+    value-failed p q e = e ∙ rw (p, q, read-back v h, or-false (decisive op v))
+
+  pub value-value : {r : Evaluation} {x y : ℤ} → mag x < 2 ^ 31 → mag y < 2 ^ 31 → a ≡ Value x → b ≡ Value y
+      → r ≡ operated op (Value (stored x)) (Value (stored y)) → r ≡ operated op a b
+  value-value {x} {y} f g p q e = e ∙ rw (p, q, read-back x f, read-back y g)

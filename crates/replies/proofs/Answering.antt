@@ -1,0 +1,156 @@
+-- Lines at the beginning of a slice; answers and commands by cases.
+use mathlib.Core.Path.{_≡_, refl, sym, ap, _∙_}
+use mathlib.Core.Bool.{Bool, true, false, true≢false, cond, not, _&&_, _||_}
+use mathlib.Core.List.{List}
+use Prim.Native.Nat.{ℕ, _≤_}
+use native.Mathlib.Omega.{arith}
+use borrow.Author.Tests.{ltb-false, le-ltb}
+use lib.Dec.{ltb}
+use lib.IntN.{ℤ}
+use lib.ListN.{length}
+use Rattle.results.specs.Results.{answered}
+use Rattle.model.specs.declared.Sizes.{Sizes}
+use Rattle.steps.specs.declared.Answer as answer
+use Rattle.run.specs.declared.Call.the-variants as calls
+use Rattle.standing.specs.Runs.{Store, Answer, Done}
+use Rattle.standing.specs.Runs as runs
+use Rattle.run.specs.Lists.{call}
+use Rattle.steps.specs.Answers.{seen}
+use Rattle.commands.specs.declared.Command.{Command}
+use Rattle.commands.specs.declared.Command.the-variants.{Fire, Undo, Marks, Unknown}
+use Rattle.lines.specs.declared.Written.the-variants.{Length, TooShort}
+use Rattle.lines.specs.Lines.{okText, backText, marksText, refusalText, room, valueWidth, markWidth, Output, writtenInto, lineInto}
+use Rattle.replies.specs.Replies.{Reply, runText, lookText, noCommand, runReply, lookReply, reply, opening, isAccepted, isStarted}
+use Rattle.replies.specs.Printing.{lacksRoom, isShort, textInto, replyInto}
+
+-- ---- room
+
+module _ (size values marks : ℕ) {r : Bool} (e : r ≡ ltb size (room valueWidth values)) where
+  pub short-of-values : r ≡ true → true ≡ lacksRoom size values marks
+  short-of-values t = sym (ap (λ (x : Bool). x || ltb size (room markWidth marks)) (sym e ∙ t))
+
+  pub short-of-marks : r ≡ false → {q : Bool} → q ≡ ltb size (room markWidth marks) → q ≡ lacksRoom size values marks
+  short-of-marks t f = f ∙ sym (ap (λ (x : Bool). x || ltb size (room markWidth marks)) (sym e ∙ t))
+
+neither : (a b : Bool) → (a || b) ≡ false → (a ≡ false) × (b ≡ false)
+neither true b e = absurd (true≢false e)
+neither false b e = (refl, e)
+
+pub rooms : (size values marks : ℕ) → lacksRoom size values marks ≡ false → (room valueWidth values ≤ size) × (room markWidth marks ≤ size)
+rooms size values marks e =
+    let n = neither (ltb size (room valueWidth values)) (ltb size (room markWidth marks)) e in
+    (ltb-false size (room valueWidth values) (n .0), ltb-false size (room markWidth marks) (n .1))
+
+-- ---- a line at the beginning of a slice
+
+line-printed : (asked : ℕ) (text old : List ℕ) {o : Output} → asked ≤ length old → o ≡ lineInto asked text old → o ≡ textInto text old
+unfolding lineInto
+line-printed asked text old h e = rw (le-ltb (length old) asked h) at e
+
+pub refusal-printed : (n : ℕ) (old : List ℕ) {o : Output} → 24 ≤ length old → o ≡ lineInto (room markWidth 0) (refusalText n) old
+    → o ≡ textInto (refusalText n) old
+refusal-printed n old h e = line-printed (room markWidth 0) (refusalText n) old h e
+
+module _ {a : answer.Answer} {o : Output} (out : List ℕ) (values : List ℤ) (h : room valueWidth (length values) ≤ length out) where
+  pub run-refused : {n : ℕ} → a ≡ answer.the-variants.Refused n → o ≡ lineInto (room markWidth 0) (refusalText n) out
+      → o ≡ textInto (runText (seen a) values) out
+  unfolding runText seen
+  run-refused {n} e p = rw e (refusal-printed n out (omega arith) p)
+
+  pub run-rounds : {n : ℕ} → a ≡ answer.the-variants.Rounds n → o ≡ lineInto (room valueWidth (length values)) (okText n values) out
+      → o ≡ textInto (runText (seen a) values) out
+  unfolding runText seen
+  run-rounds {n} e p = rw e (line-printed (room valueWidth (length values)) (okText n values) out h p)
+
+  pub run-done : a ≡ answer.the-variants.Done → o ≡ lineInto (room valueWidth (length values)) (backText values) out
+      → o ≡ textInto (runText (seen a) values) out
+  unfolding runText seen
+  run-done e p = rw e (line-printed (room valueWidth (length values)) (backText values) out h p)
+
+-- a value and sizes are no answers of start, fire and undo
+module _ {a : answer.Answer} (out : List ℕ) (values : List ℤ) where
+  pub run-number : {v : ℤ} → a ≡ answer.the-variants.Number v → writtenInto (Length 0) out ≡ textInto (runText (seen a) values) out
+  unfolding runText seen
+  run-number e = rw e
+
+  pub run-sizes : {z : Sizes} → a ≡ answer.the-variants.Sizes z → writtenInto (Length 0) out ≡ textInto (runText (seen a) values) out
+  unfolding runText seen
+  run-sizes e = rw e
+
+module _ {a : answer.Answer} {o : Output} (out : List ℕ) (marks : List ℕ) (h : room markWidth (length marks) ≤ length out) where
+  pub look-refused : {n : ℕ} → a ≡ answer.the-variants.Refused n → o ≡ lineInto (room markWidth 0) (refusalText n) out
+      → o ≡ textInto (lookText (seen a) marks) out
+  unfolding lookText seen
+  look-refused {n} e p = rw e (refusal-printed n out (omega arith) p)
+
+  pub look-done : a ≡ answer.the-variants.Done → o ≡ lineInto (room markWidth (length marks)) (marksText marks) out
+      → o ≡ textInto (lookText (seen a) marks) out
+  unfolding lookText seen
+  look-done e p = rw e (line-printed (room markWidth (length marks)) (marksText marks) out h p)
+
+-- a round count, a value and sizes are no answers of marks
+module _ {a : answer.Answer} (out : List ℕ) (marks : List ℕ) where
+  pub look-rounds : {n : ℕ} → a ≡ answer.the-variants.Rounds n → writtenInto (Length 0) out ≡ textInto (lookText (seen a) marks) out
+  unfolding lookText seen
+  look-rounds e = rw e
+
+  pub look-number : {v : ℤ} → a ≡ answer.the-variants.Number v → writtenInto (Length 0) out ≡ textInto (lookText (seen a) marks) out
+  unfolding lookText seen
+  look-number e = rw e
+
+  pub look-sizes : {z : Sizes} → a ≡ answer.the-variants.Sizes z → writtenInto (Length 0) out ≡ textInto (lookText (seen a) marks) out
+  unfolding lookText seen
+  look-sizes e = rw e
+
+-- ---- a slice that is too short: nothing is done
+
+module _ (out : List ℕ) (s : Store) (e : isShort out s ≡ true) where
+  pub short-reply : (r : Reply) → answered (writtenInto TooShort out) s ≡ replyInto out s r
+  unfolding replyInto
+  short-reply r = sym (ap (λ (b : Bool). cond b (answered (writtenInto TooShort out) s) (answered (textInto (r .answer) out) (r .left))) e)
+
+  pub short-started : (b : Bool) → false ≡ (not (isShort out s) && b)
+  short-started b = sym (ap (λ (x : Bool). not x && b) e)
+
+-- ---- a slice with room
+
+module _ (out : List ℕ) (s : Store) (e : isShort out s ≡ false) where
+  pub replied-whole : (r : Reply) → replyInto out s r ≡ answered (textInto (r .answer) out) (r .left)
+  unfolding replyInto
+  replied-whole r = ap (λ (b : Bool). cond b (answered (writtenInto TooShort out) s) (answered (textInto (r .answer) out) (r .left))) e
+
+  pub roomy-reply : {o : Output} {x : Reply} (y : Reply) → x ≡ y → o ≡ textInto (x .answer) out → answered o (x .left) ≡ replyInto out s y
+  roomy-reply {o} {x} y q p =
+      ap (λ (o : Output). answered o (x .left)) p ∙ ap (λ (r : Reply). answered (textInto (r .answer) out) (r .left)) q ∙ sym (replied-whole y)
+
+  pub roomy-started : {b : Bool} (c : Bool) → b ≡ c → b ≡ (not (isShort out s) && c)
+  roomy-started c q = q ∙ sym (ap (λ (x : Bool). not x && c) e)
+
+-- ---- commands
+
+module _ (m : List ℕ) (c : Command) (s : Store) where
+  pub unknown-reply : c ≡ Unknown → answered (refusalText noCommand) s ≡ reply m c s
+  unfolding reply
+  unknown-reply e = sym (ap (λ x. reply m x s) e)
+
+  module _ {a : Answer} {s′ : Store} where
+    pub fire-reply : {t : ℕ} → c ≡ Fire t → runs.answered a s′ ≡ call m (calls.Fire t) s → runReply (runs.answered a s′) ≡ reply m c s
+    unfolding reply
+    fire-reply e p = ap runReply p ∙ sym (ap (λ x. reply m x s) e)
+
+    pub undo-reply : c ≡ Undo → runs.answered a s′ ≡ call m calls.Undo s → runReply (runs.answered a s′) ≡ reply m c s
+    unfolding reply
+    undo-reply e p = ap runReply p ∙ sym (ap (λ x. reply m x s) e)
+
+    pub marks-reply : c ≡ Marks → runs.answered a s′ ≡ call m calls.Marks s → lookReply (runs.answered a s′) ≡ reply m c s
+    unfolding reply
+    marks-reply e p = ap lookReply p ∙ sym (ap (λ x. reply m x s) e)
+
+-- ---- the start
+
+module _ (m : List ℕ) (s : Store) {a : Answer} {s′ : Store} (p : runs.answered a s′ ≡ call m calls.Start s) where
+  pub start-reply : runReply (runs.answered a s′) ≡ opening m s
+  start-reply = ap runReply p
+
+  pub start-accepted : {b : Bool} → b ≡ isAccepted a → b ≡ isStarted m s
+  start-accepted q = q ∙ ap (λ (d : Done Store). isAccepted (d .answer)) p

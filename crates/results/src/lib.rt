@@ -1,0 +1,1 @@
+// What every promise is made of. Definitions alone: there is no code.

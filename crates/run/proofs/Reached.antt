@@ -1,0 +1,90 @@
+-- What each function promises gives the promise of its call: theorem CallsReached. Every list has results: theorem PerformancesExist.
+use mathlib.Core.Path.{_≡_, refl, ap, _∙_}
+use mathlib.Core.List.{List, [], _∷_}
+use Prim.Native.Nat.{ℕ}
+use Rattle.model.specs.declared.Sizes.{Sizes}
+use Rattle.model.specs.declared.Checked.{Checked}
+use Rattle.model.specs.Check.{Verdict, verdict, answerOf}
+use Rattle.model.specs.Check.Verdict.{refusal, accepted}
+use Rattle.semantics.specs.Meanings.{Meaning, meaningOf}
+use Rattle.run.specs.declared.Call.{Call}
+use Rattle.run.specs.declared.Call.the-variants.{Check, Start, Fire, Undo, Marks, Value}
+use Rattle.standing.specs.Runs.{Run, Store, Answer, Done, run, store, answered}
+use Rattle.steps.specs.Answers.{seen, onFile, onFileAnswer}
+use Rattle.steps.specs.Calls as calls
+use Rattle.inspection.specs.Queries as queries
+use Rattle.run.specs.Lists.{onRun, onMarks, callOn, callBy, call, callsOf}
+use Rattle.run.specs.Lists.Performed.{nothing, next}
+use Rattle.run.specs.Promises.{seenCheck}
+use Rattle.run.specs.Theorems.{CallsReached, PerformancesExist}
+
+module _ (s : Store) where
+  pub check-reached : (v : Verdict) (r : Checked) → r ≡ answerOf v → answered (seenCheck r) s ≡ callBy v Check s
+  unfolding answerOf callBy callOn seenCheck
+  check-reached (refusal n) r e = ap (λ r. answered (seenCheck r) s) e
+  check-reached (accepted z t) r e = ap (λ r. answered (seenCheck r) s) e
+
+  -- a call that is lent the run
+  pub run-reached : (c : Call) (f : Meaning → Done Run) → ((z : Sizes) (m : Meaning) → onRun s (f m) ≡ callOn z m c s)
+      → (v : Verdict) (a : Answer) (left : Run) → answered a left ≡ onFile v f (s .run) → answered a (store left (s .marks)) ≡ callBy v c s
+  unfolding onFile callBy
+  run-reached c f same v a left e = ap (onRun s) e ∙ go v
+    where
+      go : (v : Verdict) → onRun s (onFile v f (s .run)) ≡ callBy v c s
+      go (refusal n) = refl
+      go (accepted z t) = same z (meaningOf t)
+
+  pub marks-reached : (v : Verdict) (a : Answer) (left : List ℕ) → answered a left ≡ onFile v (λ m. queries.marks m (s .run) (s .marks)) (s .marks)
+      → answered a (store (s .run) left) ≡ callBy v Marks s
+  unfolding onFile callBy callOn
+  marks-reached v a left e = ap (onMarks s) e ∙ go v
+    where
+      go : (v : Verdict) → onMarks s (onFile v (λ m. queries.marks m (s .run) (s .marks)) (s .marks)) ≡ callBy v Marks s
+      go (refusal n) = refl
+      go (accepted z t) = refl
+
+  pub value-reached : (x : ℕ) (v : Verdict) (a : Answer) → a ≡ onFileAnswer v (λ m. queries.value m x (s .run)) → answered a s ≡ callBy v (Value x) s
+  unfolding onFileAnswer callBy callOn
+  value-reached x v a e = ap (λ a. answered a s) e ∙ go v
+    where
+      go : (v : Verdict) → answered (onFileAnswer v (λ m. queries.value m x (s .run))) s ≡ callBy v (Value x) s
+      go (refusal n) = refl
+      go (accepted z t) = refl
+
+-- ---- the calls that are lent the run, on a file
+
+module _ (m : List ℕ) (s : Store) (a : Answer) (left : Run) where
+  pub start-reached : answered a left ≡ onFile (verdict m) (λ m. calls.start m (s .run)) (s .run)
+      → answered a (store left (s .marks)) ≡ call m Start s
+  unfolding callOn
+  start-reached = run-reached s Start (λ m. calls.start m (s .run)) (λ z m. refl) (verdict m) a left
+
+  pub fire-reached : (t : ℕ) → answered a left ≡ onFile (verdict m) (λ m. calls.fire m t (s .run)) (s .run)
+      → answered a (store left (s .marks)) ≡ call m (Fire t) s
+  unfolding callOn
+  fire-reached t = run-reached s (Fire t) (λ m. calls.fire m t (s .run)) (λ z m. refl) (verdict m) a left
+
+  pub undo-reached : answered a left ≡ onFile (verdict m) (λ m. calls.undo m (s .run)) (s .run)
+      → answered a (store left (s .marks)) ≡ call m Undo s
+  unfolding callOn
+  undo-reached = run-reached s Undo (λ m. calls.undo m (s .run)) (λ z m. refl) (verdict m) a left
+
+-- ---- the theorems
+
+pub calls-reached : CallsReached
+calls-reached = record {
+  check = λ m s r e. check-reached s (verdict m) r e;
+  start = λ m values history n held r values′ n′ e.
+      start-reached m (store (run values history n) held) (seen r) (run values′ history n′) (e .0 history);
+  fire = λ m values history n t held r values′ history′ n′ e.
+      fire-reached m (store (run values history n) held) (seen r) (run values′ history′ n′) t (e .0);
+  undo = λ m values history n held r values′ n′ e.
+      undo-reached m (store (run values history n) held) (seen r) (run values′ history n′) e;
+  marks = λ m values history n held r held′ e. marks-reached (store (run values history n) held) (verdict m) (seen r) held′ e;
+  value = λ m values history n x held r e. value-reached (store (run values history n) held) x (verdict m) (seen r) e;
+}
+
+pub performances-exist : PerformancesExist
+unfolding callsOf
+performances-exist m [] s = nothing
+performances-exist m (c ∷ cs) s = next refl (performances-exist m cs (call m c s .left))

@@ -1,0 +1,56 @@
+-- What each function promises of its answer and of all that it is lent: its `ensures`, word for word. 01: "Each promise is an equation
+-- with these definitions, for all arguments, and covers every cell lent". Names with ′ stand for what is left.
+use mathlib.Core.Path.{_≡_}
+use mathlib.Core.List.{List}
+use Prim.Native.Nat.{ℕ}
+use lib.IntN.{ℤ}
+use Rattle.model.specs.declared.Checked.{Checked}
+use Rattle.model.specs.declared.Checked.the-variants.{Refused, Accepted}
+use Rattle.model.specs.Check.{verdict, answerOf}
+use Rattle.run.specs.declared.Call.{Call}
+use Rattle.run.specs.declared.Picked.{Picked}
+use Rattle.steps.specs.declared.Answer as declared
+use Rattle.standing.specs.Runs.{Answer, Store, run, answered}
+use Rattle.standing.specs.Runs.Answer.{refused, sizes}
+use Rattle.steps.specs.Answers.{seen, onFile, onFileAnswer}
+use Rattle.steps.specs.Calls as calls
+use Rattle.inspection.specs.Queries as queries
+use Rattle.run.specs.Lists.{CountBounded, PickedBy, Promise}
+
+-- the check's answers, by 01's numbers and values
+unfoldable pub seenCheck : Checked → Answer
+seenCheck (Refused n) = refused n
+seenCheck (Accepted z) = sizes z
+
+abbrev pub CheckPromise : List ℕ → Checked → Type 0
+CheckPromise m r = r ≡ answerOf (verdict m)
+
+-- the history is not lent to start
+abbrev pub StartPromise : List ℕ → List ℤ → ℕ → declared.Answer → List ℤ → ℕ → Type 0
+StartPromise m values n r values′ n′ =
+    ((history : List ℕ)
+    → answered (seen r) (run values′ history n′) ≡ onFile (verdict m) (λ m. calls.start m (run values history n)) (run values history n))
+    × CountBounded (verdict m) (seen r)
+
+abbrev pub FirePromise : List ℕ → List ℤ → List ℕ → ℕ → ℕ → declared.Answer → List ℤ → List ℕ → ℕ → Type 0
+FirePromise m values history n t r values′ history′ n′ =
+    (answered (seen r) (run values′ history′ n′) ≡ onFile (verdict m) (λ m. calls.fire m t (run values history n)) (run values history n))
+    × CountBounded (verdict m) (seen r)
+
+abbrev pub UndoPromise : List ℕ → List ℤ → List ℕ → ℕ → declared.Answer → List ℤ → ℕ → Type 0
+UndoPromise m values history n r values′ n′ =
+    answered (seen r) (run values′ history n′) ≡ onFile (verdict m) (λ m. calls.undo m (run values history n)) (run values history n)
+
+abbrev pub MarksPromise : List ℕ → List ℤ → List ℕ → ℕ → List ℕ → declared.Answer → List ℕ → Type 0
+MarksPromise m values history n marks r marks′ =
+    answered (seen r) marks′ ≡ onFile (verdict m) (λ m. queries.marks m (run values history n) marks) marks
+
+abbrev pub ValuePromise : List ℕ → List ℤ → List ℕ → ℕ → ℕ → declared.Answer → Type 0
+ValuePromise m values history n x r = seen r ≡ onFileAnswer (verdict m) (λ m. queries.value m x (run values history n))
+
+abbrev pub PickPromise : List ℕ → List ℤ → List ℕ → ℕ → Picked → Type 0
+PickPromise m values history n r = PickedBy (verdict m) (run values history n) r
+
+-- one call, given by value, over all that is lent
+abbrev pub PerformPromise : List ℕ → Call → Store → declared.Answer → Store → Type 0
+PerformPromise m c s r s′ = Promise m c s (answered (seen r) s′) × CountBounded (verdict m) (seen r)

@@ -1,0 +1,2 @@
+-- Proofs of crate `standing`: what the functions are proved by.
+pub mod Holding

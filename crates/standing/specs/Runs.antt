@@ -1,0 +1,51 @@
+-- 01, "The calls on a run": "A run is a values slice [..], a record slice of transition numbers (bytes), and a count n of recorded
+-- steps." The record slice is called the history here.
+use mathlib.Core.List.{List}
+use Prim.Native.Nat.{ℕ}
+use lib.IntN.{ℤ}
+use Rattle.model.specs.declared.Sizes.{Sizes}
+use Rattle.results.specs.Results.{Answered}
+pub use Rattle.results.specs.Results.{answered}
+
+pub record Run : Type 0 where
+  pub values : List ℤ
+  pub history : List ℕ
+  pub count : ℕ
+
+-- all that is lent beside the model
+pub record Store : Type 0 where
+  pub run : Run
+  pub marks : List ℕ
+
+abbrev pub run : List ℤ → List ℕ → ℕ → Run
+run values history count = record { values = values; history = history; count = count }
+
+abbrev pub store : Run → List ℕ → Store
+store r marks = record { run = r; marks = marks }
+
+abbrev pub withValues : List ℤ → Run → Run
+withValues values r = run values (r .history) (r .count)
+
+abbrev pub withHistory : List ℕ → Run → Run
+withHistory history r = run (r .values) history (r .count)
+
+abbrev pub withCount : ℕ → Run → Run
+withCount count r = run (r .values) (r .history) count
+
+abbrev pub withRun : Run → Store → Store
+withRun r s = store r (s .marks)
+
+abbrev pub withMarks : List ℕ → Store → Store
+withMarks marks s = store (s .run) marks
+
+-- 01's answers: the number of a refusal, the round count, that it was done, a value, the five sizes
+pub data Answer : Type 0 where
+  refused : ℕ → Answer
+  rounds : ℕ → Answer
+  done : Answer
+  number : ℤ → Answer
+  sizes : Sizes → Answer
+
+-- an answer with what is left of a thing that was lent
+abbrev pub Done : Type 0 → Type 0
+Done A = Answered Answer A

@@ -1,0 +1,3 @@
+-- Proofs of crate `variables`.
+pub mod Columns
+pub mod Storing
