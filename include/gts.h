@@ -22,9 +22,10 @@
 extern "C" {
 #endif
 
-/* The version of this header: the first number rises when a call changes, the second when one is added. */
+/* The version of this header: the first number rises when a caller must change, the second when a call is added or
+ * promises more. 1.1: gts_pick answers the lowest. */
 #define GTS_VERSION_MAJOR 1
-#define GTS_VERSION_MINOR 0
+#define GTS_VERSION_MINOR 1
 
 /* The largest model. */
 #define GTS_MAX_NODES 4000
@@ -95,7 +96,7 @@ uint8_t gts_marks(const uint8_t *model, size_t len, const int32_t *values, size_
 /* The value of a variable. Refuses by 1 to 8, 9, 12, 20. */
 uint8_t gts_value(const uint8_t *model, size_t len, const int32_t *values, size_t values_len, const uint8_t *history, size_t history_len, size_t n, size_t variable, int32_t *value);
 
-/* Some transition whose mark is 1: `found` is 1. Where there is none, `found` is 0 and `transition` keeps its content.
+/* The lowest transition whose mark is 1: `found` is 1. Where there is none, `found` is 0 and `transition` keeps its content.
  * Refuses by 1 to 8, 9, 20. */
 uint8_t gts_pick(const uint8_t *model, size_t len, const int32_t *values, size_t values_len, const uint8_t *history, size_t history_len, size_t n, size_t *transition, uint8_t *found);
 

@@ -1,9 +1,9 @@
 #!/usr/bin/env python3
 """cases.py VECTORS: writes the stored cases of the test programs, from the files of the folder VECTORS.
 
-check_cases: VECTORS/checks.txt and the edges below; call_cases: VECTORS/calls.txt and the extremes below; program_cases:
-VECTORS/programs.txt. The cases of NAME go to crates/NAME/data/cases and the expected output to crates/NAME/stdout. The byte format is
-described in crates/NAME/src/main.rt.
+check_cases: VECTORS/checks.txt and the edges below; call_cases: VECTORS/A1/calls.txt, the extremes and the picks below;
+program_cases: VECTORS/programs.txt. The cases of NAME go to crates/NAME/data/cases and the expected output to crates/NAME/stdout. The
+byte format is described in crates/NAME/src/main.rt.
 """
 import os
 import sys
@@ -259,16 +259,15 @@ def store_bytes(store):
 
 def call_bytes(call, wanted, store):
     """A call, as ('fire', 3), its wanted answer, as ('ok', 2), and the store afterwards."""
-    allowed = bytes(wanted[1:]) if wanted[0] == 'pick' else b''
     if wanted[0] == 'sizes':
         number = bytes(wanted[1:5]) + little(wanted[5], 2) + bytes(2)
-    elif wanted[0] in ('pick', 'done', 'none'):
+    elif wanted[0] in ('done', 'none'):
         number = bytes(8)
     else:
         number = little(wanted[1], 8)
     argument = call[1] if len(call) == 2 else 0
-    header = bytes([CALLS[call[0]], FORMS[wanted[0]]]) + little(len(allowed), 2) + bytes(4)
-    return header + little(argument, 8) + number + little(store[2], 8) + allowed + store_bytes(store)
+    header = bytes([CALLS[call[0]], FORMS[wanted[0]]]) + bytes(6)
+    return header + little(argument, 8) + number + little(store[2], 8) + store_bytes(store)
 
 
 def list_bytes(file, twin, store, calls):
@@ -289,8 +288,9 @@ def stored_calls(path):
                     begin = (part['values'], part['record'], part['n'], part['marks'])
                 calls.append([(words[1], *map(int, words[2:]))])
             elif words[0] == 'want':
-                rest = [int(w) for w in words[2:]]
-                calls[-1].append((words[1], *(rest[1:] if words[1] == 'pick' else rest)))
+                rest = numbers(words[1:]) if words[1] == 'pick' else [int(w) for w in words[2:]]
+                assert words[1] != 'pick' or len(rest) == 1
+                calls[-1].append((words[1], *rest))
             elif words[0] == 'end':
                 lists.append((bytes(part['model']), bytes(part['twin']), begin, calls))
                 part, calls = {}, []
@@ -389,7 +389,7 @@ def largest_sizes():
     calls.append((('fire', 254), ('no', 23), (after(3), history, 3, marks)))
     marks = 4 * [1] + 251 * [0] + [3, 4]
     calls.append((('marks',), ('done',), (after(3), history, 3, marks)))
-    calls.append((('pick',), ('pick', 0, 1, 2, 3), (after(3), history, 3, marks)))
+    calls.append((('pick',), ('pick', 0), (after(3), history, 3, marks)))
     calls.append((('value', 257), ('value', 1), (after(3), history, 3, marks)))
     calls.append((('value', 510), ('no', 12), (after(3), history, 3, marks)))
     calls.append((('back',), ('done',), (after(2), history, 2, marks)))
@@ -431,6 +431,53 @@ def extremes():
     ]
 
 
+def guarded_by(head, guards, action):
+    """A model with one state and a transition for each guard, all with this action."""
+    transitions = [node for guard in guards for node in [(5, 0)] + guard + action]
+    return model(1, 0, 1, len(guards), head + transitions + [SKIP])
+
+
+def lowest():
+    """Picks along a run: the guards are 6 div x = 3, x < 2 and x not 3, and every step raises x by 1."""
+    head, x = [(2, 0), (3, 3), (4, 0)], (34, 0)
+    quotient, three = [(44, 0), (32, 6), x], [(32, 3)]
+    guards = [[(38, 0)] + quotient + three, [(39, 0), x, (32, 2)], [(35, 0), (38, 0), x] + three]
+    twin = [[(38, 0)] + three + quotient, guards[1], [(35, 0), (38, 0)] + three + [x]]
+    files = [guarded_by(head, guards, [(17, 0), (41, 0), x, (32, 1)]), guarded_by(head, twin, [(17, 0), (41, 0), (32, 1), x])]
+    stores = [([0, 7], [9, 9, 9], 0, []), ([1, 7], [1, 9, 9], 1, []), ([2, 7], [1, 2, 9], 2, []), ([3, 7], [1, 2, 0], 3, [])]
+    calls = [
+        (('pick',), ('pick', 1), stores[0]),  # marks 2 1 1, before any start
+        (('fire', 1), ('ok', 1), stores[1]),
+        (('pick',), ('pick', 1), stores[1]),  # marks 0 1 1
+        (('fire', 2), ('ok', 1), stores[2]),
+        (('pick',), ('pick', 0), stores[2]),  # marks 1 0 1
+        (('fire', 0), ('ok', 1), stores[3]),
+        (('pick',), ('none',), stores[3]),
+    ]
+    return (list_bytes(files[0], files[1], stores[0], calls), len(calls))
+
+
+def last_of_all(values, history, n, wanted):
+    """Pick alone, on a model of 255 transitions of which only the last can be fireable."""
+    both = [[(36, 0), (34, 0), TRUE], [(36, 0), TRUE, (34, 0)]]
+    files = [guarded_by([FLAG], 254 * [[(33, 0)]] + [last], [SKIP]) for last in both]
+    store = (values, history, n, [])
+    return (list_bytes(files[0], files[1], store, [(('pick',), wanted, store)]), 1)
+
+
+def picks():
+    """Lists for pick: the lowest of several, and what 9 and 20 look at, from both sides of each edge."""
+    return [
+        lowest(),
+        last_of_all([1], [254, 255], 1, ('pick', 254)),
+        last_of_all([0], [], 0, ('none',)),
+        last_of_all([], [], 0, ('no', 9)),
+        last_of_all([2], [], 0, ('no', 20)),
+        last_of_all([1], [254, 255], 2, ('no', 20)),
+        last_of_all([1], [254], 2, ('no', 20)),
+    ]
+
+
 def stored_programs(path):
     """The cases of programs.txt: three lengths of four bytes, the model file, the input, the output."""
     parts, cases = [], []
@@ -459,7 +506,7 @@ def main():
     vectors = lambda name: os.path.join(sys.argv[1], name)
     checks = stored_checks(vectors('checks.txt')) + edges()
     write('check_cases', checks, f'{len(checks)} cases, 0 differ')
-    lists = stored_calls(vectors('calls.txt')) + extremes()
+    lists = stored_calls(vectors('A1/calls.txt')) + extremes() + picks()
     calls = sum(number for _, number in lists)
     write('call_cases', [each for each, _ in lists], f'{len(lists)} lists, {2 * calls} calls, 0 differ')
     programs = stored_programs(vectors('programs.txt'))

@@ -65,13 +65,13 @@ pub enum Want {
     Done,
     Sizes([u32; 5]),
     Value(i32),
-    /// The transitions that may be picked, lowest first.
-    Pick(Vec<usize>),
+    /// The transition picked, or that there is none.
+    Pick(Option<usize>),
     Refused(u8),
 }
 
 impl Want {
-    /// Whether this answer and these results are the wanted ones; of the transitions the lowest is wanted.
+    /// Whether this answer and these results are the wanted ones.
     pub fn holds(&self, answer: u8, store: &Store) -> bool {
         match self {
             Want::Refused(number) => answer == *number,
@@ -80,10 +80,8 @@ impl Want {
             Want::Done => true,
             Want::Sizes(sizes) => store.sizes.cells() == sizes,
             Want::Value(value) => store.value.get() == *value,
-            Want::Pick(transitions) => match transitions.first() {
-                Some(&lowest) => store.found.get() == 1 && store.transition.get() == lowest,
-                None => store.found.get() == 0,
-            },
+            Want::Pick(Some(lowest)) => store.found.get() == 1 && store.transition.get() == *lowest,
+            Want::Pick(None) => store.found.get() == 0,
         }
     }
 }
@@ -255,6 +253,12 @@ fn call(source: &mut Source) -> CallCase {
     }
 }
 
+/// The one transition that pick answers.
+fn picked<'a>(mut words: impl Iterator<Item = &'a str>) -> usize {
+    assert_eq!(words.next(), Some("1"), "pick has one right answer");
+    number(words.next())
+}
+
 fn want(source: &mut Source) -> Want {
     let mut words = source.words("want");
     match words.next() {
@@ -262,8 +266,8 @@ fn want(source: &mut Source) -> Want {
         Some("done") => Want::Done,
         Some("sizes") => Want::Sizes(sizes(words)),
         Some("value") => Want::Value(number(words.next())),
-        Some("pick") => Want::Pick(words.skip(1).map(|word| number(Some(word))).collect()),
-        Some("none") => Want::Pick(Vec::new()),
+        Some("pick") => Want::Pick(Some(picked(words))),
+        Some("none") => Want::Pick(None),
         Some("no") => Want::Refused(number(words.next())),
         other => panic!("what a call wants: {other:?}"),
     }

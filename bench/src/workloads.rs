@@ -28,12 +28,13 @@ pub enum Work {
     /// Take back the last step of a run of so many steps.
     Undo(Vec<usize>, usize),
     Marks,
+    Pick,
 }
 
 /// A workload with its buffers, to be carried out many times.
 pub struct Prepared<'w> {
     workload: &'w Workload,
-    /// The run that undo and marks start from.
+    /// The run that undo, marks and pick start from.
     run: Run,
 }
 
@@ -132,6 +133,19 @@ impl Prepared<'_> {
                 );
                 marks.iter().map(|&mark| u64::from(mark)).sum()
             }
+            Work::Pick => {
+                let (mut transition, mut found) = (0, 0);
+                let answer = (engine.pick)(
+                    model,
+                    &run.values,
+                    &run.history,
+                    run.n,
+                    &mut transition,
+                    &mut found,
+                );
+                assert_eq!((answer, found), (0, 1));
+                transition as u64
+            }
         }
     }
 }
@@ -177,6 +191,11 @@ pub fn all() -> Vec<Workload> {
             Work::Undo(large_steps, STEPS),
         ),
         Workload::new("marks, 255 transitions", guards().encode(), Work::Marks),
+        Workload::new(
+            "pick, 255 transitions, the second fireable",
+            guards().encode(),
+            Work::Pick,
+        ),
         Workload::new(
             "deep inactive branches, 4,000 nodes, start and 200 fires",
             inactive(4_000).encode(),

@@ -1,4 +1,4 @@
-//! The scope document's examples and orders of refusal, by hand.
+//! The scope document's examples and orders of refusal, and the lowest pick of A1, by hand.
 
 use bench::program::gtsrun;
 use bench::reference::{self, Refusal, ENGINE};
@@ -355,6 +355,54 @@ fn orders_of_refusal() {
     assert_eq!(value(1, 2), Err(20));
     assert_eq!(value(0, 2), Ok(0));
     assert_eq!(reference::pick(&model, &[0, 0, 0], &[], 0), Ok(Some(1)));
+}
+
+/// A model with one Boolean state and a transition for each guard.
+fn guarded(guards: &[&[(u8, i32)]]) -> Vec<u8> {
+    let mut nodes = vec![(1, 0)];
+    for guard in guards {
+        nodes.push((5, 0));
+        nodes.extend(*guard);
+        nodes.push((16, 0));
+    }
+    nodes.push((16, 0));
+    file([1, 0, 1, guards.len() as u8], &nodes)
+}
+
+#[test]
+fn pick_answers_the_lowest() {
+    const NO: &[(u8, i32)] = &[(33, 0)];
+    const YES: &[(u8, i32)] = &[(33, 1)];
+    let pick = |guards: &[&[(u8, i32)]]| reference::pick(&guarded(guards), &[0], &[], 0);
+    // The lowest of several; a state of 0 is a guard that is false.
+    assert_eq!(pick(&[YES, YES, YES]), Ok(Some(0)));
+    assert_eq!(pick(&[&[(34, 0)], YES, YES]), Ok(Some(1)));
+    assert_eq!(pick(&[vec![NO; 254], vec![YES]].concat()), Ok(Some(254)));
+    // A failed guard below a true one.
+    assert_eq!(pick(&[&FAILED, YES]), Ok(Some(1)));
+    assert_eq!(pick(&[NO, &FAILED, NO, YES, YES]), Ok(Some(3)));
+    // None.
+    assert_eq!(pick(&[]), Ok(None));
+    assert_eq!(pick(&[NO]), Ok(None));
+    assert_eq!(pick(&[&FAILED, NO]), Ok(None));
+}
+
+#[test]
+fn refusals_and_results_of_pick() {
+    let file = guarded(&[&[(34, 0)], &[(34, 0)]]);
+    let pick = |values: &[i32], history: &[u8], n| {
+        let (mut transition, mut found) = (77, 9);
+        let answer = (ENGINE.pick)(&file, values, history, n, &mut transition, &mut found);
+        (answer, transition, found)
+    };
+    // 9, then 20: a value, an entry, n; entries from n on are not looked at.
+    assert_eq!(pick(&[], &[], 1), (9, 77, 9));
+    assert_eq!(pick(&[2], &[], 0), (20, 77, 9));
+    assert_eq!(pick(&[1], &[1, 2], 2), (20, 77, 9));
+    assert_eq!(pick(&[1], &[1, 2], 3), (20, 77, 9));
+    assert_eq!(pick(&[1], &[1, 2], 1), (0, 0, 1));
+    // None: the transition's cell stays.
+    assert_eq!(pick(&[0, 5], &[], 0), (0, 77, 0));
 }
 
 #[test]

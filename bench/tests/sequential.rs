@@ -1,5 +1,5 @@
-//! The definitions written once more, as plainly as can be, over the trees of random models: an action, and the
-//! assertion carried out by single assignments in any order. Both must end as the reference implementation does.
+//! The definitions written once more, as plainly as can be, over the trees of random models: an action, the
+//! assertion carried out by single assignments in any order, and pick. All must end as the reference implementation does.
 
 use bench::model_gen::{self, Shape};
 use bench::random::Random;
@@ -290,4 +290,30 @@ fn starts_and_fires_are_as_defined() {
     }
     println!("{fires} fires, {refused} refused");
     assert!(fires > 10_000 && refused > 3_000);
+}
+
+#[test]
+fn picks_are_the_lowest_true_guards() {
+    let mut random = Random::new(13);
+    let (mut first, mut later, mut none) = (0, 0, 0);
+    for _ in 0..4_000 {
+        let model = small_model(&mut random);
+        let values: Vec<i32> = model
+            .variables()
+            .map(|variable| random.within(variable.ends().0, variable.ends().1))
+            .collect();
+        let over: Valuation = values.iter().copied().map(Some).collect();
+        let mut guards = model.transitions.iter().map(|each| &each.guard);
+        let lowest = guards.position(|guard| evaluate(guard, &over) == Value(1));
+        for file in [model.encode(), model.shuffled(&mut random).encode()] {
+            assert_eq!(reference::pick(&file, &values, &[], 0), Ok(lowest));
+        }
+        match lowest {
+            Some(0) => first += 1,
+            Some(_) => later += 1,
+            None => none += 1,
+        }
+    }
+    println!("{first} picked first, {later} later, {none} none");
+    assert!(first > 500 && later > 500 && none > 200);
 }

@@ -57,7 +57,7 @@ fn lists_of_calls() {
             }
         }
     }
-    assert_eq!((cases.len(), calls), (400, 2 * 5829));
+    assert_eq!((cases.len(), calls), (200, 2 * 2929));
 }
 
 #[test]

@@ -7,7 +7,7 @@
 
 use std::process::ExitCode;
 
-use bench::calls::{Store, TABLE};
+use bench::calls::{Call, Store, TABLE};
 use bench::ffi::LIBRARY;
 use bench::guarded::Guarded;
 use bench::model_gen;
@@ -85,6 +85,44 @@ fn main() -> ExitCode {
     }
 }
 
+/// The same list of calls twice: on the library with a model or its twin, and on the Rust implementation with the model.
+struct Pair<'a> {
+    model: &'a [u8],
+    given: &'a [u8],
+    lent: Guarded<u8>,
+    expected: Store,
+    found: Store,
+}
+
+impl<'a> Pair<'a> {
+    fn new(model: &'a [u8], given: &'a [u8], store: &Store) -> Self {
+        Pair {
+            model,
+            given,
+            lent: Guarded::new(given),
+            expected: store.clone(),
+            found: store.clone(),
+        }
+    }
+
+    /// The library's answer to a call, and all that differs afterwards.
+    fn perform(&mut self, call: Call) -> (u8, Vec<String>) {
+        let wanted = call.perform(&ENGINE, self.model, &mut self.expected);
+        let answer = call.perform(&LIBRARY, self.lent.cells(), &mut self.found);
+        let mut wrong = self.expected.differences(&self.found);
+        if wanted != answer {
+            wrong.push(format!("answer: {wanted} / {answer}"));
+        }
+        if !self.found.intact() || !self.lent.intact() {
+            wrong.push("guard cells were written".to_string());
+        }
+        if self.lent.cells() != self.given {
+            wrong.push("the model was written".to_string());
+        }
+        (answer, wrong)
+    }
+}
+
 /// One random model with its twin, or one damaged file, and one list of calls.
 fn random_case(tally: &mut Tally, seed: u64) {
     let mut random = Random::new(seed.wrapping_mul(0x9E37_79B9_7F4A_7C15));
@@ -101,23 +139,10 @@ fn random_case(tally: &mut Tally, seed: u64) {
     let store = model_gen::store(&mut random, &model);
     for (name, given) in [("model", Some(&file)), ("twin", twin.as_ref())] {
         let Some(given) = given else { continue };
-        let guarded = Guarded::new(given);
-        let mut expected = store.clone();
-        let mut found = store.clone();
+        let mut pair = Pair::new(&file, given, &store);
         for &call in &calls {
-            let wanted = call.perform(&ENGINE, &file, &mut expected);
-            let answer = call.perform(&LIBRARY, guarded.cells(), &mut found);
+            let (answer, wrong) = pair.perform(call);
             tally.count(call.row, answer);
-            let mut wrong = expected.differences(&found);
-            if wanted != answer {
-                wrong.push(format!("answer: {wanted} / {answer}"));
-            }
-            if !found.intact() || !guarded.intact() {
-                wrong.push("guard cells were written".to_string());
-            }
-            if guarded.cells() != given {
-                wrong.push("the model was written".to_string());
-            }
             if !wrong.is_empty() {
                 let numbered = format!("{} {}", call.name(), call.number);
                 tally.report(format!(
@@ -132,6 +157,17 @@ fn random_case(tally: &mut Tally, seed: u64) {
 
 /// The stored cases through the C calls; gives the number of calls.
 fn stored_cases(tally: &mut Tally) -> usize {
+    let checks = stored_checks(tally);
+    let lists = stored_lists(tally);
+    let programs = stored_programs(tally);
+    println!(
+        "stored: {checks} checks, {lists} lists of calls with their twins, {programs} programs: {} calls, {} differ",
+        tally.calls, tally.differ
+    );
+    tally.calls
+}
+
+fn stored_checks(tally: &mut Tally) -> usize {
     let checks = stored::checks(&stored::text("checks.txt"));
     for (place, case) in checks.iter().enumerate() {
         let model = Guarded::new(&case.model);
@@ -148,30 +184,37 @@ fn stored_cases(tally: &mut Tally) -> usize {
             tally.report(format!("stored check {place}: answers {answer} {sizes:?}"));
         }
     }
+    checks.len()
+}
+
+fn stored_lists(tally: &mut Tally) -> usize {
     let lists = stored::lists(&stored::text("calls.txt"));
     for (place, case) in lists.iter().enumerate() {
         for given in [&case.model, &case.twin] {
-            let model = Guarded::new(given);
-            let mut store: Store = case.lent.store();
+            let mut pair = Pair::new(&case.model, given, &case.lent.store());
             let mut lent = case.lent.clone();
             for case in &case.calls {
-                let answer = case.call.perform(&LIBRARY, model.cells(), &mut store);
+                let (answer, mut wrong) = pair.perform(case.call);
                 tally.count(case.call.row, answer);
                 if let Some(after) = &case.after {
                     lent.clone_from(after);
                 }
-                let kept = store.intact() && model == Guarded::new(given);
-                if !case.want.holds(answer, &store) || Lent::of(&store) != lent || !kept {
-                    tally.report(format!(
-                        "stored list {place}: {} {} answers {answer}",
-                        case.call.name(),
-                        case.call.number
-                    ));
+                if !case.want.holds(answer, &pair.found) || Lent::of(&pair.found) != lent {
+                    wrong.push(format!("not as stored, answers {answer}"));
+                }
+                if !wrong.is_empty() {
+                    let numbered = format!("{} {}", case.call.name(), case.call.number);
+                    let wrong = wrong.join("; ");
+                    tally.report(format!("stored list {place}, {numbered}: {wrong}"));
                     break;
                 }
             }
         }
     }
+    lists.len()
+}
+
+fn stored_programs(tally: &mut Tally) -> usize {
     let programs = stored::programs(&stored::text("programs.txt"));
     for (place, case) in programs.iter().enumerate() {
         let model = Guarded::new(&case.model);
@@ -180,13 +223,5 @@ fn stored_cases(tally: &mut Tally) -> usize {
             tally.report(format!("stored program {place}"));
         }
     }
-    println!(
-        "stored: {} checks, {} lists of calls with their twins, {} programs: {} calls, {} differ",
-        checks.len(),
-        lists.len(),
-        programs.len(),
-        tally.calls,
-        tally.differ
-    );
-    tally.calls
+    programs.len()
 }

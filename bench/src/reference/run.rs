@@ -100,7 +100,7 @@ pub fn value(
     Ok(found)
 }
 
-/// The lowest transition whose guard is true.
+/// The lowest transition whose guard is true, or that there is none: a failed guard is not true.
 pub fn pick(
     file: &[u8],
     values: &[i32],

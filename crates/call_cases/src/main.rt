@@ -5,17 +5,17 @@
 // first. The header: the lengths of the model and of the twin (four bytes each), of the values, the history and the marks, and the
 // number of calls (two bytes each), eight bytes of 0, and n (eight bytes). A store: the values (four bytes each), the history, the marks.
 //
-// A call is a header of 32 bytes, the transitions that pick may answer (a byte each), and the store afterwards. The header: the call (0
-// check, 1 start, 2 fire, 3 undo, 4 marks, 5 value, 6 pick), the form of its answer (0 refused, 1 a round count, 2 done, 3 a value, 4 the
-// five sizes, 5 one of the transitions, 6 nothing), how many transitions pick may answer (two bytes), four bytes of 0, then eight bytes
-// each: the transition or variable, the answer's number (the sizes are S, F, E, T in a byte each and N in two), and n afterwards.
+// A call is a header of 32 bytes and the store afterwards. The header: the call (0 check, 1 start, 2 fire, 3 undo, 4 marks, 5 value, 6
+// pick), the form of its answer (0 refused, 1 a round count, 2 done, 3 a value, 4 the five sizes, 5 a transition, 6 nothing), six bytes
+// of 0, then eight bytes each: the transition or variable, the answer's number (the sizes are S, F, E, T in a byte each and N in two),
+// and n afterwards.
 ghost use Prim.Native.Nat.{_+_, _*_, _≤_, _<_};
 ghost use mathlib.Core.Path.{_≡_};
 ghost use lib.ListN.{length};
 use libc::STDOUT_FILENO;
 use model::Sizes;
+use results::Found;
 use run::Call;
-use run::Picked;
 use steps::Answer;
 use syntax::nodes;
 
@@ -30,12 +30,6 @@ struct Tally {
 enum Outcome {
     End,
     Counted(Tally),
-}
-
-// A stored call that was read: the end of the file, or how many bytes follow its header.
-enum Fetched {
-    End,
-    Bytes(usize),
 }
 
 // The forms of an answer, as a call's header has them.
@@ -152,18 +146,6 @@ fn is_same_bytes(b: &[u8], bytes: &[u8]) -> bool
     true
 }
 
-// Is the transition one of these?
-fn is_among(transition: usize, allowed: &[u8]) -> bool {
-    let mut i = 0;
-    while i < allowed.len() {
-        if wide(allowed[i]) == transition {
-            return true;
-        }
-        i += 1;
-    }
-    false
-}
-
 // How many bytes a store has.
 fn store_length(values: usize, history: usize, marks: usize) -> usize
     requires { ⌜ (values < 65536) × ((history < 65536) × (marks < 65536)) ⌝ }
@@ -232,6 +214,13 @@ fn is_sizes(head: &[u8; 32], sizes: Sizes) -> bool {
     sizes.nodes == two(head, 20)
 }
 
+fn is_found(head: &[u8; 32], found: Found) -> bool {
+    match found {
+        Found::At(transition) => is_number(head, Tally::TRANSITION, transition),
+        Found::Nothing => is_number(head, Tally::NOTHING, 0),
+    }
+}
+
 fn is_answer(head: &[u8; 32], answer: Answer) -> bool {
     match answer {
         Answer::Refused(number) => is_number(head, Tally::REFUSED, wide(number)),
@@ -239,20 +228,7 @@ fn is_answer(head: &[u8; 32], answer: Answer) -> bool {
         Answer::Done => is_number(head, Tally::DONE, 0),
         Answer::Number(value) => is_value(head, value),
         Answer::Sizes(sizes) => is_sizes(head, sizes),
-    }
-}
-
-fn is_picked(head: &[u8; 32], allowed: &[u8], picked: Picked) -> bool {
-    match picked {
-        Picked::Refused(number) => is_number(head, Tally::REFUSED, wide(number)),
-        Picked::Transition(transition) => {
-            if head[1] == Tally::TRANSITION {
-                is_among(transition, allowed)
-            } else {
-                false
-            }
-        }
-        Picked::Nothing => is_number(head, Tally::NOTHING, 0),
+        Answer::Picked(found) => is_found(head, found),
     }
 }
 
@@ -299,18 +275,13 @@ fn tell_form(form: u8) {
     }
 }
 
-// Prints the wanted answer. Sizes are told as the header packs them; of pick, how many transitions it may answer.
+// Prints the wanted answer. Sizes are told as the header packs them.
 fn tell_wanted(head: &[u8; 32]) {
     io::write_all(STDOUT_FILENO, b"wanted");
     let form = head[1];
     tell_form(form);
     if form == Tally::VALUE {
         tell_value(signed(four(head, 16)));
-        return;
-    }
-    if form == Tally::TRANSITION {
-        io::write_all(STDOUT_FILENO, b", one of");
-        tell_number(two(head, 2));
         return;
     }
     tell_number(eight(head, 16));
@@ -322,6 +293,14 @@ fn tell_came(form: u8, number: usize) {
     tell_form(form);
     tell_number(number);
     io::write_all(STDOUT_FILENO, b"; ");
+}
+
+// Prints what pick found in place of the wanted answer.
+fn tell_found(found: Found) {
+    match found {
+        Found::At(transition) => tell_came(Tally::TRANSITION, transition),
+        Found::Nothing => tell_came(Tally::NOTHING, 0),
+    }
 }
 
 // Prints an answer that came in place of the wanted one. Of sizes the number of nodes is told.
@@ -336,15 +315,7 @@ fn tell_answer(answer: Answer) {
             io::write_all(STDOUT_FILENO, b"; ");
         }
         Answer::Sizes(sizes) => tell_came(Tally::SIZES, sizes.nodes),
-    }
-}
-
-// Prints what pick answered in place of the wanted answer.
-fn tell_picked(picked: Picked) {
-    match picked {
-        Picked::Refused(number) => tell_came(Tally::REFUSED, wide(number)),
-        Picked::Transition(transition) => tell_came(Tally::TRANSITION, transition),
-        Picked::Nothing => tell_came(Tally::NOTHING, 0),
+        Answer::Picked(found) => tell_found(found),
     }
 }
 
@@ -358,17 +329,7 @@ fn is_wanted(head: &[u8; 32], answer: Answer) -> bool {
     false
 }
 
-// Is what pick answered one of the stored? If not, both are told.
-fn is_wanted_pick(head: &[u8; 32], allowed: &[u8], picked: Picked) -> bool {
-    if is_picked(head, allowed, picked) {
-        return true;
-    }
-    tell_wanted(head);
-    tell_picked(picked);
-    false
-}
-
-// The stored call, pick excepted.
+// The stored call.
 fn call_of(head: &[u8; 32]) -> Call {
     let call = head[0];
     let number = eight(head, 8);
@@ -378,45 +339,23 @@ fn call_of(head: &[u8; 32]) -> Call {
         3 => Call::Undo,
         4 => Call::Marks,
         5 => Call::Value(number),
+        6 => Call::Pick,
         _ => Call::Check,
     }
-}
-
-// Carries out a call; is its answer the stored one?
-fn is_answered(
-    head: &[u8; 32],
-    allowed: &[u8],
-    model: &[u8],
-    values: &mut [i32],
-    history: &mut [u8],
-    n: &mut usize,
-    marks: &mut [u8],
-) -> bool {
-    if head[0] == 6 {
-        let count = *n;
-        return is_wanted_pick(head, allowed, run::pick(model, values, history, count));
-    }
-    is_wanted(
-        head,
-        run::perform(call_of(head), model, values, history, n, marks),
-    )
 }
 
 // Carries out a call; are its answer and everything lent as stored?
 fn is_equal(
     head: &[u8; 32],
-    body: &[u8],
+    store: &[u8],
     model: &[u8],
     values: &mut [i32],
     history: &mut [u8],
     n: &mut usize,
     marks: &mut [u8],
 ) -> bool {
-    let past = two(head, 2);
-    if body.len() < past {
-        return false;
-    }
-    let answered = is_answered(head, &body[0..past], model, values, history, n, marks);
+    let answer = run::perform(call_of(head), model, values, history, n, marks);
+    let answered = is_wanted(head, answer);
     let count = *n;
     if count != eight(head, 24) {
         io::write_all(STDOUT_FILENO, b"wanted n");
@@ -426,30 +365,21 @@ fn is_equal(
         io::write_all(STDOUT_FILENO, b"; ");
         return false;
     }
-    if !is_same_store(&body[past..], values, history, marks) {
+    if !is_same_store(store, values, history, marks) {
         io::write_all(STDOUT_FILENO, b"a value, an entry or a mark is another; ");
         return false;
     }
     answered
 }
 
-// Reads the header of a call and what follows it, a store of so many bytes included.
-fn read_call(fd: i32, store: usize, head: &mut [u8; 32], body: &mut [u8]) -> Fetched
-    requires { ⌜ store < 1000000 ⌝ }
-{
+// Reads the header of a call and the store after it; false at the end of the file.
+fn read_call(fd: i32, head: &mut [u8; 32], store: &mut [u8]) -> bool {
     let read = io::read_full(fd, head);
     if read < 32 {
-        return Fetched::End;
+        return false;
     }
-    let bytes = two(head, 2) + store;
-    if body.len() < bytes {
-        return Fetched::End;
-    }
-    let filled = io::read_full(fd, &mut body[0..bytes]);
-    if filled < bytes {
-        return Fetched::End;
-    }
-    Fetched::Bytes(bytes)
+    let filled = io::read_full(fd, store);
+    filled == store.len()
 }
 
 // The tally with one call more; a call that differs is told.
@@ -474,45 +404,29 @@ fn counted(tally: Tally, is_same: bool) -> Tally {
     }
 }
 
-// All calls of a list, on one run.
+// All calls of a list, on one run; each is read over the store of the one before.
 fn all_calls(
     fd: i32,
     count: usize,
     first: usize,
-    store: usize,
+    store: &mut [u8],
     model: &[u8],
     values: &mut [i32],
     history: &mut [u8],
     marks: &mut [u8],
     before: Tally,
-) -> Outcome
-    requires { ⌜ store < 1000000 ⌝ }
-{
+) -> Outcome {
     let mut head = [0u8; 32];
-    let mut body = [0u8; 4096];
     let mut n = first;
     let mut tally = before;
     let mut left = count;
     while 0 < left {
         left -= 1;
-        match read_call(fd, store, &mut head, &mut body) {
-            Fetched::End => return Outcome::End,
-            Fetched::Bytes(bytes) => {
-                if 4096 < bytes {
-                    return Outcome::End;
-                }
-                let is_same = is_equal(
-                    &head,
-                    &body[0..bytes],
-                    model,
-                    values,
-                    history,
-                    &mut n,
-                    marks,
-                );
-                tally = counted(tally, is_same);
-            }
+        if !read_call(fd, &mut head, store) {
+            return Outcome::End;
         }
+        let is_same = is_equal(&head, store, model, values, history, &mut n, marks);
+        tally = counted(tally, is_same);
     }
     Outcome::Counted(tally)
 }
@@ -542,16 +456,26 @@ fn from_beginning(
 ) -> Outcome
     requires { ⌜ (length (now values) ≤ 512) × ((length (now history) ≤ 512) × (length (now marks) ≤ 512)) ⌝ }
 {
-    let store = store_length(values.len(), history.len(), marks.len());
-    if body.len() < store {
+    let bytes = store_length(values.len(), history.len(), marks.len());
+    if body.len() < bytes {
         return Outcome::End;
     }
-    let filled = io::read_full(fd, &mut body[0..store]);
-    if filled < store {
+    let filled = io::read_full(fd, &mut body[0..bytes]);
+    if filled < bytes {
         return Outcome::End;
     }
     load(body, values, history, marks);
-    all_calls(fd, count, n, store, model, values, history, marks, tally)
+    all_calls(
+        fd,
+        count,
+        n,
+        &mut body[0..bytes],
+        model,
+        values,
+        history,
+        marks,
+        tally,
+    )
 }
 
 // A list on a run that is made of parts of local arrays, with the stored lengths.

@@ -1,28 +1,35 @@
 -- The code and the results of an answer, from what the function of crate `run` promises.
 use mathlib.Core.Path.{_≡_, refl, sym, ap, ap₂, _∙_, subst}
-use mathlib.Core.List.{List, []}
+use mathlib.Core.List.{List, [], _∷_}
+use types.Run.{OneOf}
+use denote.Enum.Declared.{tagOf}
 use Prim.Native.Nat.{ℕ, zero, suc, _≤_}
 use native.Mathlib.Omega.{arith}
 use mir.Syntax.{w32}
 use mir.Val.{toZ, ofZ, SFits}
 use mir.ValLaws.{toZ-ofZ}
 use lib.IntN.{ℤ}
-use Rattle.results.specs.Results.{answered}
+use Rattle.results.specs.declared.Found.{Found}
+use Rattle.results.specs.declared.Found.the-variants.{At, Nothing}
+use Rattle.results.specs.Results.{answered, found}
 use Rattle.model.specs.declared.Sizes.{Sizes}
 use Rattle.model.specs.Trees.{System}
 use Rattle.model.specs.Check.{Verdict, verdict}
 use Rattle.model.specs.Check.Verdict.{refusal, accepted}
 use Rattle.semantics.specs.Meanings.{Meaning, meaningOf}
 use Rattle.steps.specs.declared.Answer as declared
+use Rattle.steps.specs.declared.Answer.the-variants.{Refused, Picked}
+use Rattle.steps.proofs.Answer.{the-type}
 use Rattle.standing.specs.Runs.{Run, Answer, Done, run}
 use Rattle.standing.specs.Runs.Answer.{rounds}
 use Rattle.steps.specs.Answers.{seen, onFile}
 use Rattle.steps.specs.Calls as calls
 use Rattle.run.specs.Lists.{CountWithin, CountBounded}
-use Rattle.run.specs.Promises.{StartPromise, FirePromise, UndoPromise, MarksPromise, ValuePromise}
+use Rattle.run.specs.Promises.{StartPromise, FirePromise, UndoPromise, MarksPromise, ValuePromise, PickPromise}
 use Rattle.run.proofs.Cases.{start-cases, fire-cases}
-use Rattle.capi.specs.Codes.{codeOf, roundsOr, numberOr, codedBy, codedRounds, codedNumber}
-use Rattle.capi.specs.Promises.{CellBounded, StartCoded, FireCoded, UndoCoded, MarksCoded, ValueCoded}
+use Rattle.capi.proofs.Forms.{no-pick}
+use Rattle.capi.specs.Codes.{codeOf, roundsOr, numberOr, foundOver, pickedOr, codedBy, codedRounds, codedNumber, codedPick}
+use Rattle.capi.specs.Promises.{CellBounded, StartCoded, FireCoded, UndoCoded, MarksCoded, ValueCoded, PickCoded}
 
 -- a code 0 is that of a round count
 abbrev Counts : Answer → Type 0
@@ -94,3 +101,24 @@ pub value-coded : (m : List ℕ) (values : List ℤ) (history : List ℕ) (n x :
 value-coded m values history n x old new code r old-fits new-fits coded stored p =
     ap₂ (λ c v. answered c v) coded (toZ-ofZ w32 new new-fits ∙ stored ∙ ap (λ v. numberOr v (seen r)) (toZ-ofZ w32 old old-fits))
     ∙ ap (codedNumber old) p
+
+-- pick, by its answer
+module _ (m : List ℕ) (values : List ℤ) (history : List ℕ) (n transition found-there : ℕ) (r : declared.Answer) (p : PickPromise m values history n r) where
+  coded : (code transition′ found′ : ℕ) → codedPick (transition, found-there) (seen r) ≡ answered code (transition′, found′)
+      → PickCoded m values history n transition found-there code transition′ found′
+  coded code transition′ found′ e = sym e ∙ ap (codedPick (transition, found-there)) p
+
+  pub pick-refused : (k : ℕ) → r ≡ Refused k → PickCoded m values history n transition found-there k transition found-there
+  unfolding seen codeOf pickedOr
+  pick-refused k e = coded k transition found-there (rw e)
+
+  pub pick-found : (f : Found) (t : ℕ) → r ≡ Picked f → f ≡ At t → PickCoded m values history n transition found-there 0 t 1
+  unfolding seen found codeOf foundOver pickedOr
+  pick-found f t e q = coded 0 t 1 (rw (e, q))
+
+  pub pick-none : (f : Found) → r ≡ Picked f → f ≡ Nothing → PickCoded m values history n transition found-there 0 transition 0
+  unfolding seen found codeOf foundOver pickedOr
+  pick-none f e q = coded 0 transition 0 (rw (e, q))
+
+  pub pick-other : OneOf (1 ∷ 2 ∷ 3 ∷ 4 ∷ []) (tagOf the-type r) → PickCoded m values history n transition found-there 0 transition found-there
+  pick-other h = coded 0 transition found-there (no-pick (transition, found-there) r h)

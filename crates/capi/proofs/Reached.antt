@@ -9,7 +9,7 @@ use Rattle.steps.specs.Answers.{onFile, onFileAnswer}
 use Rattle.steps.specs.Calls as calls
 use Rattle.inspection.specs.Queries as queries
 use Rattle.run.proofs.Reached as runs
-use Rattle.capi.specs.Codes.{codedBy, codedRounds, codedNumber, codedSizes}
+use Rattle.capi.specs.Codes.{codedBy, codedRounds, codedNumber, codedSizes, codedPick}
 use Rattle.capi.specs.Theorems.{CallsReached}
 
 answer-of : {d e : Done Store} → d ≡ e → d .answer ≡ e .answer
@@ -52,4 +52,7 @@ calls-reached = record {
   value = λ m values history n x held old code new e.
       let p = runs.value-reached (store (run values history n) held) x (verdict m) (onFileAnswer (verdict m) (λ m. queries.value m x (run values history n))) refl in
       (e ∙ ap (codedNumber old) (answer-of p), left-of p);
+  pick = λ m values history n held transition found code transition′ found′ e.
+      let p = runs.pick-reached (store (run values history n) held) (verdict m) (onFileAnswer (verdict m) (λ m. queries.pick m (run values history n))) refl in
+      (e ∙ ap (codedPick (transition, found)) (answer-of p), left-of p);
 }

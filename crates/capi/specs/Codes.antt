@@ -2,16 +2,15 @@
 -- the cells that it may change.
 use mathlib.Core.Bool.{cond}
 use mathlib.Core.List.{List, [], _∷_}
+use mathlib.Core.Option.{Option, some, none}
 use Prim.Native.Nat.{ℕ}
 use lib.Dec.{ltb}
 use lib.IntN.{ℤ}
 use lib.ListN.{length}
 use Rattle.results.specs.Results.{Answered, answered, over}
 use Rattle.model.specs.declared.Sizes.{Sizes}
-use Rattle.run.specs.declared.Picked.{Picked}
-use Rattle.run.specs.declared.Picked.the-variants.{Refused, Transition, Nothing}
 use Rattle.standing.specs.Runs.{Answer, Done}
-use Rattle.standing.specs.Runs.Answer.{refused, rounds, done, number, sizes}
+use Rattle.standing.specs.Runs.Answer.{refused, rounds, done, number, sizes, picked}
 
 -- the number of the refusal, else 0
 unfoldable pub codeOf : Answer → ℕ
@@ -20,6 +19,7 @@ codeOf (rounds n) = 0
 codeOf done = 0
 codeOf (number v) = 0
 codeOf (sizes z) = 0
+codeOf (picked t) = 0
 
 -- the round count where one is answered, else what stood there
 unfoldable pub roundsOr : ℕ → Answer → ℕ
@@ -28,6 +28,7 @@ roundsOr old (rounds n) = n
 roundsOr old done = old
 roundsOr old (number v) = old
 roundsOr old (sizes z) = old
+roundsOr old (picked t) = old
 
 -- the value where one is answered, else what stood there
 unfoldable pub numberOr : ℤ → Answer → ℤ
@@ -36,6 +37,7 @@ numberOr old (rounds n) = old
 numberOr old done = old
 numberOr old (number v) = v
 numberOr old (sizes z) = old
+numberOr old (picked t) = old
 
 -- a call without results: undo, marks
 abbrev pub codedBy : {A : Type 0} → Done A → Answered ℕ A
@@ -64,10 +66,23 @@ codedSizes old (refused n) = answered n old
 codedSizes old (rounds n) = answered 0 old
 codedSizes old done = answered 0 old
 codedSizes old (number v) = answered 0 old
+codedSizes old (picked t) = answered 0 old
 codedSizes old (sizes z) = cond (ltb (length old) sizeCells) (answered 10 old) (answered 0 (over (cellsOf z) old))
 
--- pick, over what stood in `transition` and `found`
-unfoldable pub codedPick : ℕ × ℕ → Picked → Answered ℕ (ℕ × ℕ)
-codedPick old (Refused n) = answered n old
-codedPick old (Transition t) = answered 0 (t, 1)
-codedPick old Nothing = answered 0 (old .0, 0)
+-- the transition that was picked and 1; where there is none the transition that stood there and 0
+unfoldable pub foundOver : ℕ → Option ℕ → ℕ × ℕ
+foundOver old (some t) = (t, 1)
+foundOver old none = (old, 0)
+
+-- what pick answers as these two cells, else what stood in `transition` and `found`
+unfoldable pub pickedOr : ℕ × ℕ → Answer → ℕ × ℕ
+pickedOr old (refused n) = old
+pickedOr old (rounds n) = old
+pickedOr old done = old
+pickedOr old (number v) = old
+pickedOr old (sizes z) = old
+pickedOr old (picked t) = foundOver (old .0) t
+
+-- a call whose result is a transition, or that there is none, over what stood there: pick
+abbrev pub codedPick : ℕ × ℕ → Answer → Answered ℕ (ℕ × ℕ)
+codedPick old a = answered (codeOf a) (pickedOr old a)

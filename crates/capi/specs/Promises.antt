@@ -10,8 +10,7 @@ use Rattle.standing.specs.Runs.{run}
 use Rattle.steps.specs.Answers.{onFile, onFileAnswer}
 use Rattle.steps.specs.Calls as calls
 use Rattle.inspection.specs.Queries as queries
-use Rattle.run.specs.declared.Picked.{Picked}
-use Rattle.run.specs.Promises.{seenCheck, PickPromise}
+use Rattle.run.specs.Promises.{seenCheck}
 use Rattle.capi.specs.Codes.{codedBy, codedRounds, codedNumber, codedSizes, codedPick}
 
 -- the cell of the round count, by the code. 01: "so it is at most F + 1"
@@ -49,8 +48,7 @@ abbrev pub ValueCoded : List ℕ → List ℤ → List ℕ → ℕ → ℕ → �
 ValueCoded m values history n x value code value′ =
     answered code value′ ≡ codedNumber value (onFileAnswer (verdict m) (λ m. queries.value m x (run values history n)))
 
--- which transition is picked is left free, as in crate `run`
-pub record PickCoded (m : List ℕ) (values : List ℤ) (history : List ℕ) (n transition found code transition′ found′ : ℕ) : Type 0 where
-  pub picked : Picked
-  pub by : PickPromise m values history n picked
-  pub same : answered code (transition′, found′) ≡ codedPick (transition, found) picked
+abbrev pub PickCoded : List ℕ → List ℤ → List ℕ → ℕ → ℕ → ℕ → ℕ → ℕ → ℕ → Type 0
+PickCoded m values history n transition found code transition′ found′ =
+    answered code (transition′, found′)
+    ≡ codedPick (transition, found) (onFileAnswer (verdict m) (λ m. queries.pick m (run values history n)))

@@ -5,13 +5,13 @@ use Prim.Native.Nat.{ℕ}
 use lib.IntN.{ℤ}
 use Rattle.results.specs.Results.{answered}
 use Rattle.standing.specs.Runs.{Store, run, store}
-use Rattle.run.specs.declared.Call.the-variants.{Check, Start, Fire, Undo, Marks, Value}
+use Rattle.run.specs.declared.Call.the-variants.{Check, Start, Fire, Undo, Marks, Value, Pick}
 use Rattle.run.specs.Lists.{call}
-use Rattle.capi.specs.Codes.{codedBy, codedRounds, codedNumber, codedSizes}
-use Rattle.capi.specs.Promises.{CheckCoded, StartCoded, FireCoded, UndoCoded, MarksCoded, ValueCoded}
+use Rattle.capi.specs.Codes.{codedBy, codedRounds, codedNumber, codedSizes, codedPick}
+use Rattle.capi.specs.Promises.{CheckCoded, StartCoded, FireCoded, UndoCoded, MarksCoded, ValueCoded, PickCoded}
 
 -- What each function promises is its call of crate `run`, over a store with all that is lent and the rest as it was: the code is that of
--- the call's answer, every cell is what the call leaves, and the results are the answer's. (Pick is no call of a list.)
+-- the call's answer, every cell is what the call leaves, and the results are the answer's.
 pub record CallsReached : Type 0 where
   pub check : (m sizes : List ℕ) (code : ℕ) (sizes′ : List ℕ) (s : Store) → CheckCoded m sizes code sizes′
       → (answered code sizes′ ≡ codedSizes sizes (call m Check s .answer)) × (s ≡ call m Check s .left)
@@ -31,3 +31,7 @@ pub record CallsReached : Type 0 where
       → ValueCoded m values history n x old code new
       → (answered code new ≡ codedNumber old (call m (Value x) (store (run values history n) held) .answer))
       × (store (run values history n) held ≡ call m (Value x) (store (run values history n) held) .left)
+  pub pick : (m : List ℕ) (values : List ℤ) (history : List ℕ) (n : ℕ) (held : List ℕ) (transition found code transition′ found′ : ℕ)
+      → PickCoded m values history n transition found code transition′ found′
+      → (answered code (transition′, found′) ≡ codedPick (transition, found) (call m Pick (store (run values history n) held) .answer))
+      × (store (run values history n) held ≡ call m Pick (store (run values history n) held) .left)

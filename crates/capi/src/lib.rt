@@ -5,7 +5,7 @@ ghost use Rattle.steps.specs.Answers.{seen};
 ghost use Rattle.capi.specs.Codes.{codeOf, roundsOr, numberOr};
 ghost use Rattle.capi.specs.Promises.{CheckCoded, StartCoded, FireCoded, UndoCoded, MarksCoded, ValueCoded, PickCoded};
 use model::Checked;
-use run::Picked;
+use results::Found;
 use steps::Answer;
 
 // The cells of the sizes S F E T N.
@@ -28,10 +28,7 @@ fn code_of(answer: Answer) -> u8
 {
     match answer {
         Answer::Refused(number) => number,
-        Answer::Rounds(_) => 0,
-        Answer::Done => 0,
-        Answer::Number(_) => 0,
-        Answer::Sizes(_) => 0,
+        _ => 0,
     }
 }
 
@@ -40,11 +37,8 @@ fn rounds_or(old: usize, answer: Answer) -> usize
     ensures { λ r. ⌜ r ≡ roundsOr old (seen answer) ⌝ }
 {
     match answer {
-        Answer::Refused(_) => old,
         Answer::Rounds(count) => count,
-        Answer::Done => old,
-        Answer::Number(_) => old,
-        Answer::Sizes(_) => old,
+        _ => old,
     }
 }
 
@@ -53,11 +47,8 @@ fn number_or(old: i32, answer: Answer) -> i32
     ensures { λ r. ⌜ r ≡ numberOr old (seen answer) ⌝ }
 {
     match answer {
-        Answer::Refused(_) => old,
-        Answer::Rounds(_) => old,
-        Answer::Done => old,
         Answer::Number(found) => found,
-        Answer::Sizes(_) => old,
+        _ => old,
     }
 }
 
@@ -158,7 +149,7 @@ pub extern "C" fn gts_value(
     code_of(answer)
 }
 
-// Some fireable transition: found is 1; where there is none found is 0 and the transition stays.
+// The lowest transition whose mark is 1: found is 1; where there is none found is 0 and the transition stays.
 #[no_mangle]
 pub extern "C" fn gts_pick(
     model: &[u8],
@@ -172,15 +163,18 @@ pub extern "C" fn gts_pick(
         (now (transition .exit)) (now (found .exit)) ⌝ }
 {
     match run::pick(model, values, history, n) {
-        Picked::Refused(number) => number,
-        Picked::Transition(fireable) => {
-            *transition = fireable;
-            *found = 1;
-            0
-        }
-        Picked::Nothing => {
-            *found = 0;
-            0
-        }
+        Answer::Refused(number) => number,
+        Answer::Picked(picked) => match picked {
+            Found::At(fireable) => {
+                *transition = fireable;
+                *found = 1;
+                0
+            }
+            Found::Nothing => {
+                *found = 0;
+                0
+            }
+        },
+        _ => 0,
     }
 }

@@ -64,7 +64,7 @@ second-of false b e = absurd (true≢false (sym e))
 -- ---- the marks, one after another
 
 module _ (m : Meaning) (values : List ℤ) where
-  length-marks : (t n : ℕ) → length (marksFrom m values t n) ≡ n
+  pub length-marks : (t n : ℕ) → length (marksFrom m values t n) ≡ n
   unfolding marksFrom
   length-marks t zero = refl
   length-marks t (suc n) = ap suc (length-marks (suc t) n)

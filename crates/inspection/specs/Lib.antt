@@ -1,3 +1,5 @@
--- Definitions of crate `inspection`.
+-- Definitions and statements of crate `inspection`.
 -- 01's own:
 pub mod Queries
+-- statements:
+pub mod Theorems

@@ -1,8 +1,9 @@
--- Marks and value over the meaning of an accepted model and exactly what each is lent.
+-- Marks, value and pick over the meaning of an accepted model and exactly what each is lent.
 use mathlib.Core.Bool.{true, cond, not}
 use mathlib.Core.List.{List, [], _∷_, _++_}
+use mathlib.Core.Option.{Option, some, none}
 use Prim.Native.Nat.{ℕ, zero, suc}
-use lib.Dec.{ltb}
+use lib.Dec.{eqb, ltb}
 use lib.IntN.{ℤ, pos}
 use lib.ListN.{length, getD, take, drop}
 use Rattle.evaluation.specs.declared.Evaluation.{Evaluation}
@@ -10,7 +11,7 @@ use Rattle.evaluation.specs.declared.Evaluation.the-variants.{Unknown, Failed, 
 use Rattle.evaluation.specs.Numbers.{eqZ, boolean}
 use Rattle.semantics.specs.Meanings.{Meaning}
 use Rattle.standing.specs.Runs.{Run, Answer, Done, answered}
-use Rattle.standing.specs.Runs.Answer.{refused, done, number}
+use Rattle.standing.specs.Runs.Answer.{refused, done, number, picked}
 use Rattle.standing.specs.Holding.{tooShort, holds}
 use Rattle.inspection.specs.declared.Query.{Query}
 use Rattle.inspection.specs.declared.Query.the-variants as kinds
@@ -44,7 +45,20 @@ value m x r =
     (cond (not (holds m r)) (refused 20)
     (number (getD (r .values) x (pos 0)))))
 
--- marks or value, with the marks slice as it is left
+-- the first mark that is 1, counted from t
+unfoldable pub firstFireable : List ℕ → ℕ → Option ℕ
+firstFireable [] t = none
+firstFireable (k ∷ ks) t = cond (eqb k 1) (some t) (firstFireable ks (suc t))
+
+-- Pick. A1: "the fireable transition with the lowest number"; 01: "or none exactly if no mark is 1"
+unfoldable pub pick : Meaning → Run → Answer
+pick m r =
+    cond (tooShort m (r .values)) (refused 9)
+    (cond (not (holds m r)) (refused 20)
+    (picked (firstFireable (marksOf m (r .values)) 0)))
+
+-- marks, value or pick, with the marks slice as it is left
 unfoldable pub queryOn : Meaning → Query → Run → List ℕ → Done (List ℕ)
 queryOn m kinds.Marks r old = marks m r old
 queryOn m (kinds.Value x) r old = answered (value m x r) old
+queryOn m kinds.Pick r old = answered (pick m r) old

@@ -1,4 +1,4 @@
-// Marks and value: on a model file.
+// Marks, value and pick: on a model file.
 
 ghost use mathlib.Core.Path.{_≡_};
 ghost use Rattle.model.specs.Check.{verdict};
@@ -11,12 +11,14 @@ use decoding::Prepared;
 use engine::transitions;
 use evaluation::Evaluation;
 use model::Model;
+use results::Found;
 use steps::Answer;
 
 // What is asked of a run.
 pub enum Query {
     Marks,
     Value(usize),
+    Pick,
 }
 
 // 1 true, 0 false, 2 failed.
@@ -107,7 +109,52 @@ fn value(
     Answer::Number(held)
 }
 
-// One of the two, on a decoded model.
+// 9, 20, then the first transition whose guard is true; the guards after it are not looked at.
+fn pick(
+    loaded: Model,
+    kinds: &[u8],
+    parameters: &[i32],
+    variables: &[[i32; 3]],
+    nexts: &[u16],
+    guards: &[u16],
+    values: &[i32],
+    history: &[u8],
+    n: usize,
+) -> Answer
+    requires { ⌜ Loaded loaded (now kinds) (now parameters) (now variables) (now nexts) (now guards) ⌝ }
+    ensures { λ r. ⌜ OnLoaded loaded (now (kinds .entry)) (now (parameters .entry)) (now (variables .entry)) (now (nexts .entry)) (now (guards .entry)) (λ m.
+        seen r ≡ queries.pick m (run (now (values .entry)) (now (history .entry)) n)) ⌝ }
+{
+    let count = variables.len();
+    if values.len() < count {
+        return Answer::Refused(9);
+    }
+    if !standing::holds(guards.len(), variables, values, history, n) {
+        return Answer::Refused(20);
+    }
+    let mut cells = [0i64; Model::MAX_VARIABLES];
+    transitions::widen(values, count, &mut cells);
+    let mut transition = 0;
+    while transition < guards.len() {
+        let guard = transitions::guard(
+            loaded,
+            kinds,
+            parameters,
+            variables,
+            nexts,
+            guards,
+            &cells[..count],
+            transition,
+        );
+        if mark_of(guard) == 1 {
+            return Answer::Picked(Found::At(transition));
+        }
+        transition += 1;
+    }
+    Answer::Picked(Found::Nothing)
+}
+
+// One of the three, on a decoded model.
 fn dispatch(
     loaded: Model,
     kinds: &[u8],
@@ -149,6 +196,17 @@ fn dispatch(
             history,
             n,
             variable,
+        ),
+        Query::Pick => pick(
+            loaded,
+            kinds,
+            parameters,
+            variables,
+            nexts,
+            guards,
+            values,
+            history,
+            n,
         ),
     }
 }

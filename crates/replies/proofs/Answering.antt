@@ -1,7 +1,9 @@
 -- Lines at the beginning of a slice; answers and commands by cases.
 use mathlib.Core.Path.{_≡_, refl, sym, ap, _∙_}
 use mathlib.Core.Bool.{Bool, true, false, true≢false, cond, not, _&&_, _||_}
-use mathlib.Core.List.{List}
+use mathlib.Core.List.{List, [], _∷_}
+use types.Run.{OneOf, miss}
+use denote.Enum.Declared.{tagOf}
 use Prim.Native.Nat.{ℕ, _≤_}
 use native.Mathlib.Omega.{arith}
 use borrow.Author.Tests.{ltb-false, le-ltb}
@@ -9,10 +11,11 @@ use lib.Dec.{ltb}
 use lib.IntN.{ℤ}
 use lib.ListN.{length}
 use Rattle.results.specs.Results.{answered}
-use Rattle.model.specs.declared.Sizes.{Sizes}
 use Rattle.steps.specs.declared.Answer as answer
+use Rattle.steps.specs.declared.Answer.the-variants.{Refused, Rounds, Done, Number, Sizes, Picked}
+use Rattle.steps.proofs.Answer.{the-type}
 use Rattle.run.specs.declared.Call.the-variants as calls
-use Rattle.standing.specs.Runs.{Store, Answer, Done}
+use Rattle.standing.specs.Runs.{Store, Answer}
 use Rattle.standing.specs.Runs as runs
 use Rattle.run.specs.Lists.{call}
 use Rattle.steps.specs.Answers.{seen}
@@ -52,55 +55,63 @@ pub refusal-printed : (n : ℕ) (old : List ℕ) {o : Output} → 24 ≤ length 
 refusal-printed n old h e = line-printed (room markWidth 0) (refusalText n) old h e
 
 module _ {a : answer.Answer} {o : Output} (out : List ℕ) (values : List ℤ) (h : room valueWidth (length values) ≤ length out) where
-  pub run-refused : {n : ℕ} → a ≡ answer.the-variants.Refused n → o ≡ lineInto (room markWidth 0) (refusalText n) out
+  pub run-refused : {n : ℕ} → a ≡ Refused n → o ≡ lineInto (room markWidth 0) (refusalText n) out
       → o ≡ textInto (runText (seen a) values) out
   unfolding runText seen
   run-refused {n} e p = rw e (refusal-printed n out (omega arith) p)
 
-  pub run-rounds : {n : ℕ} → a ≡ answer.the-variants.Rounds n → o ≡ lineInto (room valueWidth (length values)) (okText n values) out
+  pub run-rounds : {n : ℕ} → a ≡ Rounds n → o ≡ lineInto (room valueWidth (length values)) (okText n values) out
       → o ≡ textInto (runText (seen a) values) out
   unfolding runText seen
   run-rounds {n} e p = rw e (line-printed (room valueWidth (length values)) (okText n values) out h p)
 
-  pub run-done : a ≡ answer.the-variants.Done → o ≡ lineInto (room valueWidth (length values)) (backText values) out
+  pub run-done : a ≡ Done → o ≡ lineInto (room valueWidth (length values)) (backText values) out
       → o ≡ textInto (runText (seen a) values) out
   unfolding runText seen
   run-done e p = rw e (line-printed (room valueWidth (length values)) (backText values) out h p)
 
--- a value and sizes are no answers of start, fire and undo
-module _ {a : answer.Answer} (out : List ℕ) (values : List ℤ) where
-  pub run-number : {v : ℤ} → a ≡ answer.the-variants.Number v → writtenInto (Length 0) out ≡ textInto (runText (seen a) values) out
-  unfolding runText seen
-  run-number e = rw e
-
-  pub run-sizes : {z : Sizes} → a ≡ answer.the-variants.Sizes z → writtenInto (Length 0) out ≡ textInto (runText (seen a) values) out
-  unfolding runText seen
-  run-sizes e = rw e
+-- the other answers are none of start, fire and undo
+pub run-other : (a : answer.Answer) (out : List ℕ) (values : List ℤ) → OneOf (3 ∷ 4 ∷ 5 ∷ []) (tagOf the-type a)
+    → writtenInto (Length 0) out ≡ textInto (runText (seen a) values) out
+unfolding runText seen
+run-other (Refused n) out values h = absurd (miss (3 ∷ 4 ∷ 5 ∷ []) 0 tt h)
+run-other (Rounds n) out values h = absurd (miss (3 ∷ 4 ∷ 5 ∷ []) 1 tt h)
+run-other Done out values h = absurd (miss (3 ∷ 4 ∷ 5 ∷ []) 2 tt h)
+run-other (Number v) out values h = refl
+run-other (Sizes z) out values h = refl
+run-other (Picked f) out values h = refl
 
 module _ {a : answer.Answer} {o : Output} (out : List ℕ) (marks : List ℕ) (h : room markWidth (length marks) ≤ length out) where
-  pub look-refused : {n : ℕ} → a ≡ answer.the-variants.Refused n → o ≡ lineInto (room markWidth 0) (refusalText n) out
+  pub look-refused : {n : ℕ} → a ≡ Refused n → o ≡ lineInto (room markWidth 0) (refusalText n) out
       → o ≡ textInto (lookText (seen a) marks) out
   unfolding lookText seen
   look-refused {n} e p = rw e (refusal-printed n out (omega arith) p)
 
-  pub look-done : a ≡ answer.the-variants.Done → o ≡ lineInto (room markWidth (length marks)) (marksText marks) out
+  pub look-done : a ≡ Done → o ≡ lineInto (room markWidth (length marks)) (marksText marks) out
       → o ≡ textInto (lookText (seen a) marks) out
   unfolding lookText seen
   look-done e p = rw e (line-printed (room markWidth (length marks)) (marksText marks) out h p)
 
--- a round count, a value and sizes are no answers of marks
-module _ {a : answer.Answer} (out : List ℕ) (marks : List ℕ) where
-  pub look-rounds : {n : ℕ} → a ≡ answer.the-variants.Rounds n → writtenInto (Length 0) out ≡ textInto (lookText (seen a) marks) out
-  unfolding lookText seen
-  look-rounds e = rw e
+-- the other answers are none of marks
+pub look-other : (a : answer.Answer) (out marks : List ℕ) → OneOf (1 ∷ 3 ∷ 4 ∷ 5 ∷ []) (tagOf the-type a)
+    → writtenInto (Length 0) out ≡ textInto (lookText (seen a) marks) out
+unfolding lookText seen
+look-other (Refused n) out marks h = absurd (miss (1 ∷ 3 ∷ 4 ∷ 5 ∷ []) 0 tt h)
+look-other (Rounds n) out marks h = refl
+look-other Done out marks h = absurd (miss (1 ∷ 3 ∷ 4 ∷ 5 ∷ []) 2 tt h)
+look-other (Number v) out marks h = refl
+look-other (Sizes z) out marks h = refl
+look-other (Picked f) out marks h = refl
 
-  pub look-number : {v : ℤ} → a ≡ answer.the-variants.Number v → writtenInto (Length 0) out ≡ textInto (lookText (seen a) marks) out
-  unfolding lookText seen
-  look-number e = rw e
-
-  pub look-sizes : {z : Sizes} → a ≡ answer.the-variants.Sizes z → writtenInto (Length 0) out ≡ textInto (lookText (seen a) marks) out
-  unfolding lookText seen
-  look-sizes e = rw e
+-- what is not refused is accepted
+pub no-refusal : (a : answer.Answer) → OneOf (1 ∷ 2 ∷ 3 ∷ 4 ∷ 5 ∷ []) (tagOf the-type a) → isAccepted (seen a) ≡ true
+unfolding isAccepted seen
+no-refusal (Refused n) h = absurd (miss (1 ∷ 2 ∷ 3 ∷ 4 ∷ 5 ∷ []) 0 tt h)
+no-refusal (Rounds n) h = refl
+no-refusal Done h = refl
+no-refusal (Number v) h = refl
+no-refusal (Sizes z) h = refl
+no-refusal (Picked f) h = refl
 
 -- ---- a slice that is too short: nothing is done
 
@@ -153,4 +164,4 @@ module _ (m : List ℕ) (s : Store) {a : Answer} {s′ : Store} (p : runs.answer
   start-reply = ap runReply p
 
   pub start-accepted : {b : Bool} → b ≡ isAccepted a → b ≡ isStarted m s
-  start-accepted q = q ∙ ap (λ (d : Done Store). isAccepted (d .answer)) p
+  start-accepted q = q ∙ ap (λ (d : runs.Done Store). isAccepted (d .answer)) p

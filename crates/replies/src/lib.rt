@@ -36,7 +36,7 @@ fn is_short(length: usize, values: usize, marks: usize) -> bool
     lines::is_short(length, Written::MARK_WIDTH, marks)
 }
 
-// The line of the answer of start, fire or undo. The last two answers are none of theirs.
+// The line of the answer of start, fire or undo. The other answers are none of theirs.
 fn run_line(answer: Answer, values: &[i32], out: &mut [u8]) -> Written
     ensures { λ r. ⌜ (room valueWidth (length (now (values .entry))) ≤ length (now (out .entry))
         → writtenInto r (now (out .exit)) ≡ textInto (runText (seen answer) (now (values .entry))) (now (out .entry))) ⌝ }
@@ -45,8 +45,7 @@ fn run_line(answer: Answer, values: &[i32], out: &mut [u8]) -> Written
         Answer::Refused(number) => lines::refusal_line(number, out),
         Answer::Rounds(count) => lines::ok_line(count, values, out),
         Answer::Done => lines::back_line(values, out),
-        Answer::Number(_) => Written::Length(0),
-        Answer::Sizes(_) => Written::Length(0),
+        _ => Written::Length(0),
     }
 }
 
@@ -57,10 +56,8 @@ fn look_line(answer: Answer, marks: &[u8], out: &mut [u8]) -> Written
 {
     match answer {
         Answer::Refused(number) => lines::refusal_line(number, out),
-        Answer::Rounds(_) => Written::Length(0),
         Answer::Done => lines::marks_line(marks, out),
-        Answer::Number(_) => Written::Length(0),
-        Answer::Sizes(_) => Written::Length(0),
+        _ => Written::Length(0),
     }
 }
 
@@ -104,10 +101,7 @@ fn is_accepted(answer: Answer) -> bool
 {
     match answer {
         Answer::Refused(_) => false,
-        Answer::Rounds(_) => true,
-        Answer::Done => true,
-        Answer::Number(_) => true,
-        Answer::Sizes(_) => true,
+        _ => true,
     }
 }
 

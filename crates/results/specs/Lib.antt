@@ -1,3 +1,3 @@
 -- Definitions of crate `results`, which the promises of all crates share.
--- how the code goes about it:
+-- 01's own:
 pub mod Results

@@ -18,9 +18,9 @@ use Rattle.interpreter.specs.Instructions.Place.{action, assertion}
 use Rattle.semantics.specs.Meanings.{Meaning}
 use Rattle.semantics.specs.Firing.{fired, begun}
 use Rattle.standing.specs.Runs.{Run, Answer, Done, run, answered}
-use Rattle.standing.specs.Runs.Answer.{refused, rounds, done, number}
+use Rattle.standing.specs.Runs.Answer.{refused, rounds, done, number, picked}
 use Rattle.standing.specs.Holding.{tooShort, holds}
-use Rattle.inspection.specs.Queries.{marksOf, marks, value}
+use Rattle.inspection.specs.Queries.{marksOf, marks, value, firstFireable, pick}
 use Rattle.steps.specs.Calls.{answerOf, isFired, firedInto, initial, start, fire, replay, undoneBy, undo}
 use Rattle.steps.proofs.Tests.{by-test}
 
@@ -108,3 +108,10 @@ module _ (m : Meaning) (r : Run) where
       by-test P (tooShort m (r .values)) _ _ (λ e. refusal 9 (omega arith)) (λ long.
       by-test P (not (ltb x (length (m .declarations)))) _ _ (λ e. refusal 12 (omega arith)) (λ below.
       by-test P (not (holds m r)) _ _ (λ e. stale (not-true (holds m r) e)) (λ held. f)))
+
+  pub pick-cases : (P : Answer → Type 0) → ((k : ℕ) → Other k → P (refused k)) → (holds m r ≡ false → P (refused 20))
+      → P (picked (firstFireable (marksOf m (r .values)) 0)) → P (pick m r)
+  unfolding pick
+  pick-cases P refusal stale f =
+      by-test P (tooShort m (r .values)) _ _ (λ e. refusal 9 (omega arith)) (λ long.
+      by-test P (not (holds m r)) _ _ (λ e. stale (not-true (holds m r) e)) (λ held. f))

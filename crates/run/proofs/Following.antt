@@ -2,12 +2,10 @@
 use mathlib.Core.Path.{_≡_, refl, sym, ap, _∙_}
 use mathlib.Core.Bool.{Bool, true, false, cond}
 use mathlib.Core.List.{List, [], _∷_}
-use mathlib.Core.Logic.{inl, inr}
-use types.Run.{OneOf}
+use types.Run.{OneOf, miss}
 use denote.Enum.Declared.{tagOf}
 use Prim.Native.Nat.{ℕ, suc, _+_, _-_}
 use native.Mathlib.Numerals.{add-one}
-use native.Mathlib.Omega.{arith}
 use lib.IntN.{ℤ}
 use lib.ListN.{set}
 use Rattle.semantics.specs.Meanings.{Meaning, meaningOf}
@@ -17,13 +15,13 @@ use Rattle.model.specs.Check.Verdict.{refusal, accepted}
 use Rattle.steps.specs.declared.Move.the-variants.{Start, Fire, Undo}
 use Rattle.standing.specs.Runs.{Run, Answer, run, answered}
 use Rattle.standing.specs.Runs as runs
-use Rattle.standing.specs.Runs.Answer.{refused, rounds, done, number, sizes}
+use Rattle.standing.specs.Runs.Answer.{refused, rounds, done, number, sizes, picked}
 use Rattle.standing.specs.Holding.{tooShort}
 use Rattle.steps.specs.Calls as calls
 use Rattle.steps.specs.Calls.{answerOf, isFired, initial, stepOn, valuesOf}
 use Rattle.steps.specs.Answers.{onFile, seen}
 use Rattle.steps.specs.declared.Answer as declared
-use Rattle.steps.specs.declared.Answer.the-variants.{Refused, Rounds, Done, Number, Sizes}
+use Rattle.steps.specs.declared.Answer.the-variants.{Refused, Rounds, Done, Number, Sizes, Picked}
 use Rattle.steps.proofs.Answer.{the-type}
 use Rattle.run.proofs.Cases.{start-cases, fire-cases, undo-cases}
 
@@ -35,6 +33,7 @@ countAfterStart (rounds k) n = 0
 countAfterStart done n = n
 countAfterStart (number v) n = n
 countAfterStart (sizes z) n = n
+countAfterStart (picked t) n = n
 
 unfoldable pub historyAfterFire : ℕ → Answer → List ℕ → ℕ → List ℕ
 historyAfterFire t (refused k) history n = history
@@ -42,6 +41,7 @@ historyAfterFire t (rounds k) history n = set history n t
 historyAfterFire t done history n = history
 historyAfterFire t (number v) history n = history
 historyAfterFire t (sizes z) history n = history
+historyAfterFire t (picked k) history n = history
 
 unfoldable pub countAfterFire : Answer → ℕ → ℕ
 countAfterFire (refused k) n = n
@@ -49,6 +49,7 @@ countAfterFire (rounds k) n = suc n
 countAfterFire done n = n
 countAfterFire (number v) n = n
 countAfterFire (sizes z) n = n
+countAfterFire (picked t) n = n
 
 unfoldable pub countAfterUndo : Answer → ℕ → ℕ
 countAfterUndo (refused k) n = n
@@ -56,6 +57,7 @@ countAfterUndo (rounds k) n = n
 countAfterUndo done n = n - 1
 countAfterUndo (number v) n = n
 countAfterUndo (sizes z) n = n
+countAfterUndo (picked t) n = n
 
 module _ (history : List ℕ) (n : ℕ) where
   abbrev afterStart : runs.Done (List ℤ) → runs.Done Run
@@ -146,33 +148,23 @@ pub record Unrecorded (a : Answer) : Type 0 where
   pub history : (t : ℕ) (history : List ℕ) (n : ℕ) → historyAfterFire t a history n ≡ history
   pub fire : (n : ℕ) → countAfterFire a n ≡ n
 
-none-of : (k : ℕ) → OneOf (0 ∷ 2 ∷ 3 ∷ 4 ∷ []) k → k ≡ 1 → ⊥
-none-of k (inl e) h = omega arith
-none-of k (inr (inl e)) h = omega arith
-none-of k (inr (inr (inl e))) h = omega arith
-none-of k (inr (inr (inr e))) h = omega arith
-
-pub unrecorded : (a : declared.Answer) → OneOf (0 ∷ 2 ∷ 3 ∷ 4 ∷ []) (tagOf the-type a) → Unrecorded (seen a)
+pub unrecorded : (a : declared.Answer) → OneOf (0 ∷ 2 ∷ 3 ∷ 4 ∷ 5 ∷ []) (tagOf the-type a) → Unrecorded (seen a)
 unfolding seen countAfterStart historyAfterFire countAfterFire
 unrecorded (Refused k) h = record { start = λ n. refl; history = λ t l n. refl; fire = λ n. refl }
-unrecorded (Rounds k) h = absurd (none-of 1 h refl)
+unrecorded (Rounds k) h = absurd (miss (0 ∷ 2 ∷ 3 ∷ 4 ∷ 5 ∷ []) 1 tt h)
 unrecorded Done h = record { start = λ n. refl; history = λ t l n. refl; fire = λ n. refl }
 unrecorded (Number v) h = record { start = λ n. refl; history = λ t l n. refl; fire = λ n. refl }
 unrecorded (Sizes z) h = record { start = λ n. refl; history = λ t l n. refl; fire = λ n. refl }
+unrecorded (Picked f) h = record { start = λ n. refl; history = λ t l n. refl; fire = λ n. refl }
 
-not-done : (k : ℕ) → OneOf (0 ∷ 1 ∷ 3 ∷ 4 ∷ []) k → k ≡ 2 → ⊥
-not-done k (inl e) h = omega arith
-not-done k (inr (inl e)) h = omega arith
-not-done k (inr (inr (inl e))) h = omega arith
-not-done k (inr (inr (inr e))) h = omega arith
-
-pub not-undone : (a : declared.Answer) → OneOf (0 ∷ 1 ∷ 3 ∷ 4 ∷ []) (tagOf the-type a) → (n : ℕ) → countAfterUndo (seen a) n ≡ n
+pub not-undone : (a : declared.Answer) → OneOf (0 ∷ 1 ∷ 3 ∷ 4 ∷ 5 ∷ []) (tagOf the-type a) → (n : ℕ) → countAfterUndo (seen a) n ≡ n
 unfolding seen countAfterUndo
 not-undone (Refused k) h n = refl
 not-undone (Rounds k) h n = refl
-not-undone Done h n = absurd (not-done 2 h refl)
+not-undone Done h n = absurd (miss (0 ∷ 1 ∷ 3 ∷ 4 ∷ 5 ∷ []) 2 tt h)
 not-undone (Number v) h n = refl
 not-undone (Sizes z) h n = refl
+not-undone (Picked f) h n = refl
 
 -- ---- the code's answers on a file
 
@@ -185,7 +177,7 @@ module _ (v : Verdict) (values new : List ℤ) (history : List ℕ) (n : ℕ) (r
         let zero-count : countAfterStart (seen r) n ≡ 0 = ap (λ x. countAfterStart (seen x) n) q in
         rw zero-count at (start-on-file v values new history n (seen r) e)
 
-    pub start-kept : OneOf (0 ∷ 2 ∷ 3 ∷ 4 ∷ []) (tagOf the-type r)
+    pub start-kept : OneOf (0 ∷ 2 ∷ 3 ∷ 4 ∷ 5 ∷ []) (tagOf the-type r)
         → answered (seen r) (run new history n) ≡ onFile v (λ m. calls.start m (run values history n)) (run values history n)
     start-kept h = rw (unrecorded r h .start n) at (start-on-file v values new history n (seen r) e)
 
@@ -198,7 +190,7 @@ module _ (v : Verdict) (values new : List ℤ) (history : List ℕ) (n : ℕ) (r
         let entered : historyAfterFire t (seen r) history n ≡ set history n t = ap (λ x. historyAfterFire t (seen x) history n) q in
         rw (one-more, entered) at (fire-on-file v values new history n (seen r) t e)
 
-    pub fire-kept : OneOf (0 ∷ 2 ∷ 3 ∷ 4 ∷ []) (tagOf the-type r)
+    pub fire-kept : OneOf (0 ∷ 2 ∷ 3 ∷ 4 ∷ 5 ∷ []) (tagOf the-type r)
         → answered (seen r) (run new history n) ≡ onFile v (λ m. calls.fire m t (run values history n)) (run values history n)
     fire-kept h =
         rw (unrecorded r h .fire n, unrecorded r h .history t history n) at (fire-on-file v values new history n (seen r) t e)
@@ -211,6 +203,6 @@ module _ (v : Verdict) (values new : List ℤ) (history : List ℕ) (n : ℕ) (r
         let one-less : countAfterUndo (seen r) n ≡ n - 1 = ap (λ x. countAfterUndo (seen x) n) q in
         rw one-less at (undo-on-file v values new history n (seen r) e)
 
-    pub undo-kept : OneOf (0 ∷ 1 ∷ 3 ∷ 4 ∷ []) (tagOf the-type r)
+    pub undo-kept : OneOf (0 ∷ 1 ∷ 3 ∷ 4 ∷ 5 ∷ []) (tagOf the-type r)
         → answered (seen r) (run new history n) ≡ onFile v (λ m. calls.undo m (run values history n)) (run values history n)
     undo-kept h = rw (not-undone r h n) at (undo-on-file v values new history n (seen r) e)

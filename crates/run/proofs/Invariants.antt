@@ -1,6 +1,6 @@
 -- A refusal that never comes after an accepted start, from what holds after a start and stays along a list of calls.
 use mathlib.Core.Path.{_≡_, refl, sym, ap, _∙_}
-use mathlib.Core.Bool.{Bool, true, false, cond, not}
+use mathlib.Core.Bool.{true, false}
 use mathlib.Core.List.{List}
 use mathlib.Core.Option.{some, none}
 use Prim.Native.Nat.{ℕ, suc, _-_}
@@ -17,19 +17,16 @@ use Rattle.semantics.specs.declared.Firing.the-variants.{Fired}
 use Rattle.semantics.specs.Meanings.{Meaning, meaningOf}
 use Rattle.semantics.specs.Firing as firing
 use Rattle.run.specs.declared.Call.{Call}
-use Rattle.run.specs.declared.Call.the-variants.{Check, Start, Fire, Undo, Marks, Value}
+use Rattle.run.specs.declared.Call.the-variants.{Check, Start, Fire, Undo, Marks, Value, Pick}
 use Rattle.standing.specs.Runs.{Run, Store, Answer, Done, run, answered}
-use Rattle.standing.specs.Runs.Answer.{refused, rounds, done, number, sizes}
+use Rattle.standing.specs.Runs.Answer.{refused, rounds, done, number, sizes, picked}
 use Rattle.standing.specs.Holding.{tooShort, holds}
 use Rattle.steps.specs.Calls.{initial, start, replay}
-use Rattle.run.specs.Picks.{PickedFrom, Fireable}
-use Rattle.run.specs.Lists.{callOn, callBy, call, Performed, PickedBy, lastLeft}
+use Rattle.run.specs.Lists.{callOn, callBy, call, Performed}
 use Rattle.run.specs.Lists.Performed.{nothing, next}
-use Rattle.run.specs.declared.Picked.{Picked}
-use Rattle.run.specs.declared.Picked.the-variants.{Refused, Transition, Nothing}
 use Rattle.run.specs.Theorems.{NoneIs, NeverAfterStart}
 use Rattle.steps.proofs.Tests.{clash}
-use Rattle.run.proofs.Cases.{Other, start-cases, fire-cases, undo-cases, marks-cases, value-cases}
+use Rattle.run.proofs.Cases.{Other, start-cases, fire-cases, undo-cases, marks-cases, value-cases, pick-cases}
 
 -- the number of a refusal; 1, which no call on an accepted model answers, of any other answer
 abbrev refusalIn : Answer → ℕ
@@ -38,6 +35,7 @@ refusalIn (rounds n) = 1
 refusalIn done = 1
 refusalIn (number v) = 1
 refusalIn (sizes z) = 1
+refusalIn (picked t) = 1
 
 -- what holds of the run after an accepted start and stays with each accepted call; under it number n is not met
 pub record Invariant (n : ℕ) (m : Meaning) : Type 1 where
@@ -93,6 +91,10 @@ module _ (n : ℕ) (other : (k : ℕ) → Other k → k ≡ n → ⊥) where
           (accepted-by (number _) refl),
       h,
     )
+    stays z Pick s h = (
+      pick-cases m (s .run) Not (λ k o. not-refused k (other k o)) (λ e. not-refused 20 (i .stale (s .run) h e)) (accepted-by (picked _) refl),
+      h,
+    )
 
     begins : (r : Run) (count : ℕ) → start m r .answer ≡ rounds count → i .Holds (start m r .left)
     begins r count =
@@ -101,42 +103,21 @@ module _ (n : ℕ) (other : (k : ℕ) → Other k → k ≡ n → ⊥) where
         (λ k long e p. i .started r k long e)
 
     never : (file : List ℕ) (z : Sizes) → ((c : Call) (s : Store) → call file c s ≡ callOn z m c s) → {cs : List Call} {s : Store} {rs : List (Done Store)}
-        → Performed file cs s rs → i .Holds (s .run) → NoneIs n rs × i .Holds (lastLeft s rs .run)
-    unfolding NoneIs lastLeft
-    never file z e nothing h = (tt, h)
+        → Performed file cs s rs → i .Holds (s .run) → NoneIs n rs
+    unfolding NoneIs
+    never file z e nothing h = tt
     never file z e (next {c = c} {s = s} {d = d} p rest) h =
-        let k : Not (d .answer) × i .Holds (d .left .run) = rw (p ∙ e c s) (stays z c s h) in
-        let r = never file z e rest (k .1) in
-        ((k .0, r .0), r .1)
-
-    not-fireable : (values : List ℤ) (p : Picked) → Fireable m values p → p ≡ Refused n → ⊥
-    unfolding Fireable
-    not-fireable values (Refused k) f e = f
-    not-fireable values (Transition t) f e = clash cc
-    not-fireable values Nothing f e = clash cc
-
-    -- nor does pick answer it
-    picks : (r : Run) → i .Holds r → (p : Picked) → PickedFrom m r p → p ≡ Refused n → ⊥
-    unfolding PickedFrom
-    picks r h p q e = go (tooShort m (r .values)) (holds m r) refl refl q
-      where
-        go : (a b : Bool) → tooShort m (r .values) ≡ a → holds m r ≡ b
-            → cond a (p ≡ Refused 9) (cond (not b) (p ≡ Refused 20) (Fireable m (r .values) p)) → ⊥
-        go true b x y w = other 9 (omega arith) (let z : 9 ≡ n = cc in z)
-        go false false x y w = i .stale r h y (let z : 20 ≡ n = cc in z)
-        go false true x y w = not-fireable (r .values) p w e
+        let k : Not (d .answer) × i .Holds (d .left .run) = rw (p ∙ e c s) (stays z c s h) in (k .0, never file z e rest (k .1))
 
   pub never-after-start : ((file : List ℕ) → Bytes file → (z : Sizes) (t : System) → verdict file ≡ accepted z t → Invariant n (meaningOf t))
       → NeverAfterStart n
-  unfolding callBy callOn PickedBy
+  unfolding callBy callOn
   never-after-start invariant file b s d count promised started cs rs performed = go (verdict file) refl
     where
-      go : (v : Verdict) → verdict file ≡ v
-          → NoneIs n rs × ((p : Picked) → PickedBy (verdict file) (lastLeft (d .left) rs .run) p → p ≡ Refused n → ⊥)
+      go : (v : Verdict) → verdict file ≡ v → NoneIs n rs
       go (refusal k) e = clash (let q : refused k ≡ rounds count = rw e at (ap (λ x. x .answer) (sym promised) ∙ started) in cc)
       go (accepted z t) e =
           let i : Invariant n (meaningOf t) = invariant file b z t e in
           let h : i .Holds (d .left .run) =
           rw (promised, e) (begins (meaningOf t) i (s .run) count (rw e at (ap (λ x. x .answer) (sym promised) ∙ started))) in
-          let k = never (meaningOf t) i file z (λ c x. rw e) performed h in
-          (k .0, λ p q. picks (meaningOf t) i (lastLeft (d .left) rs .run) (k .1) p (rw e at q))
+          never (meaningOf t) i file z (λ c x. rw e) performed h

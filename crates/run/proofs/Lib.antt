@@ -1,3 +1,4 @@
+pub mod Alone
 pub mod Bounds
 pub mod Cases
 pub mod Final
@@ -5,7 +6,6 @@ pub mod Following
 pub mod Held
 pub mod Invariants
 pub mod Order
-pub mod Picking
 pub mod Promised
 pub mod Reached
 pub mod Replay

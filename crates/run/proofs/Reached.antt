@@ -8,7 +8,7 @@ use Rattle.model.specs.Check.{Verdict, verdict, answerOf}
 use Rattle.model.specs.Check.Verdict.{refusal, accepted}
 use Rattle.semantics.specs.Meanings.{Meaning, meaningOf}
 use Rattle.run.specs.declared.Call.{Call}
-use Rattle.run.specs.declared.Call.the-variants.{Check, Start, Fire, Undo, Marks, Value}
+use Rattle.run.specs.declared.Call.the-variants.{Check, Start, Fire, Undo, Marks, Value, Pick}
 use Rattle.standing.specs.Runs.{Run, Store, Answer, Done, run, store, answered}
 use Rattle.steps.specs.Answers.{seen, onFile, onFileAnswer}
 use Rattle.steps.specs.Calls as calls
@@ -43,13 +43,23 @@ module _ (s : Store) where
       go (refusal n) = refl
       go (accepted z t) = refl
 
-  pub value-reached : (x : ℕ) (v : Verdict) (a : Answer) → a ≡ onFileAnswer v (λ m. queries.value m x (s .run)) → answered a s ≡ callBy v (Value x) s
-  unfolding onFileAnswer callBy callOn
-  value-reached x v a e = ap (λ a. answered a s) e ∙ go v
+  -- a call that is lent nothing that it could change
+  answer-reached : (c : Call) (f : Meaning → Answer) → ((z : Sizes) (m : Meaning) → answered (f m) s ≡ callOn z m c s)
+      → (v : Verdict) (a : Answer) → a ≡ onFileAnswer v f → answered a s ≡ callBy v c s
+  unfolding onFileAnswer callBy
+  answer-reached c f same v a e = ap (λ a. answered a s) e ∙ go v
     where
-      go : (v : Verdict) → answered (onFileAnswer v (λ m. queries.value m x (s .run))) s ≡ callBy v (Value x) s
+      go : (v : Verdict) → answered (onFileAnswer v f) s ≡ callBy v c s
       go (refusal n) = refl
-      go (accepted z t) = refl
+      go (accepted z t) = same z (meaningOf t)
+
+  pub value-reached : (x : ℕ) (v : Verdict) (a : Answer) → a ≡ onFileAnswer v (λ m. queries.value m x (s .run)) → answered a s ≡ callBy v (Value x) s
+  unfolding callOn
+  value-reached x = answer-reached (Value x) (λ m. queries.value m x (s .run)) (λ z m. refl)
+
+  pub pick-reached : (v : Verdict) (a : Answer) → a ≡ onFileAnswer v (λ m. queries.pick m (s .run)) → answered a s ≡ callBy v Pick s
+  unfolding callOn
+  pick-reached = answer-reached Pick (λ m. queries.pick m (s .run)) (λ z m. refl)
 
 -- ---- the calls that are lent the run, on a file
 
@@ -82,6 +92,7 @@ calls-reached = record {
       undo-reached m (store (run values history n) held) (seen r) (run values′ history n′) e;
   marks = λ m values history n held r held′ e. marks-reached (store (run values history n) held) (verdict m) (seen r) held′ e;
   value = λ m values history n x held r e. value-reached (store (run values history n) held) x (verdict m) (seen r) e;
+  pick = λ m values history n held r e. pick-reached (store (run values history n) held) (verdict m) (seen r) e;
 }
 
 pub performances-exist : PerformancesExist

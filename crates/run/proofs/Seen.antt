@@ -1,9 +1,12 @@
 -- Different answers of the code never look alike: `seen` has an inverse.
 use mathlib.Core.Path.{_≡_, refl, sym, ap, _∙_}
+use mathlib.Core.Option.{some, none}
+use Rattle.results.specs.declared.Found.the-variants.{At, Nothing}
+use Rattle.results.specs.Results.{found}
 use Rattle.steps.specs.declared.Answer as declared
-use Rattle.steps.specs.declared.Answer.the-variants.{Refused, Rounds, Done, Number, Sizes}
+use Rattle.steps.specs.declared.Answer.the-variants.{Refused, Rounds, Done, Number, Sizes, Picked}
 use Rattle.standing.specs.Runs.{Answer}
-use Rattle.standing.specs.Runs.Answer.{refused, rounds, done, number, sizes}
+use Rattle.standing.specs.Runs.Answer.{refused, rounds, done, number, sizes, picked}
 use Rattle.steps.specs.Answers.{seen}
 use Rattle.run.specs.Theorems.{SeenDistinct}
 
@@ -13,14 +16,18 @@ inverse (rounds n) = Rounds n
 inverse done = Done
 inverse (number v) = Number v
 inverse (sizes z) = Sizes z
+inverse (picked (some t)) = Picked (At t)
+inverse (picked none) = Picked Nothing
 
 inverse-seen : (a : declared.Answer) → inverse (seen a) ≡ a
-unfolding inverse seen
+unfolding inverse seen found
 inverse-seen (Refused n) = refl
 inverse-seen (Rounds n) = refl
 inverse-seen Done = refl
 inverse-seen (Number v) = refl
 inverse-seen (Sizes z) = refl
+inverse-seen (Picked (At t)) = refl
+inverse-seen (Picked Nothing) = refl
 
 pub seen-distinct : SeenDistinct
 seen-distinct a b e = sym (inverse-seen a) ∙ ap inverse e ∙ inverse-seen b

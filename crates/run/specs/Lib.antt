@@ -1,6 +1,5 @@
 -- Definitions and statements of crate `run`, in document 01's order.
 -- 01's own:
-pub mod Picks
 pub mod Lists
 -- what each function promises:
 pub mod Promises

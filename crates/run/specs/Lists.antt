@@ -8,13 +8,11 @@ use Rattle.model.specs.Check.{Verdict, verdict}
 use Rattle.model.specs.Check.Verdict.{refusal, accepted}
 use Rattle.semantics.specs.Meanings.{Meaning, meaningOf}
 use Rattle.run.specs.declared.Call.{Call}
-use Rattle.run.specs.declared.Call.the-variants.{Check, Start, Fire, Undo, Marks, Value}
+use Rattle.run.specs.declared.Call.the-variants.{Check, Start, Fire, Undo, Marks, Value, Pick}
 use Rattle.standing.specs.Runs.{Run, Store, Answer, Done, answered, withRun, withMarks}
-use Rattle.standing.specs.Runs.Answer.{refused, rounds, done, number, sizes}
-use Rattle.run.specs.declared.Picked.{Picked}
+use Rattle.standing.specs.Runs.Answer.{refused, rounds, done, number, sizes, picked}
 use Rattle.steps.specs.Calls as calls
 use Rattle.inspection.specs.Queries as queries
-use Rattle.run.specs.Picks.{PickedFrom}
 
 abbrev pub onRun : Store → Done Run → Done Store
 onRun s d = answered (d .answer) (withRun (d .left) s)
@@ -30,6 +28,7 @@ callOn z m (Fire t) s = onRun s (calls.fire m t (s .run))
 callOn z m Undo s = onRun s (calls.undo m (s .run))
 callOn z m Marks s = onMarks s (queries.marks m (s .run) (s .marks))
 callOn z m (Value x) s = answered (queries.value m x (s .run)) s
+callOn z m Pick s = answered (queries.pick m (s .run)) s
 
 unfoldable pub callBy : Verdict → Call → Store → Done Store
 callBy (refusal n) c s = answered (refused n) s
@@ -51,16 +50,12 @@ CountWithin flows (rounds n) = (1 ≤ n) × (n ≤ suc flows)
 CountWithin flows done = Unit {0}
 CountWithin flows (number v) = Unit {0}
 CountWithin flows (sizes z) = Unit {0}
+CountWithin flows (picked t) = Unit {0}
 
 -- the same on a model file
 unfoldable pub CountBounded : Verdict → Answer → Type 0
 CountBounded (refusal n) a = Unit {0}
 CountBounded (accepted z t) a = CountWithin (z .flows) a
-
--- pick on a model file
-unfoldable pub PickedBy : Verdict → Run → Picked → Type 0
-PickedBy (refusal n) r p = p ≡ Picked.Refused n
-PickedBy (accepted z t) r p = PickedFrom (meaningOf t) r p
 
 -- what `perform` promises of a call's answer and of all that it leaves
 abbrev pub Promise : List ℕ → Call → Store → Done Store → Type 0
@@ -71,8 +66,3 @@ pub data Performed (m : List ℕ) : List Call → Store → List (Done Store) �
   nothing : {s : Store} → Performed m [] s []
   next : {c : Call} {cs : List Call} {s : Store} {d : Done Store} {ds : List (Done Store)}
       → Promise m c s d → Performed m cs (d .left) ds → Performed m (c ∷ cs) s (d ∷ ds)
-
--- the store that the last result left
-unfoldable pub lastLeft : Store → List (Done Store) → Store
-lastLeft s [] = s
-lastLeft s (d ∷ ds) = lastLeft (d .left) ds

@@ -8,14 +8,13 @@ use Rattle.model.specs.declared.Checked.{Checked}
 use Rattle.model.specs.declared.Checked.the-variants.{Refused, Accepted}
 use Rattle.model.specs.Check.{verdict, answerOf}
 use Rattle.run.specs.declared.Call.{Call}
-use Rattle.run.specs.declared.Picked.{Picked}
 use Rattle.steps.specs.declared.Answer as declared
 use Rattle.standing.specs.Runs.{Answer, Store, run, answered}
 use Rattle.standing.specs.Runs.Answer.{refused, sizes}
 use Rattle.steps.specs.Answers.{seen, onFile, onFileAnswer}
 use Rattle.steps.specs.Calls as calls
 use Rattle.inspection.specs.Queries as queries
-use Rattle.run.specs.Lists.{CountBounded, PickedBy, Promise}
+use Rattle.run.specs.Lists.{CountBounded, Promise}
 
 -- the check's answers, by 01's numbers and values
 unfoldable pub seenCheck : Checked → Answer
@@ -48,8 +47,8 @@ MarksPromise m values history n marks r marks′ =
 abbrev pub ValuePromise : List ℕ → List ℤ → List ℕ → ℕ → ℕ → declared.Answer → Type 0
 ValuePromise m values history n x r = seen r ≡ onFileAnswer (verdict m) (λ m. queries.value m x (run values history n))
 
-abbrev pub PickPromise : List ℕ → List ℤ → List ℕ → ℕ → Picked → Type 0
-PickPromise m values history n r = PickedBy (verdict m) (run values history n) r
+abbrev pub PickPromise : List ℕ → List ℤ → List ℕ → ℕ → declared.Answer → Type 0
+PickPromise m values history n r = seen r ≡ onFileAnswer (verdict m) (λ m. queries.pick m (run values history n))
 
 -- one call, given by value, over all that is lent
 abbrev pub PerformPromise : List ℕ → Call → Store → declared.Answer → Store → Type 0

@@ -4,18 +4,15 @@ use mathlib.Core.List.{List, [], _∷_}
 use Prim.Native.Nat.{ℕ}
 use lib.IntN.{ℤ}
 use Rattle.model.specs.declared.Checked.{Checked}
-use Rattle.model.specs.Check.{verdict}
 use Rattle.model.specs.Theorems.{Bytes, Accepted, ShuffledFile}
 use Rattle.run.specs.declared.Call.{Call}
-use Rattle.run.specs.declared.Call.the-variants.{Check, Start, Fire, Undo, Marks, Value}
+use Rattle.run.specs.declared.Call.the-variants.{Check, Start, Fire, Undo, Marks, Value, Pick}
 use Rattle.standing.specs.Runs.{Store, Done, run, store, answered}
 use Rattle.standing.specs.Runs.Answer.{refused, rounds}
-use Rattle.run.specs.declared.Picked.{Picked}
-use Rattle.run.specs.declared.Picked.the-variants.{Refused}
 use Rattle.steps.specs.declared.Answer as declared
-use Rattle.run.specs.Lists.{callsOf, Promise, Performed, PickedBy, lastLeft}
+use Rattle.run.specs.Lists.{callsOf, Promise, Performed}
 use Rattle.steps.specs.Answers.{seen}
-use Rattle.run.specs.Promises.{seenCheck, CheckPromise, StartPromise, FirePromise, UndoPromise, MarksPromise, ValuePromise}
+use Rattle.run.specs.Promises.{seenCheck, CheckPromise, StartPromise, FirePromise, UndoPromise, MarksPromise, ValuePromise, PickPromise}
 
 -- The functions carry out a list: what each promises of its answer and of what it is lent is the promise of its call, the rest of the
 -- store being as it was. 01: "Every call takes what it uses of this as the calls before, refused or not, left it".
@@ -36,13 +33,16 @@ pub record CallsReached : Type 0 where
   pub value : (m : List ℕ) (values : List ℤ) (history : List ℕ) (n x : ℕ) (held : List ℕ) (r : declared.Answer)
       → ValuePromise m values history n x r
       → Promise m (Value x) (store (run values history n) held) (answered (seen r) (store (run values history n) held))
+  pub pick : (m : List ℕ) (values : List ℤ) (history : List ℕ) (n : ℕ) (held : List ℕ) (r : declared.Answer) → PickPromise m values history n r
+      → Promise m Pick (store (run values history n) held) (answered (seen r) (store (run values history n) held))
 
 -- every list has results that the promises allow
 abbrev pub PerformancesExist : Type 0
 PerformancesExist = (m : List ℕ) (cs : List Call) (s : Store) → Performed m cs s (callsOf m cs s)
 
 -- 01, demand 3: "Each answer, and after each call n and every cell, are equal for both and are what these definitions give along the
--- list. That is one claim about the whole list, not one for each call."
+-- list. That is one claim about the whole list, not one for each call." A1: "Pick then joins the calls whose whole answer no
+-- reordering changes": it is a Call.
 abbrev pub OrderIndependent : Type 0
 OrderIndependent =
     (m m′ : List ℕ) → Bytes m → Accepted m → ShuffledFile m m′ → (cs : List Call) (s : Store) (rs rs′ : List (Done Store))
@@ -53,13 +53,12 @@ unfoldable pub NoneIs : ℕ → List (Done Store) → Type 0
 NoneIs n [] = Unit {0}
 NoneIs n (d ∷ ds) = (d .answer ≡ refused n → ⊥) × NoneIs n ds
 
--- 01: "after an accepted start and any list of these calls with the same model and run it doesn't occur". Pick, which is lent nothing
--- that it could change, answers it neither.
+-- 01: "after an accepted start and any list of these calls with the same model and run it doesn't occur"
 abbrev pub NeverAfterStart : ℕ → Type 0
 NeverAfterStart n =
     (m : List ℕ) → Bytes m → (s : Store) (d : Done Store) (count : ℕ) → Promise m Start s d → d .answer ≡ rounds count
     → (cs : List Call) (rs : List (Done Store)) → Performed m cs (d .left) rs
-    → NoneIs n rs × ((p : Picked) → PickedBy (verdict m) (lastLeft (d .left) rs .run) p → p ≡ Refused n → ⊥)
+    → NoneIs n rs
 
 abbrev pub ReplayHolds : Type 0
 ReplayHolds = NeverAfterStart 31

@@ -1,12 +1,9 @@
 // The calls on a run.
 
-ghost use mathlib.Core.Path.{_≡_};
 ghost use Rattle.standing.specs.Runs.{run, store};
-ghost use Rattle.run.specs.Picks.{firstFireable};
 ghost use Rattle.run.specs.Promises.{CheckPromise, StartPromise, FirePromise, UndoPromise, MarksPromise, ValuePromise, PickPromise, PerformPromise};
 use inspection::Query;
 use model::Checked;
-use model::Model;
 use steps::Answer;
 use steps::Move;
 use steps::moves;
@@ -19,13 +16,7 @@ pub enum Call {
     Undo,
     Marks,
     Value(usize),
-}
-
-// What pick answers.
-pub enum Picked {
-    Refused(u8),
-    Transition(usize),
-    Nothing,
+    Pick,
 }
 
 // The check of a model: its five sizes.
@@ -99,32 +90,11 @@ pub fn value(model: &[u8], values: &[i32], history: &[u8], n: usize, variable: u
     )
 }
 
-// The first mark that is 1.
-fn first_fireable(marks: &[u8]) -> Picked
-    ensures { λ r. ⌜ r ≡ firstFireable (now (marks .entry)) 0 ⌝ }
-{
-    let mut i = 0;
-    while i < marks.len() {
-        if marks[i] == 1 {
-            return Picked::Transition(i);
-        }
-        i += 1;
-    }
-    Picked::Nothing
-}
-
-// Some fireable transition, or none exactly if no mark is 1: here the lowest.
-pub fn pick(model: &[u8], values: &[i32], history: &[u8], n: usize) -> Picked
+// The fireable transition with the lowest number, or none exactly if no mark is 1.
+pub fn pick(model: &[u8], values: &[i32], history: &[u8], n: usize) -> Answer
     ensures { λ r. ⌜ PickPromise (now (model .entry)) (now (values .entry)) (now (history .entry)) n r ⌝ }
 {
-    let mut held = [0u8; Model::MAX_TRANSITIONS];
-    match marks(model, values, history, n, &mut held) {
-        Answer::Refused(number) => Picked::Refused(number),
-        Answer::Rounds(_) => Picked::Nothing,
-        Answer::Done => first_fireable(&held),
-        Answer::Number(_) => Picked::Nothing,
-        Answer::Sizes(_) => Picked::Nothing,
-    }
+    inspection::inspect(model, values, history, n, &mut [0u8; 0], Query::Pick)
 }
 
 // One call, given by value.
@@ -155,6 +125,10 @@ pub fn perform(
         Call::Value(variable) => {
             let count = *n;
             value(model, values, history, count, variable)
+        }
+        Call::Pick => {
+            let count = *n;
+            pick(model, values, history, count)
         }
     }
 }

@@ -1,6 +1,7 @@
 -- 01, "The calls on a run": "A run is a values slice [..], a record slice of transition numbers (bytes), and a count n of recorded
 -- steps." The record slice is called the history here.
 use mathlib.Core.List.{List}
+use mathlib.Core.Option.{Option}
 use Prim.Native.Nat.{ℕ}
 use lib.IntN.{ℤ}
 use Rattle.model.specs.declared.Sizes.{Sizes}
@@ -38,13 +39,14 @@ withRun r s = store r (s .marks)
 abbrev pub withMarks : List ℕ → Store → Store
 withMarks marks s = store (s .run) marks
 
--- 01's answers: the number of a refusal, the round count, that it was done, a value, the five sizes
+-- 01's answers: the number of a refusal, the round count, that it was done, a value, the five sizes, the transition picked or none
 pub data Answer : Type 0 where
   refused : ℕ → Answer
   rounds : ℕ → Answer
   done : Answer
   number : ℤ → Answer
   sizes : Sizes → Answer
+  picked : Option ℕ → Answer
 
 -- an answer with what is left of a thing that was lent
 abbrev pub Done : Type 0 → Type 0

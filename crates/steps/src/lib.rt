@@ -3,14 +3,17 @@
 pub mod moves; // moves.rt: start, fire and undo
 
 use model::Sizes;
+use results::Found;
 
-// What a call answers: the number of a refusal, the round count, that it was done, a value, the five sizes.
+// What a call answers: the number of a refusal, the round count, that it was done, a value, the five sizes, the transition
+// picked or none.
 pub enum Answer {
     Refused(u8),
     Rounds(usize),
     Done,
     Number(i32),
     Sizes(Sizes),
+    Picked(Found),
 }
 
 // What is done with the values of a run.

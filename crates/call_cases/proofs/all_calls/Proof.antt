@@ -6,11 +6,11 @@ use Rattle.call_cases.proofs.all_calls.Statement.{statement}
 use Rattle.call_cases.proofs.all_calls.Tie as tie
 
 abbrev Inv-loop : tie.InvT-loop
-Inv-loop fd count first store model values₀ history₀ marks₀ head₀ body₀ n₀ tally₀ left₀ values history marks head body n tally left =
-    (length values ≡ length values₀) × (length history ≡ length history₀) × (length marks ≡ length marks₀) × (length body ≡ length body₀)
+Inv-loop fd count first store₀ model values₀ history₀ marks₀ head₀ n₀ tally₀ left₀ store values history marks head n tally left =
+    (length store ≡ length store₀) × (length values ≡ length values₀) × (length history ≡ length history₀) × (length marks ≡ length marks₀)
 
 abbrev μ-loop : tie.MeasureT-loop
-μ-loop fd count first store model values₀ history₀ marks₀ head₀ body₀ n₀ tally₀ left₀ values history marks head body n tally left = left
+μ-loop fd count first store₀ model values₀ history₀ marks₀ head₀ n₀ tally₀ left₀ store values history marks head n tally left = left
 
 loop-holds : tie.Need-loop-holds Inv-loop μ-loop
 loop-holds c = search needs
@@ -18,14 +18,8 @@ loop-holds c = search needs
 sub-left : tie.Need-sub-left Inv-loop μ-loop
 sub-left c = search needs
 
-slice-aggregate-read-call : tie.Need-slice-aggregate-read-call Inv-loop μ-loop
-slice-aggregate-read-call c = search needs
-
 read-call-requires : tie.Need-read-call-requires Inv-loop μ-loop
 read-call-requires c κs = search needs
-
-enum-told : tie.Need-enum-told Inv-loop μ-loop
-enum-told c = search needs
 
 same-length : tie.Need-same-length Inv-loop μ-loop
 same-length c = search needs
@@ -36,32 +30,11 @@ same-length-2 c = search needs
 same-length-3 : tie.Need-same-length-3 Inv-loop μ-loop
 same-length-3 c = search needs
 
-returns : tie.Need-returns Inv-loop μ-loop
-returns c = search needs
-
-enum-known-bytes : tie.Need-enum-known-bytes Inv-loop μ-loop
-enum-known-bytes c = search needs
-
 same-length-4 : tie.Need-same-length-4 Inv-loop μ-loop
 same-length-4 c = search needs
 
-same-length-5 : tie.Need-same-length-5 Inv-loop μ-loop
-same-length-5 c = search needs
-
-same-length-6 : tie.Need-same-length-6 Inv-loop μ-loop
-same-length-6 c = search needs
-
-returns-2 : tie.Need-returns-2 Inv-loop μ-loop
-returns-2 c = search needs
-
-sub-is-equal : tie.Need-sub-is-equal Inv-loop μ-loop
-sub-is-equal c = search needs
-
-part-is-equal-start : tie.Need-part-is-equal-start Inv-loop μ-loop
-part-is-equal-start c = search needs
-
-part-is-equal-end : tie.Need-part-is-equal-end Inv-loop μ-loop
-part-is-equal-end c = search needs
+returns : tie.Need-returns Inv-loop μ-loop
+returns c = search needs
 
 is-equal-requires : tie.Need-is-equal-requires Inv-loop μ-loop
 is-equal-requires c κs = search needs
@@ -75,17 +48,20 @@ loop-less c = search needs
 loop-again : tie.Need-loop-again Inv-loop μ-loop
 loop-again c = search needs
 
+same-length-5 : tie.Need-same-length-5 Inv-loop μ-loop
+same-length-5 c = search needs
+
+same-length-6 : tie.Need-same-length-6 Inv-loop μ-loop
+same-length-6 c = search needs
+
 same-length-7 : tie.Need-same-length-7 Inv-loop μ-loop
 same-length-7 c = search needs
 
 same-length-8 : tie.Need-same-length-8 Inv-loop μ-loop
 same-length-8 c = search needs
 
-same-length-9 : tie.Need-same-length-9 Inv-loop μ-loop
-same-length-9 c = search needs
-
-returns-3 : tie.Need-returns-3 Inv-loop μ-loop
-returns-3 c = search needs
+returns-2 : tie.Need-returns-2 Inv-loop μ-loop
+returns-2 c = search needs
 
 pub all-calls-spec : {M : Type 1} → statement M
 all-calls-spec =
@@ -95,26 +71,18 @@ all-calls-spec =
     μ-loop
     loop-holds
     sub-left
-    slice-aggregate-read-call
     read-call-requires
-    enum-told
     same-length
     same-length-2
     same-length-3
-    returns
-    enum-known-bytes
     same-length-4
-    same-length-5
-    same-length-6
-    returns-2
-    sub-is-equal
-    part-is-equal-start
-    part-is-equal-end
+    returns
     is-equal-requires
     counted-requires
     loop-less
     loop-again
+    same-length-5
+    same-length-6
     same-length-7
     same-length-8
-    same-length-9
-    returns-3)
+    returns-2)

@@ -1,7 +1,6 @@
 -- `gts_pick` meets its contract.
 use borrow.Author.Needs.{needs}
-use mathlib.Core.Path.{sym, ap}
-use Rattle.capi.specs.Codes.{codedPick}
+use Rattle.capi.proofs.Coding.{pick-refused, pick-found, pick-none, pick-other}
 use Rattle.capi.proofs.gts_pick.Statement.{statement}
 use Rattle.capi.proofs.gts_pick.Tie as tie
 
@@ -11,32 +10,42 @@ pick-requires c κs = search needs
 enum-known-number : tie.Need-enum-known-number
 enum-known-number c = search needs
 
-enum-known-fireable : tie.Need-enum-known-fireable
-enum-known-fireable c = search needs
+enum-known-picked : tie.Need-enum-known-picked
+enum-known-picked c = search needs
+
+enum-known-picked-2 : tie.Need-enum-known-picked-2
+enum-known-picked-2 c = search needs
 
 enum-told : tie.Need-enum-told
 enum-told c = search needs
 
 returns : tie.Need-returns
-unfolding codedPick
 returns c =
     let start = c .before .before .before .before .before .before .args in
     let called = c .before .before .before .pick in
-    record { picked = called .result; by = called .ensures; same = ap (codedPick (start .transition .now, start .found .now)) (sym (c .before .number .given .1)) }
+    pick-refused (start .model .now) (start .values .now) (start .history .now) (start .n) (start .transition .now) (start .found .now) (called .result) (called .ensures)
+    (c .before .number .given .0 .0) (c .before .number .given .1)
 
 returns-2 : tie.Need-returns-2
-unfolding codedPick
 returns-2 c =
-    let start = c .before .before .before .before .before .before .args in
-    let called = c .before .before .before .pick in
-    record { picked = called .result; by = called .ensures; same = ap (codedPick (start .transition .now, start .found .now)) (sym (c .before .fireable .given .1)) }
+    let start = c .before .before .before .before .before .before .before .before .before .args in
+    let called = c .before .before .before .before .before .before .pick in
+    pick-found (start .model .now) (start .values .now) (start .history .now) (start .n) (start .transition .now) (start .found .now) (called .result) (called .ensures)
+    (c .before .before .before .before .picked .given .0 .0) (c .before .picked2 .given .0 .0) (c .before .before .before .before .picked .given .1) (c .before .picked2 .given .1)
 
 returns-3 : tie.Need-returns-3
-unfolding codedPick
 returns-3 c =
-    let start = c .before .before .before .before .before .args in
-    let called = c .before .before .pick in
-    record { picked = called .result; by = called .ensures; same = ap (codedPick (start .transition .now, start .found .now)) (sym (c .enum-told .given .1)) }
+    let start = c .before .before .before .before .before .before .before .before .args in
+    let called = c .before .before .before .before .before .pick in
+    pick-none (start .model .now) (start .values .now) (start .history .now) (start .n) (start .transition .now) (start .found .now) (called .result) (called .ensures)
+    (c .before .before .before .picked .given .0 .0) (c .before .before .before .picked .given .1) (c .enum-told .given .1)
+
+returns-4 : tie.Need-returns-4
+returns-4 c =
+    let start = c .before .before .before .before .args in
+    let called = c .before .pick in
+    pick-other (start .model .now) (start .values .now) (start .history .now) (start .n) (start .transition .now) (start .found .now) (called .result) (called .ensures)
+    (c .match .keys3)
 
 pub gts-pick-spec : {M : Type 1} → statement M
 gts-pick-spec =
@@ -44,8 +53,10 @@ gts-pick-spec =
     (tie.spec
     pick-requires
     enum-known-number
-    enum-known-fireable
+    enum-known-picked
+    enum-known-picked-2
     enum-told
     returns
     returns-2
-    returns-3)
+    returns-3
+    returns-4)

@@ -20,6 +20,12 @@ enum-known-query c = search needs
 value-requires : tie.Need-value-requires
 value-requires c κs = c .before .before .before .before .before .before .before .before .pre
 
+enum-told-2 : tie.Need-enum-told-2
+enum-told-2 c = search needs
+
+pick-requires : tie.Need-pick-requires
+pick-requires c κs = c .before .before .before .before .before .before .before .pre
+
 same-length : tie.Need-same-length
 same-length c = c .before .before .marks-loaded .kept .1 .1 .1 .1 .1 .1 .1 .1 .1 .0
 
@@ -41,6 +47,15 @@ returns-2 c =
     subst (λ s. answered (seen (called .result)) (start .args .marks .now) ≡ queryOn (meaning d) s (run (start .args .values .now) (start .args .history .now) (start .args .n)) (start .args .marks .now))
     (sym (c .before .before .query .given .1)) (ap (λ a. answered a (start .args .marks .now)) (called .ensures d))
 
+returns-3 : tie.Need-returns-3
+unfolding queryOn
+returns-3 c =
+    let start = c .before .before .before .before .before .before .before .before in
+    let called = c .pick in
+    λ d.
+    subst (λ s. answered (seen (called .result)) (start .args .marks .now) ≡ queryOn (meaning d) s (run (start .args .values .now) (start .args .history .now) (start .args .n)) (start .args .marks .now))
+    (sym (c .before .enum-told2 .given .1)) (ap (λ a. answered a (start .args .marks .now)) (called .ensures d))
+
 pub dispatch-spec : {M : Type 1} → statement M
 dispatch-spec =
     tie.close
@@ -49,6 +64,9 @@ dispatch-spec =
     marks-loaded-requires
     enum-known-query
     value-requires
+    enum-told-2
+    pick-requires
     same-length
     returns
-    returns-2)
+    returns-2
+    returns-3)

@@ -1,56 +1,21 @@
 -- By the answer.
+use mathlib.Core.Path.{sym}
 use borrow.Author.Needs.{needs}
 use Rattle.steps.specs.Answers.{seen}
 use Rattle.replies.specs.Replies.{isAccepted}
+use Rattle.replies.proofs.Answering.{no-refusal}
 use Rattle.replies.proofs.is_accepted.Statement.{statement}
 use Rattle.replies.proofs.is_accepted.Tie as tie
 
 enum-told : tie.Need-enum-told
 enum-told c = search needs
 
-enum-told-2 : tie.Need-enum-told-2
-enum-told-2 c = search needs
-
-enum-told-3 : tie.Need-enum-told-3
-enum-told-3 c = search needs
-
-enum-told-4 : tie.Need-enum-told-4
-enum-told-4 c = search needs
-
-enum-told-5 : tie.Need-enum-told-5
-enum-told-5 c = search needs
-
 returns : tie.Need-returns
 unfolding isAccepted seen
 returns c = rw (c .enum-told .given .1)
 
 returns-2 : tie.Need-returns-2
-unfolding isAccepted seen
-returns-2 c = rw (c .enum-told2 .given .1)
-
-returns-3 : tie.Need-returns-3
-unfolding isAccepted seen
-returns-3 c = rw (c .enum-told3 .given .1)
-
-returns-4 : tie.Need-returns-4
-unfolding isAccepted seen
-returns-4 c = rw (c .enum-told4 .given .1)
-
-returns-5 : tie.Need-returns-5
-unfolding isAccepted seen
-returns-5 c = rw (c .enum-told5 .given .1)
+returns-2 c = sym (no-refusal (c .before .args .answer) (c .match .keys2))
 
 pub is-accepted-spec : {M : Type 1} → statement M
-is-accepted-spec =
-    tie.close
-    (tie.spec
-    enum-told
-    enum-told-2
-    enum-told-3
-    enum-told-4
-    enum-told-5
-    returns
-    returns-2
-    returns-3
-    returns-4
-    returns-5)
+is-accepted-spec = tie.close (tie.spec enum-told returns returns-2)

@@ -1,5 +1,5 @@
 -- The line of each answer.
-use Rattle.replies.proofs.Answering.{run-refused, run-rounds, run-done, run-number, run-sizes}
+use Rattle.replies.proofs.Answering.{run-refused, run-rounds, run-done, run-other}
 use borrow.Author.Needs.{needs}
 use Rattle.replies.proofs.run_line.Statement.{statement}
 use Rattle.replies.proofs.run_line.Tie as tie
@@ -21,12 +21,6 @@ enum-told c = search needs
 
 back-line-requires : tie.Need-back-line-requires
 back-line-requires c κs = search needs
-
-enum-told-2 : tie.Need-enum-told-2
-enum-told-2 c = search needs
-
-enum-told-3 : tie.Need-enum-told-3
-enum-told-3 c = search needs
 
 same-length : tie.Need-same-length
 same-length c = search needs
@@ -51,11 +45,8 @@ returns-3 c =
 
 returns-4 : tie.Need-returns-4
 returns-4 c =
-    λ h. run-number (c .before .before .before .args .out .now) (c .before .before .before .args .values .now) (c .enum-told2 .given .1)
-
-returns-5 : tie.Need-returns-5
-returns-5 c =
-    λ h. run-sizes (c .before .before .before .args .out .now) (c .before .before .before .args .values .now) (c .enum-told3 .given .1)
+    let start = c .before .before .args in
+    λ h. run-other (start .answer) (start .out .now) (start .values .now) (c .match .keys4)
 
 pub run-line-spec : {M : Type 1} → statement M
 run-line-spec =
@@ -67,13 +58,10 @@ run-line-spec =
     ok-line-requires
     enum-told
     back-line-requires
-    enum-told-2
-    enum-told-3
     same-length
     returns
     same-length-2
     returns-2
     same-length-3
     returns-3
-    returns-4
-    returns-5)
+    returns-4)

@@ -5,7 +5,7 @@ use Rattle.standing.specs.Runs.{run, store}
 use Rattle.steps.specs.Answers.{seen}
 use Rattle.steps.specs.declared.Answer.the-variants.{Refused, Sizes}
 use Rattle.run.specs.Promises.{seenCheck}
-use Rattle.run.specs.declared.Call.the-variants.{Start, Fire, Undo, Marks, Value}
+use Rattle.run.specs.declared.Call.the-variants.{Start, Fire, Undo, Marks, Value, Pick}
 use Rattle.run.proofs.Reached.{calls-reached}
 use Rattle.run.proofs.Promised.{performed, checked}
 use Rattle.run.proofs.perform.Statement.{statement}
@@ -52,6 +52,12 @@ enum-known-call-2 c = search needs
 
 value-requires : tie.Need-value-requires
 value-requires c κs = search needs
+
+enum-told-5 : tie.Need-enum-told-5
+enum-told-5 c = search needs
+
+pick-requires : tie.Need-pick-requires
+pick-requires c κs = search needs
 
 returns : tie.Need-returns
 unfolding seen seenCheck
@@ -161,6 +167,22 @@ returns-7 c =
     performed m bytes (start .call) (Value variable) lent (called .result) lent (c .before .before .before .before .before .call2 .given .1)
     (calls-reached .value m (start .values .now) (start .history .now) (start .n .now) variable (start .held .now) (called .result) (called .ensures))
 
+same-length-11 : tie.Need-same-length-11
+same-length-11 c = search needs
+
+same-length-12 : tie.Need-same-length-12
+same-length-12 c = search needs
+
+returns-8 : tie.Need-returns-8
+returns-8 c =
+    let start = c .before .before .before .before .before .before .before .before .before .args in
+    let m = start .model .now in
+    let bytes = c .before .before .before .before .before .before .before .before .shared-slice-known .given in
+    let lent = store (run (start .values .now) (start .history .now) (start .n .now)) (start .held .now) in
+    let called = c .pick in
+    performed m bytes (start .call) Pick lent (called .result) lent (c .before .before .before .before .enum-told5 .given .1)
+    (calls-reached .pick m (start .values .now) (start .history .now) (start .n .now) (start .held .now) (called .result) (called .ensures))
+
 pub perform-spec : {M : Type 1} → statement M
 perform-spec =
     tie.close
@@ -179,6 +201,8 @@ perform-spec =
     marks-requires
     enum-known-call-2
     value-requires
+    enum-told-5
+    pick-requires
     returns
     returns-2
     same-length
@@ -195,4 +219,7 @@ perform-spec =
     returns-6
     same-length-9
     same-length-10
-    returns-7)
+    returns-7
+    same-length-11
+    same-length-12
+    returns-8)
