@@ -7,8 +7,10 @@
  * A caller keeps them from one call to the next. Any content will do: a call that cannot go on from it refuses.
  *
  * Each call answers 0 and its results, or one of the numbers below, and then nothing that was lent has changed, results
- * included. Cells past those in use are neither looked at nor written. If several refusals apply, the one that is named
- * first at the call is answered.
+ * included. Cells past those in use are neither looked at nor written, but for place n of the history, which gts_fire
+ * writes. If several refusals apply, the one that is named first at the call is answered; but among 4 to 7 the first
+ * offending node decides (at one node the lowest number), and among 28 to 30 the first round with a fault (in one round
+ * the lowest number).
  *
  * No two buffers or cells of one call may overlap, and no pointer may be NULL, also where its length is 0. Lengths are
  * counted in elements, not in bytes. No call keeps a pointer, holds state, takes memory from the heap or does not end. */

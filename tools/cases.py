@@ -309,11 +309,11 @@ def block(branches):
     return [(19, len(branches))] + [node for branch in branches for node in branch]
 
 
-def stepped(action, twin, rounds=1, assertion=[SKIP], other=[SKIP], flows=0, value=1):
-    """Start, marks, one step, another one, take back: the action, read as its twin, gives the state this value; every flow becomes 1."""
+def stepped(action, twin, rounds=1, assertion=[SKIP], other=[SKIP], flows=0):
+    """A pick that is refused, start, marks, a step, take back twice: the action and its twin give the state 1; every flow becomes 1."""
     head, transition = (1 + flows) * [FLAG], [(5, 0), TRUE]
     files = [model(1, flows, 1, 1, head + transition + a + b) for a, b in ((action, assertion), (twin, other))]
-    before, after, ones = [0], [value], flows * [1]
+    before, after, ones = [0], [1], flows * [1]
     store = (3 * [7] if flows == 0 else (1 + flows) * [7], [9, 9], 77, [5, 6])
     rest = store[0][1 + flows:]
     calls = [

@@ -12,10 +12,6 @@ use lib.IntN.{ℤ}
 use lib.ListN.{length, take}
 use Rattle.evaluation.specs.declared.Evaluation.the-variants.{Value}
 use Rattle.evaluation.specs.Numbers.{eqZ, boolean}
-use Rattle.interpreter.specs.declared.Fault.{Fault}
-use Rattle.interpreter.specs.declared.Fault.the-variants.{Failure, Outside, Conflict}
-use Rattle.interpreter.specs.Instructions.{numberOf}
-use Rattle.interpreter.specs.Instructions.Place.{action, assertion}
 use Rattle.semantics.specs.Actions.{Acted}
 use Rattle.semantics.specs.Actions.Acted.{faulty, states}
 use Rattle.semantics.specs.Propagation.{Settled}
@@ -27,6 +23,7 @@ use Rattle.standing.specs.Runs.Answer.{refused, picked}
 use Rattle.standing.specs.Holding.{tooShort, holds}
 use Rattle.steps.specs.Calls.{answerOf, fire}
 use Rattle.steps.proofs.Tests.{clash, by-test}
+use Rattle.steps.proofs.FaultNumbers.{action-number, assertion-number}
 use Rattle.inspection.specs.Queries.{pick}
 use Rattle.inspection.specs.Theorems.{PickedFires}
 use Rattle.inspection.proofs.Lowest.{pick-lowest, fireable-exact}
@@ -38,26 +35,14 @@ Later a = (k : ℕ) → a ≡ refused k → (k ≡ 21) ⊎ ((25 ≤ k) × (k ≤
 later-refusal : (n : ℕ) → 25 ≤ n → n ≤ 30 → Later (refused n)
 later-refusal n low high k e = let same : n ≡ k = cc in inr (omega arith)
 
-action-later : (f : Fault) → Later (refused (numberOf action f))
-unfolding numberOf
-action-later Failure = later-refusal 25 (omega arith) (omega arith)
-action-later Outside = later-refusal 26 (omega arith) (omega arith)
-action-later Conflict = later-refusal 27 (omega arith) (omega arith)
-
-assertion-later : (f : Fault) → Later (refused (numberOf assertion f))
-unfolding numberOf
-assertion-later Failure = later-refusal 28 (omega arith) (omega arith)
-assertion-later Outside = later-refusal 29 (omega arith) (omega arith)
-assertion-later Conflict = later-refusal 30 (omega arith) (omega arith)
-
 settling-later : (old : List ℤ) (s : Settled) → Later (answerOf (leftBySettling old s .answer))
 unfolding leftBySettling answerOf
-settling-later old (unsettled f) = assertion-later f
+settling-later old (unsettled f) = later-refusal _ (omega (arith, assertion-number f)) (omega (arith, assertion-number f))
 settling-later old (settled n new) = λ k e. clash cc
 
 acting-later : (m : Meaning) (old : List ℤ) (a : Acted) → Later (answerOf (leftByActing m old a .answer))
 unfolding leftByActing answerOf
-acting-later m old (faulty f) = action-later f
+acting-later m old (faulty f) = later-refusal _ (omega (arith, action-number f)) (omega (arith, action-number f))
 acting-later m old (states ss) = settling-later old (m .propagate ss)
 
 module _ (m : Meaning) (r : Run) where

@@ -14,8 +14,7 @@ use Rattle.evaluation.specs.declared.Evaluation.the-variants.{Unknown, Failed, 
 use Rattle.evaluation.specs.Numbers.{eqZ, boolean}
 use Rattle.evaluation.proofs.Laws.{eqZ-true}
 use Rattle.semantics.specs.Meanings.{Meaning}
-use Rattle.standing.specs.Runs.{Answer}
-use Rattle.standing.specs.Runs.Answer.{refused, rounds, done, number, sizes, picked}
+use Rattle.standing.specs.Runs.Answer.{picked}
 use Rattle.inspection.specs.Queries.{markOf, marksFrom, marksOf, firstFireable, pick}
 use Rattle.inspection.specs.Theorems.{Fireable, FireableExact, PickLowest}
 use Rattle.inspection.proofs.MarksWritten.{length-marks}
@@ -77,22 +76,14 @@ module _ (m : Meaning) (values : List ℤ) where
   is-none (some u) f n =
       let z : u - 0 ≡ u = omega arith in absurd (n u (omega (arith, marks-count, f .1), rw z at (f .2)))
 
--- what was picked; of any other answer none
-pickedIn : Answer → Option ℕ
-pickedIn (refused n) = none
-pickedIn (rounds n) = none
-pickedIn done = none
-pickedIn (number v) = none
-pickedIn (sizes z) = none
-pickedIn (picked t) = t
-
 pub pick-lowest : PickLowest
-unfolding pick pickedIn
+unfolding pick
 pick-lowest m r long held =
     let marks = marksOf m (r .values) in
     let first : pick m r ≡ picked (firstFireable marks 0) = rw (long, held) in
     let found : IsFirst marks 0 (firstFireable marks 0) = finds marks 0 in
-    let is : (o : Option ℕ) → pick m r ≡ picked o → firstFireable marks 0 ≡ o = λ o e. ap pickedIn (sym first ∙ e) in (
+    let is : (o : Option ℕ) → pick m r ≡ picked o → firstFireable marks 0 ≡ o = λ o e.
+    let same : picked (firstFireable marks 0) ≡ picked o = sym first ∙ e in cc in (
       λ t. (
         λ e. lowest m (r .values) t _ found (is (some t) e),
         λ h. first ∙ ap picked (is-found m (r .values) t _ found (h .0) (h .1)),
@@ -108,10 +99,6 @@ mark-at m values t zero k i h e = absurd (omega arith)
 mark-at m values t (suc n) zero i h e = let s : i ≡ t = omega (arith, e) in rw s
 mark-at m values t (suc n) (suc k) i h e = mark-at m values (suc t) n k i (omega (arith, h)) (omega (arith, e))
 
-true-marked : (g : Evaluation) → g ≡ Value (boolean true) → markOf g ≡ 1
-unfolding markOf eqZ
-true-marked g e = ap markOf e
-
 marked-true : (g : Evaluation) → markOf g ≡ 1 → g ≡ Value (boolean true)
 unfolding markOf
 marked-true Unknown e = absurd (omega arith)
@@ -123,8 +110,9 @@ marked-true (Value v) e = go (eqZ v (boolean true)) refl e
     go false p q = absurd (omega (arith, q))
 
 pub fireable-exact : FireableExact
+unfolding markOf eqZ
 fireable-exact m values t =
     let used = take (length (m .declarations)) values in (
       λ f. (f .0, marked-true (m .guard t used) (sym (mark-at m used 0 (m .transitions) t t (f .0) (omega arith)) ∙ f .1)),
-      λ f. (f .0, mark-at m used 0 (m .transitions) t t (f .0) (omega arith) ∙ true-marked (m .guard t used) (f .1)),
+      λ f. (f .0, mark-at m used 0 (m .transitions) t t (f .0) (omega arith) ∙ ap markOf (f .1)),
     )

@@ -28,7 +28,7 @@ use Rattle.standing.specs.Runs.{run}
 use Rattle.standing.specs.Holding.{holds, historyHolds, firstOutside, isNone}
 use Rattle.inspection.specs.Queries.{markOf, marksFrom, marksOf}
 use Rattle.steps.proofs.Tests.{by-test, both, each}
-use Rattle.steps.proofs.Slices.{meaning, rows-count, guards-count, few-variables}
+use Rattle.steps.proofs.Slices.{meaning, rows-count, few-variables}
 
 -- ---- the values of a run that holds are numbers of 32 bits
 
@@ -103,14 +103,7 @@ module _ (m : Meaning) (values : List ℤ) (old : List ℕ) where
 
 module _ {model : Model} {kinds : List ℕ} {parameters : List ℤ} {rows : List (List ℤ)} {nexts guards : List ℕ}
     (d : Loaded model kinds parameters rows nexts guards) (values : List ℤ) where
-  -- what the code's test of the marks' length tells
-  pub few-marks : (old : List ℕ) → length old < length guards → length old < meaning d .transitions
-  few-marks old h = omega (arith, guards-count d)
-
-  pub enough-marks : (old : List ℕ) → length guards ≤ length old → meaning d .transitions ≤ length old
-  enough-marks old h = omega (arith, guards-count d)
-
-  pub numbers-held : (history : List ℕ) (n : ℕ) → holds (meaning d) (run values history n) ≡ true → AllRepresentable (take (length rows) values)
+  numbers-held : (history : List ℕ) (n : ℕ) → holds (meaning d) (run values history n) ≡ true → AllRepresentable (take (length rows) values)
   unfolding meaningOf
   numbers-held history n e =
       let system = d .decoded .system in
@@ -129,10 +122,10 @@ module _ {model : Model} {kinds : List ℕ} {parameters : List ℤ} {rows : List
     cells-part = sym (ap length cells-hold ∙ length-take-le (length rows) values enough)
 
     -- the cells hold numbers of 32 bits, so the guard over them is the guard over the values
-    pub guard-marked : AllRepresentable (take (length rows) values) → (i : ℕ) (g : Evaluation)
+    pub guard-marked : (history : List ℕ) (n : ℕ) → holds (meaning d) (run values history n) ≡ true → (i : ℕ) (g : Evaluation)
         → g ≡ guardOver (d .decoded .system) i (valuationOf (take (length rows) cells))
         → (x : ℕ) → x ≡ markOf g → x ≡ markOf (meaning d .guard i (take (length rows) values))
     unfolding meaningOf
-    guard-marked numbers i g e x marked =
+    guard-marked history n held i g e x marked =
         marked ∙ ap markOf (e ∙ ap (λ l. guardOver (d .decoded .system) i (valuationOf l)) cells-hold
-        ∙ ap (guardOver (d .decoded .system) i) (known-values (take (length rows) values) numbers))
+        ∙ ap (guardOver (d .decoded .system) i) (known-values (take (length rows) values) (numbers-held history n held)))

@@ -1,6 +1,6 @@
 -- Lines at the beginning of a slice; answers and commands by cases.
 use mathlib.Core.Path.{_≡_, refl, sym, ap, _∙_}
-use mathlib.Core.Bool.{Bool, true, false, true≢false, cond, not, _&&_, _||_}
+use mathlib.Core.Bool.{Bool, true, false, cond, not, _&&_, _||_}
 use mathlib.Core.List.{List, [], _∷_}
 use types.Run.{OneOf, miss}
 use denote.Enum.Declared.{tagOf}
@@ -14,6 +14,7 @@ use Rattle.results.specs.Results.{answered}
 use Rattle.steps.specs.declared.Answer as answer
 use Rattle.steps.specs.declared.Answer.the-variants.{Refused, Rounds, Done, Number, Sizes, Picked}
 use Rattle.steps.proofs.Answer.{the-type}
+use Rattle.steps.proofs.Tests.{neither}
 use Rattle.run.specs.declared.Call.the-variants as calls
 use Rattle.standing.specs.Runs.{Store, Answer}
 use Rattle.standing.specs.Runs as runs
@@ -34,10 +35,6 @@ module _ (size values marks : ℕ) {r : Bool} (e : r ≡ ltb size (room valueWid
 
   pub short-of-marks : r ≡ false → {q : Bool} → q ≡ ltb size (room markWidth marks) → q ≡ lacksRoom size values marks
   short-of-marks t f = f ∙ sym (ap (λ (x : Bool). x || ltb size (room markWidth marks)) (sym e ∙ t))
-
-neither : (a b : Bool) → (a || b) ≡ false → (a ≡ false) × (b ≡ false)
-neither true b e = absurd (true≢false e)
-neither false b e = (refl, e)
 
 pub rooms : (size values marks : ℕ) → lacksRoom size values marks ≡ false → (room valueWidth values ≤ size) × (room markWidth marks ≤ size)
 rooms size values marks e =

@@ -1,3 +1,3 @@
--- Definitions of crate `results`, which the promises of all crates share.
+-- Definitions of crate `results`, which the promises of several crates share.
 -- 01's own:
 pub mod Results

@@ -1,4 +1,4 @@
-// What every promise is made of, and an answer that several crates share. There are no functions.
+// What the promises of several crates are made of, and an answer that they share. There are no functions.
 
 // What was looked for: where it was found, or that there is none.
 pub enum Found {

@@ -9,12 +9,8 @@ use borrow.Author.Tests.{not-true, not-false}
 use lib.Dec.{eqb, ltb}
 use lib.IntN.{ℤ, pos}
 use lib.ListN.{length, getD, take, drop, set}
-use Rattle.interpreter.specs.declared.Fault.{Fault}
-use Rattle.interpreter.specs.declared.Fault.the-variants.{Failure, Outside, Conflict}
 use Rattle.semantics.specs.declared.Firing.{Firing}
 use Rattle.semantics.specs.declared.Firing.the-variants.{Disabled, GuardFailed, ActionFault, AssertionFault, Fired}
-use Rattle.interpreter.specs.Instructions.{numberOf}
-use Rattle.interpreter.specs.Instructions.Place.{action, assertion}
 use Rattle.semantics.specs.Meanings.{Meaning}
 use Rattle.semantics.specs.Firing.{fired, begun}
 use Rattle.standing.specs.Runs.{Run, Answer, Done, run, answered}
@@ -23,30 +19,19 @@ use Rattle.standing.specs.Holding.{tooShort, holds}
 use Rattle.inspection.specs.Queries.{marksOf, marks, value, firstFireable, pick}
 use Rattle.steps.specs.Calls.{answerOf, isFired, firedInto, initial, start, fire, replay, undoneBy, undo}
 use Rattle.steps.proofs.Tests.{by-test}
+use Rattle.steps.proofs.FaultNumbers.{action-number, assertion-number}
 
 -- the number of a refusal is neither 20 nor 31, nor 0
 abbrev pub Other : ℕ → Type 0
 Other k = (k ≡ 20 → ⊥) × (k ≡ 31 → ⊥) × (1 ≤ k)
-
-other-action : (f : Fault) → Other (numberOf action f)
-unfolding numberOf
-other-action Failure = omega arith
-other-action Outside = omega arith
-other-action Conflict = omega arith
-
-other-assertion : (f : Fault) → Other (numberOf assertion f)
-unfolding numberOf
-other-assertion Failure = omega arith
-other-assertion Outside = omega arith
-other-assertion Conflict = omega arith
 
 module _ (m : Meaning) (r : Run) (P : Done Run → Type 0) (refusal : (k : ℕ) → Other k → P (answered (refused k) r)) where
   firing-cases : (new : Run) (f : Firing) → ((n : ℕ) → f ≡ Fired n → P (answered (rounds n) new)) → P (firedInto r new f)
   unfolding answerOf isFired
   firing-cases new Disabled g = refusal 23 (omega arith)
   firing-cases new GuardFailed g = refusal 24 (omega arith)
-  firing-cases new (ActionFault x) g = refusal _ (other-action x)
-  firing-cases new (AssertionFault x) g = refusal _ (other-assertion x)
+  firing-cases new (ActionFault x) g = refusal _ (omega (arith, action-number x))
+  firing-cases new (AssertionFault x) g = refusal _ (omega (arith, assertion-number x))
   firing-cases new (Fired n) g = g n refl
 
   pub start-cases : ((n : ℕ) → tooShort m (r .values) ≡ false → begun m (initial m) (r .values) .answer ≡ Fired n

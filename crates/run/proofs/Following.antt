@@ -27,29 +27,14 @@ use Rattle.run.proofs.Cases.{start-cases, fire-cases, undo-cases}
 
 -- ---- what is recorded after an answer
 
-unfoldable pub countAfterStart : Answer → ℕ → ℕ
-countAfterStart (refused k) n = n
-countAfterStart (rounds k) n = 0
-countAfterStart done n = n
-countAfterStart (number v) n = n
-countAfterStart (sizes z) n = n
-countAfterStart (picked t) n = n
-
-unfoldable pub historyAfterFire : ℕ → Answer → List ℕ → ℕ → List ℕ
-historyAfterFire t (refused k) history n = history
-historyAfterFire t (rounds k) history n = set history n t
-historyAfterFire t done history n = history
-historyAfterFire t (number v) history n = history
-historyAfterFire t (sizes z) history n = history
-historyAfterFire t (picked k) history n = history
-
-unfoldable pub countAfterFire : Answer → ℕ → ℕ
-countAfterFire (refused k) n = n
-countAfterFire (rounds k) n = suc n
-countAfterFire done n = n
-countAfterFire (number v) n = n
-countAfterFire (sizes z) n = n
-countAfterFire (picked t) n = n
+-- the new thing where rounds are answered, else the old one
+unfoldable pub afterRounds : {A : Type 0} → Answer → A → A → A
+afterRounds (refused k) new old = old
+afterRounds (rounds k) new old = new
+afterRounds done new old = old
+afterRounds (number v) new old = old
+afterRounds (sizes z) new old = old
+afterRounds (picked t) new old = old
 
 unfoldable pub countAfterUndo : Answer → ℕ → ℕ
 countAfterUndo (refused k) n = n
@@ -61,10 +46,10 @@ countAfterUndo (picked t) n = n
 
 module _ (history : List ℕ) (n : ℕ) where
   abbrev afterStart : runs.Done (List ℤ) → runs.Done Run
-  afterStart d = answered (d .answer) (run (d .left) history (countAfterStart (d .answer) n))
+  afterStart d = answered (d .answer) (run (d .left) history (afterRounds (d .answer) 0 n))
 
   abbrev afterFire : ℕ → runs.Done (List ℤ) → runs.Done Run
-  afterFire t d = answered (d .answer) (run (d .left) (historyAfterFire t (d .answer) history n) (countAfterFire (d .answer) n))
+  afterFire t d = answered (d .answer) (run (d .left) (afterRounds (d .answer) (set history n t) history) (afterRounds (d .answer) (suc n) n))
 
   abbrev afterUndo : runs.Done (List ℤ) → runs.Done Run
   afterUndo d = answered (d .answer) (run (d .left) history (countAfterUndo (d .answer) n))
@@ -74,11 +59,11 @@ module _ (m : Meaning) (values : List ℤ) (history : List ℕ) (n : ℕ) where
   r = run values history n
 
   start-follows : calls.start m r ≡ afterStart history n (valuesOf (calls.start m r))
-  unfolding countAfterStart
+  unfolding afterRounds
   start-follows = start-cases m r (λ d. d ≡ afterStart history n (valuesOf d)) (λ k o. refl) (λ k long e. refl)
 
   fire-follows : (t : ℕ) → calls.fire m t r ≡ afterFire history n t (valuesOf (calls.fire m t r))
-  unfolding countAfterFire historyAfterFire
+  unfolding afterRounds
   fire-follows t =
       fire-cases m r (λ d. d ≡ afterFire history n t (valuesOf d)) (λ k o. refl) (λ e. refl) t (λ below held free k e. refl)
 
@@ -110,8 +95,8 @@ module _ (m : Meaning) (values : List ℤ) (history : List ℕ) (n : ℕ) where
 
 module _ (v : Verdict) (values new : List ℤ) (history : List ℕ) (n : ℕ) (a : Answer) where
   pub start-on-file : answered a new ≡ valuesOf (onFile v (λ m. stepOn m Start (run values [] 0)) (run values [] 0))
-      → answered a (run new history (countAfterStart a n)) ≡ onFile v (λ m. calls.start m (run values history n)) (run values history n)
-  unfolding onFile countAfterStart stepOn
+      → answered a (run new history (afterRounds a 0 n)) ≡ onFile v (λ m. calls.start m (run values history n)) (run values history n)
+  unfolding onFile afterRounds stepOn
   start-on-file e = ap (afterStart history n) e ∙ go v
     where
       go : (v : Verdict) → afterStart history n (valuesOf (onFile v (λ m. stepOn m Start (run values [] 0)) (run values [] 0)))
@@ -121,9 +106,9 @@ module _ (v : Verdict) (values new : List ℤ) (history : List ℕ) (n : ℕ) (a
           ap (afterStart history n) (start-lent (meaningOf t) values history n) ∙ sym (start-follows (meaningOf t) values history n)
 
   pub fire-on-file : (t : ℕ) → answered a new ≡ valuesOf (onFile v (λ m. stepOn m (Fire t) (run values history n)) (run values history n))
-      → answered a (run new (historyAfterFire t a history n) (countAfterFire a n))
+      → answered a (run new (afterRounds a (set history n t) history) (afterRounds a (suc n) n))
       ≡ onFile v (λ m. calls.fire m t (run values history n)) (run values history n)
-  unfolding onFile countAfterFire historyAfterFire stepOn
+  unfolding onFile afterRounds stepOn
   fire-on-file t e = ap (afterFire history n t) e ∙ go v
     where
       go : (v : Verdict) → afterFire history n t (valuesOf (onFile v (λ m. stepOn m (Fire t) (run values history n)) (run values history n)))
@@ -143,19 +128,15 @@ module _ (v : Verdict) (values new : List ℤ) (history : List ℕ) (n : ℕ) (a
 
 -- ---- answers of the code that leave the history and the count, by their tags
 
-pub record Unrecorded (a : Answer) : Type 0 where
-  pub start : (n : ℕ) → countAfterStart a n ≡ n
-  pub history : (t : ℕ) (history : List ℕ) (n : ℕ) → historyAfterFire t a history n ≡ history
-  pub fire : (n : ℕ) → countAfterFire a n ≡ n
-
-pub unrecorded : (a : declared.Answer) → OneOf (0 ∷ 2 ∷ 3 ∷ 4 ∷ 5 ∷ []) (tagOf the-type a) → Unrecorded (seen a)
-unfolding seen countAfterStart historyAfterFire countAfterFire
-unrecorded (Refused k) h = record { start = λ n. refl; history = λ t l n. refl; fire = λ n. refl }
-unrecorded (Rounds k) h = absurd (miss (0 ∷ 2 ∷ 3 ∷ 4 ∷ 5 ∷ []) 1 tt h)
-unrecorded Done h = record { start = λ n. refl; history = λ t l n. refl; fire = λ n. refl }
-unrecorded (Number v) h = record { start = λ n. refl; history = λ t l n. refl; fire = λ n. refl }
-unrecorded (Sizes z) h = record { start = λ n. refl; history = λ t l n. refl; fire = λ n. refl }
-unrecorded (Picked f) h = record { start = λ n. refl; history = λ t l n. refl; fire = λ n. refl }
+pub no-rounds : {A : Type 0} (a : declared.Answer) → OneOf (0 ∷ 2 ∷ 3 ∷ 4 ∷ 5 ∷ []) (tagOf the-type a) → (new old : A)
+    → afterRounds (seen a) new old ≡ old
+unfolding seen afterRounds
+no-rounds (Refused k) h new old = refl
+no-rounds (Rounds k) h new old = absurd (miss (0 ∷ 2 ∷ 3 ∷ 4 ∷ 5 ∷ []) 1 tt h)
+no-rounds Done h new old = refl
+no-rounds (Number v) h new old = refl
+no-rounds (Sizes z) h new old = refl
+no-rounds (Picked f) h new old = refl
 
 pub not-undone : (a : declared.Answer) → OneOf (0 ∷ 1 ∷ 3 ∷ 4 ∷ 5 ∷ []) (tagOf the-type a) → (n : ℕ) → countAfterUndo (seen a) n ≡ n
 unfolding seen countAfterUndo
@@ -172,28 +153,28 @@ module _ (v : Verdict) (values new : List ℤ) (history : List ℕ) (n : ℕ) (r
   module _ (e : answered (seen r) new ≡ valuesOf (onFile v (λ m. stepOn m Start (run values [] 0)) (run values [] 0))) where
     pub start-counted : (k : ℕ) → r ≡ Rounds k
         → answered (seen r) (run new history 0) ≡ onFile v (λ m. calls.start m (run values history n)) (run values history n)
-    unfolding seen countAfterStart
+    unfolding seen afterRounds
     start-counted k q =
-        let zero-count : countAfterStart (seen r) n ≡ 0 = ap (λ x. countAfterStart (seen x) n) q in
+        let zero-count : afterRounds (seen r) 0 n ≡ 0 = ap (λ x. afterRounds (seen x) 0 n) q in
         rw zero-count at (start-on-file v values new history n (seen r) e)
 
     pub start-kept : OneOf (0 ∷ 2 ∷ 3 ∷ 4 ∷ 5 ∷ []) (tagOf the-type r)
         → answered (seen r) (run new history n) ≡ onFile v (λ m. calls.start m (run values history n)) (run values history n)
-    start-kept h = rw (unrecorded r h .start n) at (start-on-file v values new history n (seen r) e)
+    start-kept h = rw (no-rounds r h 0 n) at (start-on-file v values new history n (seen r) e)
 
   module _ (t : ℕ) (e : answered (seen r) new ≡ valuesOf (onFile v (λ m. stepOn m (Fire t) (run values history n)) (run values history n))) where
     pub fire-counted : (k : ℕ) → r ≡ Rounds k
         → answered (seen r) (run new (set history n t) (n + 1)) ≡ onFile v (λ m. calls.fire m t (run values history n)) (run values history n)
-    unfolding seen countAfterFire historyAfterFire
+    unfolding seen afterRounds
     fire-counted k q =
-        let one-more : countAfterFire (seen r) n ≡ n + 1 = ap (λ x. countAfterFire (seen x) n) q ∙ sym (add-one n) in
-        let entered : historyAfterFire t (seen r) history n ≡ set history n t = ap (λ x. historyAfterFire t (seen x) history n) q in
+        let one-more : afterRounds (seen r) (suc n) n ≡ n + 1 = ap (λ x. afterRounds (seen x) (suc n) n) q ∙ sym (add-one n) in
+        let entered : afterRounds (seen r) (set history n t) history ≡ set history n t = ap (λ x. afterRounds (seen x) (set history n t) history) q in
         rw (one-more, entered) at (fire-on-file v values new history n (seen r) t e)
 
     pub fire-kept : OneOf (0 ∷ 2 ∷ 3 ∷ 4 ∷ 5 ∷ []) (tagOf the-type r)
         → answered (seen r) (run new history n) ≡ onFile v (λ m. calls.fire m t (run values history n)) (run values history n)
     fire-kept h =
-        rw (unrecorded r h .fire n, unrecorded r h .history t history n) at (fire-on-file v values new history n (seen r) t e)
+        rw (no-rounds r h (suc n) n, no-rounds r h (set history n t) history) at (fire-on-file v values new history n (seen r) t e)
 
   module _ (e : answered (seen r) new ≡ valuesOf (onFile v (λ m. stepOn m Undo (run values history n)) (run values history n))) where
     pub undo-counted : r ≡ Done

@@ -4,7 +4,6 @@ use mathlib.Core.Bool.{true, false}
 use mathlib.Core.List.{List}
 use mathlib.Core.Option.{some, none}
 use Prim.Native.Nat.{ℕ, suc, _-_}
-use native.Mathlib.Omega.{arith}
 use lib.Dec.{eqb, ltb}
 use lib.IntN.{ℤ}
 use lib.ListN.{length, take, set}
@@ -19,7 +18,7 @@ use Rattle.semantics.specs.Firing as firing
 use Rattle.run.specs.declared.Call.{Call}
 use Rattle.run.specs.declared.Call.the-variants.{Check, Start, Fire, Undo, Marks, Value, Pick}
 use Rattle.standing.specs.Runs.{Run, Store, Answer, Done, run, answered}
-use Rattle.standing.specs.Runs.Answer.{refused, rounds, done, number, sizes, picked}
+use Rattle.standing.specs.Runs.Answer.{refused, rounds}
 use Rattle.standing.specs.Holding.{tooShort, holds}
 use Rattle.steps.specs.Calls.{initial, start, replay}
 use Rattle.run.specs.Lists.{callOn, callBy, call, Performed}
@@ -27,15 +26,6 @@ use Rattle.run.specs.Lists.Performed.{nothing, next}
 use Rattle.run.specs.Theorems.{NoneIs, NeverAfterStart}
 use Rattle.steps.proofs.Tests.{clash}
 use Rattle.run.proofs.Cases.{Other, start-cases, fire-cases, undo-cases, marks-cases, value-cases, pick-cases}
-
--- the number of a refusal; 1, which no call on an accepted model answers, of any other answer
-abbrev refusalIn : Answer → ℕ
-refusalIn (refused n) = n
-refusalIn (rounds n) = 1
-refusalIn done = 1
-refusalIn (number v) = 1
-refusalIn (sizes z) = 1
-refusalIn (picked t) = 1
 
 -- what holds of the run after an accepted start and stays with each accepted call; under it number n is not met
 pub record Invariant (n : ℕ) (m : Meaning) : Type 1 where
@@ -56,10 +46,7 @@ module _ (n : ℕ) (other : (k : ℕ) → Other k → k ≡ n → ⊥) where
   Not a = a ≡ refused n → ⊥
 
   not-refused : (k : ℕ) → (k ≡ n → ⊥) → Not (refused k)
-  not-refused k f e = f (ap refusalIn e)
-
-  accepted-by : (a : Answer) → refusalIn a ≡ 1 → Not a
-  accepted-by a z e = other 1 (omega arith) (let p : refusalIn a ≡ n = ap refusalIn e in omega arith)
+  not-refused k f e = f (let same : k ≡ n = cc in same)
 
   module _ (m : Meaning) (i : Invariant n m) where
     abbrev Step : Done Run → Type 0
@@ -70,29 +57,29 @@ module _ (n : ℕ) (other : (k : ℕ) → Other k → k ≡ n → ⊥) where
 
     stays : (z : Sizes) (c : Call) (s : Store) → i .Holds (s .run) → Not (callOn z m c s .answer) × i .Holds (callOn z m c s .left .run)
     unfolding callOn
-    stays z Check s h = (accepted-by (sizes z) refl, h)
+    stays z Check s h = (λ e. clash cc, h)
     stays z Start s h =
         start-cases m (s .run) Step (refused-stays (s .run) h)
-        (λ k long e. (accepted-by (rounds k) refl, i .started (s .run) k long e))
+        (λ k long e. (λ e. clash cc, i .started (s .run) k long e))
     stays z (Fire t) s h =
         fire-cases m (s .run) Step (refused-stays (s .run) h) (λ e. (not-refused 20 (i .stale (s .run) h e), h)) t
-        (λ below held free k e. (accepted-by (rounds k) refl, i .fired t (s .run) h below free k e))
+        (λ below held free k e. (λ e. clash cc, i .fired t (s .run) h below free k e))
     stays z Undo s h =
         undo-cases m (s .run) Step (refused-stays (s .run) h) (λ e. (not-refused 20 (i .stale (s .run) h e), h))
         (λ f e. (not-refused 31 (i .stuck (s .run) h f e), h))
-        (λ held f values e. (accepted-by done refl, i .undone (s .run) h f values e))
+        (λ held f values e. (λ e. clash cc, i .undone (s .run) h f values e))
     stays z Marks s h = (
       marks-cases m (s .run) (s .marks) (λ d. Not (d .answer)) (λ k o. not-refused k (other k o))
-          (λ e. not-refused 20 (i .stale (s .run) h e)) (accepted-by done refl),
+          (λ e. not-refused 20 (i .stale (s .run) h e)) (λ e. clash cc),
       h,
     )
     stays z (Value x) s h = (
       value-cases m (s .run) x Not (λ k o. not-refused k (other k o)) (λ e. not-refused 20 (i .stale (s .run) h e))
-          (accepted-by (number _) refl),
+          (λ e. clash cc),
       h,
     )
     stays z Pick s h = (
-      pick-cases m (s .run) Not (λ k o. not-refused k (other k o)) (λ e. not-refused 20 (i .stale (s .run) h e)) (accepted-by (picked _) refl),
+      pick-cases m (s .run) Not (λ k o. not-refused k (other k o)) (λ e. not-refused 20 (i .stale (s .run) h e)) (λ e. clash cc),
       h,
     )
 

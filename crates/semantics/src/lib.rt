@@ -1,4 +1,5 @@
-// What a model means: actions, the assertion, firing. Definitions and theorems, with the answers that they speak of.
+// What a model means: actions, the assertion, firing. Definitions and theorems, with the answers that they and the crates above
+// speak of.
 
 use interpreter::Fault;
 

@@ -1,5 +1,6 @@
 -- Proofs of crate `steps`: what the functions are proved by.
 pub mod Ends
+pub mod FaultNumbers
 pub mod Longer
 pub mod Outcomes
 pub mod Parts

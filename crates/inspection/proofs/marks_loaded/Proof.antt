@@ -8,9 +8,9 @@ use Rattle.engine.specs.Cells.{Loaded}
 use Rattle.steps.specs.Answers.{seen}
 use Rattle.inspection.specs.Queries.{marksFrom}
 use Rattle.decoding.proofs.InUse.{part-within}
-use Rattle.steps.proofs.Slices.{meaning, short-values, enough-values, stale, held, rows-count, guards-count, few-guards}
+use Rattle.steps.proofs.Slices.{meaning, short-values, enough-values, stale, held, rows-count, guards-count, few-guards, known-transition, unknown-transition}
 use Rattle.inspection.proofs.QueryTests.{marks-short, marks-few, marks-stale, marks-done}
-use Rattle.inspection.proofs.MarksWritten.{few-marks, enough-marks, marks-before, marks-step, marks-all, numbers-held, cells-part, guard-marked}
+use Rattle.inspection.proofs.MarksWritten.{marks-before, marks-step, marks-all, cells-part, guard-marked}
 use Rattle.inspection.proofs.marks_loaded.Statement.{statement}
 use Rattle.inspection.proofs.marks_loaded.Tie as tie
 
@@ -35,7 +35,7 @@ returns-2 c =
     let start = c .before .before .before .before .before .before .before in
     λ d.
     marks-few (meaning d) (start .args .values .now) (start .args .history .now) (start .args .n) (enough-values d (start .args .values .now) (c .before .if1 .left)) (start .args .marks .now)
-    (few-marks d (start .args .values .now) (start .args .marks .now) (c .if2 .taken))
+    (known-transition d (length (start .args .marks .now)) (c .if2 .taken))
 
 holds-requires : tie.Need-holds-requires Inv-loop μ-loop
 holds-requires c κs = tt
@@ -47,7 +47,7 @@ returns-3 c =
     let test = c .before .holds in
     λ d.
     marks-stale (meaning d) (start .args .values .now) (start .args .history .now) (start .args .n) (enough-values d (start .args .values .now) (c .before .before .before .if1 .left)) (start .args .marks .now)
-    (enough-marks d (start .args .values .now) (start .args .marks .now) (c .before .before .if2 .left)) (stale d (start .args .values .now) (start .args .history .now) (start .args .n) (test .result) (test .ensures) (c .if3 .taken))
+    (unknown-transition d (length (start .args .marks .now)) (c .before .before .if2 .left)) (stale d (start .args .values .now) (start .args .history .now) (start .args .n) (test .result) (test .ensures) (c .if3 .taken))
 
 widen-requires : tie.Need-widen-requires Inv-loop μ-loop
 widen-requires c κs = tt
@@ -93,8 +93,8 @@ loop-again c =
       λ d.
           marks-step (meaning d) (take (length (start .args .variables .now)) values) (start .args .marks .now) (loop .i) (omega (arith, c .before .before .before .loop-test .taken, c .before .before .before .before .before .before .before .before .before .if2 .left)) (loop .marks) (loop .inv .0 d) (marked .result)
           (guard-marked d values _ _ refl (c .before .before .before .before .before .before .before .before .before .before .if1 .left) (c .before .before .before .before .before .widen .ensures)
-          (numbers-held d values (start .args .history .now) (start .args .n)
-          (held d values (start .args .history .now) (start .args .n) (test .result) (test .ensures) (c .before .before .before .before .before .before .before .if3 .left)))
+          (start .args .history .now) (start .args .n)
+          (held d values (start .args .history .now) (start .args .n) (test .result) (test .ensures) (c .before .before .before .before .before .before .before .if3 .left))
           (loop .i) (guarded .result) (guarded .ensures d) (marked .result) (marked .ensures)),
       omega (arith, c .before .before .before .loop-test .taken),
       length-set (loop .marks) (loop .i) (marked .result) ∙ loop .inv .2,
@@ -111,7 +111,7 @@ returns-4 c =
     let test = c .before .before .before .before .before .holds in
     λ d.
     marks-done (meaning d) (start .args .values .now) (start .args .history .now) (start .args .n) (enough-values d (start .args .values .now) (c .before .before .before .before .before .before .before .if1 .left)) (start .args .marks .now)
-    (enough-marks d (start .args .values .now) (start .args .marks .now) (c .before .before .before .before .before .before .if2 .left)) (held d (start .args .values .now) (start .args .history .now) (start .args .n) (test .result) (test .ensures) (c .before .before .before .before .if3 .left))
+    (unknown-transition d (length (start .args .marks .now)) (c .before .before .before .before .before .before .if2 .left)) (held d (start .args .values .now) (start .args .history .now) (start .args .n) (test .result) (test .ensures) (c .before .before .before .before .if3 .left))
     (loop .marks)
     (marks-all (meaning d) (start .args .values .now) (start .args .marks .now) (length (start .args .variables .now)) (rows-count d) (loop .i) (omega (arith, guards-count d, c .loop-test .left, loop .inv .1)) (loop .marks) (loop .inv .0 d))
 

@@ -10,7 +10,7 @@ use Rattle.steps.specs.Answers.{seen}
 use Rattle.decoding.proofs.InUse.{part-within}
 use Rattle.steps.proofs.Slices.{meaning, short-values, enough-values, stale, held, rows-count, guards-count, few-guards}
 use Rattle.inspection.proofs.QueryTests.{pick-short, pick-stale, pick-done}
-use Rattle.inspection.proofs.MarksWritten.{numbers-held, cells-part, guard-marked}
+use Rattle.inspection.proofs.MarksWritten.{cells-part, guard-marked}
 use Rattle.inspection.proofs.Picking.{fromOn, found-here, go-on, found-none, all-marks}
 use Rattle.inspection.proofs.pick.Statement.{statement}
 use Rattle.inspection.proofs.pick.Tie as tie
@@ -75,8 +75,8 @@ returns-3 c =
     (held d (start .args .values .now) (start .args .history .now) (start .args .n) (test .result) (test .ensures) (c .before .before .before .before .before .before .before .before .if2 .left)) (some (loop .transition))
     (found-here (meaning d) (take (length (start .args .variables .now)) (start .args .values .now)) (length (start .args .guards .now)) (loop .transition) (c .before .mark-of .result)
     (guard-marked d (start .args .values .now) _ _ refl (c .before .before .before .before .before .before .before .before .before .before .if1 .left) (c .before .before .before .before .before .before .widen .ensures)
-    (numbers-held d (start .args .values .now) (start .args .history .now) (start .args .n)
-    (held d (start .args .values .now) (start .args .history .now) (start .args .n) (test .result) (test .ensures) (c .before .before .before .before .before .before .before .before .if2 .left)))
+    (start .args .history .now) (start .args .n)
+    (held d (start .args .values .now) (start .args .history .now) (start .args .n) (test .result) (test .ensures) (c .before .before .before .before .before .before .before .before .if2 .left))
     (loop .transition) (c .before .before .guard .result) (c .before .before .guard .ensures d) (c .before .mark-of .result) (c .before .mark-of .ensures))
     (loop .inv .0 d) (c .before .before .before .before .loop-test .taken) (c .if3 .taken)
     ∙ all-marks (meaning d) (start .args .values .now) (length (start .args .variables .now)) (length (start .args .guards .now)) (rows-count d) (guards-count d))
@@ -95,8 +95,8 @@ loop-again c =
       λ d.
           go-on (meaning d) (take (length (start .args .variables .now)) (start .args .values .now)) (length (start .args .guards .now)) (loop .transition) (c .before .mark-of .result)
           (guard-marked d (start .args .values .now) _ _ refl (c .before .before .before .before .before .before .before .before .before .before .if1 .left) (c .before .before .before .before .before .before .widen .ensures)
-          (numbers-held d (start .args .values .now) (start .args .history .now) (start .args .n)
-          (held d (start .args .values .now) (start .args .history .now) (start .args .n) (test .result) (test .ensures) (c .before .before .before .before .before .before .before .before .if2 .left)))
+          (start .args .history .now) (start .args .n)
+          (held d (start .args .values .now) (start .args .history .now) (start .args .n) (test .result) (test .ensures) (c .before .before .before .before .before .before .before .before .if2 .left))
           (loop .transition) (c .before .before .guard .result) (c .before .before .guard .ensures d) (c .before .mark-of .result) (c .before .mark-of .ensures))
           (loop .inv .0 d) (c .before .before .before .before .loop-test .taken) (c .if3 .left),
       omega (arith, c .before .before .before .before .loop-test .taken),
