@@ -1,10 +1,14 @@
-/* The calls on a run of a guarded transition system (libcapi.a, made by `rt staticlib capi`).
+/* The calls on a run of a guarded transition system, and on a text (libcapi.a, made by `rt staticlib capi`).
  *
  * A model is a file of S states, F flows, E events, T transitions and N nodes, lent as bytes to every call. A run is
  *   values   int32_t, at least S + F of them: states, then flows; a Boolean is 0 or 1
  *   history  uint8_t, a place for each recorded transition; its length is how many steps can be recorded
  *   n        how many are recorded
  * A caller keeps them from one call to the next. Any content will do: a call that cannot go on from it refuses.
+ *
+ * gts_text is no call on a run: beside the model it takes a text, bytes of any content, and two slices for its nodes
+ *   kinds       uint8_t, at least GTS_TEXT_NODES of them
+ *   parameters  int32_t, likewise: those of the same nodes
  *
  * Each call answers 0 and its results, or one of the numbers below, and then nothing that was lent has changed, results
  * included. Cells past those in use are neither looked at nor written, but for place n of the history, which gts_fire
@@ -25,9 +29,9 @@ extern "C" {
 #endif
 
 /* The version of this header: the first number rises when a caller must change, the second when a call is added or
- * promises more. 1.1: gts_pick answers the lowest. */
+ * promises more. 1.1: gts_pick answers the lowest. 1.2: gts_text. */
 #define GTS_VERSION_MAJOR 1
-#define GTS_VERSION_MINOR 1
+#define GTS_VERSION_MINOR 2
 
 /* The largest model. */
 #define GTS_MAX_NODES 4000
@@ -36,12 +40,20 @@ extern "C" {
 #define GTS_MAX_TRANSITIONS 255 /* T: marks of this length are long enough for every model */
 #define GTS_MAX_BYTES 20006     /* 6 + 5 N: no longer file is accepted */
 
-/* Least lengths. */
-#define GTS_SIZES 5 /* of `sizes`; of `values` it is S + F, of `marks` T, of `history` none */
+/* The longest text, in bytes. */
+#define GTS_MAX_TEXT 200
 
-/* The stack that a call needs, in bytes: the most that was measured is 59,512 (README), rounded up. It does not grow
- * with the model: recursion goes by depth, at most GTS_MAX_DEPTH. */
+/* Least lengths. */
+#define GTS_SIZES 5        /* of `sizes`; of `values` it is S + F, of `marks` T, of `history` none */
+#define GTS_TEXT_NODES 400 /* of `kinds` and of `parameters`: no text has more nodes */
+
+/* The stack that a call on a run needs, in bytes: the most that was measured is 59,544 (README), rounded up. It does not
+ * grow with the model: recursion goes by depth, at most GTS_MAX_DEPTH. */
 #define GTS_STACK_BYTES 65536
+
+/* The stack that gts_text needs: the most that was measured is 110,728 (README), rounded up. Recursion goes by parts of a
+ * text that stand in one another, in at most GTS_MAX_TEXT bytes. */
+#define GTS_TEXT_STACK_BYTES 122880
 
 /* Why a call refuses. */
 enum gts_refusal {
@@ -57,9 +69,9 @@ enum gts_refusal {
     GTS_NODES_LEFT_OVER = 8,
     /* what is lent */
     GTS_VALUES_TOO_SHORT = 9,    /* under S + F */
-    GTS_SLICE_TOO_SHORT = 10,    /* marks under T, sizes under GTS_SIZES */
+    GTS_SLICE_TOO_SHORT = 10,    /* marks under T, sizes under GTS_SIZES, kinds or parameters under GTS_TEXT_NODES */
     GTS_NO_SUCH_TRANSITION = 11, /* T or above */
-    GTS_NO_SUCH_VARIABLE = 12,   /* S + F or above */
+    GTS_NO_SUCH_VARIABLE = 12,   /* S + F or above; also one in a text */
     /* the run */
     GTS_RUN_NOT_VALID = 20,      /* n above the history's length, one of the first n entries T or above, or a value outside its ends */
     GTS_HISTORY_FULL = 21,       /* n is the history's length */
@@ -73,7 +85,11 @@ enum gts_refusal {
     GTS_ASSERTION_FAILED = 28,
     GTS_ASSERTION_OUTSIDE = 29,
     GTS_ASSERTION_CONFLICT = 30,
-    GTS_REPLAY_REFUSED = 31      /* start, or one of the first n - 1 entries, cannot be fired again */
+    GTS_REPLAY_REFUSED = 31,     /* start, or one of the first n - 1 entries, cannot be fired again */
+    /* the text */
+    GTS_TEXT_NOT_IN_GRAMMAR = 32,
+    GTS_TYPES_DO_NOT_FIT = 33,
+    GTS_TEXT_TOO_LONG_OR_DEEP = 34 /* over GTS_MAX_TEXT bytes; or nodes deeper than GTS_MAX_DEPTH, which is tried last */
 };
 
 /* The sizes S F E T N into the first five cells of `sizes`. Refuses by 1 to 8, 10. */
@@ -101,6 +117,17 @@ uint8_t gts_value(const uint8_t *model, size_t len, const int32_t *values, size_
 /* The lowest transition whose mark is 1: `found` is 1. Where there is none, `found` is 0 and `transition` keeps its content.
  * Refuses by 1 to 8, 9, 20. */
 uint8_t gts_pick(const uint8_t *model, size_t len, const int32_t *values, size_t values_len, const uint8_t *history, size_t history_len, size_t n, size_t *transition, uint8_t *found);
+
+/* The nodes of a text, which is an expression of either type: kinds and parameters as in a model, in prefix order, into
+ * the first `count` cells of `kinds` and of `parameters`. In the text variables are v0, v1 and so on, numbers digits up to
+ * 2147483647, both without leading zeros, Booleans true and false. The operators, tightest first:
+ *   div(a,b) mod(a,b)   a * b   a + b, a - b   -a, +a   == != < <= > >=   not a   a and b   a or b   if a then b else c
+ * Operators of one level group from the left, but a relation takes no relation; signs and not may repeat; a looser
+ * operand needs parentheses. So -v0 + v1 is -(v0 + v1), and 1 + -2 is not in the grammar. A word is a longest run of
+ * letters and digits, or a longest sign; spaces may stand around words. A minus sign gives 0 minus its operand, a plus
+ * sign no node, but it wants a number; a > b and a >= b give b < a and b <= a; != gives not of equal.
+ * Refuses by 1 to 8, 34 (too long), 10, 32, 12, 33, 34 (too deep). */
+uint8_t gts_text(const uint8_t *model, size_t len, const uint8_t *text, size_t text_len, uint8_t *kinds, size_t kinds_len, int32_t *parameters, size_t parameters_len, size_t *count);
 
 #ifdef __cplusplus
 }

@@ -1,12 +1,11 @@
 #!/usr/bin/env python3
-"""cases.py VECTORS: writes the stored cases of the test programs, from the files of the folder VECTORS.
+"""cases.py: writes the stored cases of the test programs, from the files of bench/cases.
 
-check_cases: VECTORS/checks.txt and the edges below; call_cases: VECTORS/A1/calls.txt, the extremes and the picks below;
-program_cases: VECTORS/programs.txt. The cases of NAME go to crates/NAME/data/cases and the expected output to crates/NAME/stdout. The
-byte format is described in crates/NAME/src/main.rt.
+check_cases: checks.txt and the edges below; call_cases: calls.txt, the extremes and the picks below; program_cases: programs.txt;
+text_cases: texts.txt. The cases of NAME go to crates/NAME/data/cases and the expected output to crates/NAME/stdout. The byte format is
+described in crates/NAME/src/main.rt.
 """
 import os
-import sys
 
 ROOT = os.path.dirname(os.path.dirname(os.path.abspath(__file__)))
 BOOLEAN, NUMBER = 1, 2
@@ -490,6 +489,39 @@ def stored_programs(path):
     return cases
 
 
+def text_case(file, text, kinds, parameters, answer, nodes):
+    """A text typed beside a model; `kinds` and `parameters` are the length and the fill of a slice, the nodes two lists."""
+    lengths = (len(file), len(text), kinds[0], parameters[0], len(nodes[0]))
+    header = bytes([answer, kinds[1]]) + b''.join(little(x, 2) for x in lengths) + little(parameters[1], 4)
+    return header + file + text + bytes(nodes[0]) + b''.join(little(p, 4) for p in nodes[1])
+
+
+def stored_texts(path):
+    """The cases of texts.txt."""
+    cases = []
+    with open(path) as lines:
+        for line in lines:
+            words = line.split()
+            if words[0] == 'model':
+                file = bytes(numbers(words))
+            elif words[0] == 'text':
+                text = bytes(numbers(words))
+            elif words[0] == 'outkinds':
+                kinds = (int(words[1]), int(words[2]))
+            elif words[0] == 'outparams':
+                parameters = (int(words[1]), int(words[2]))
+            elif words[0] == 'kinds':
+                nodes = numbers(words)
+            elif words[0] == 'params':
+                assert len(nodes) == count == int(words[1])
+                cases.append(text_case(file, text, kinds, parameters, 0, (nodes, numbers(words))))
+            elif words[1] == 'no':
+                cases.append(text_case(file, text, kinds, parameters, int(words[2]), ([], [])))
+            else:
+                count = int(words[2])
+    return cases
+
+
 def write(crate, cases, output):
     folder = os.path.join(ROOT, 'crates', crate)
     os.makedirs(os.path.join(folder, 'data'), exist_ok=True)
@@ -501,16 +533,16 @@ def write(crate, cases, output):
 
 
 def main():
-    if len(sys.argv) != 2:
-        sys.exit(__doc__)
-    vectors = lambda name: os.path.join(sys.argv[1], name)
+    vectors = lambda name: os.path.join(ROOT, 'bench', 'cases', name)
     checks = stored_checks(vectors('checks.txt')) + edges()
     write('check_cases', checks, f'{len(checks)} cases, 0 differ')
-    lists = stored_calls(vectors('A1/calls.txt')) + extremes() + picks()
+    lists = stored_calls(vectors('calls.txt')) + extremes() + picks()
     calls = sum(number for _, number in lists)
     write('call_cases', [each for each, _ in lists], f'{len(lists)} lists, {2 * calls} calls, 0 differ')
     programs = stored_programs(vectors('programs.txt'))
     write('program_cases', programs, f'{len(programs)} programs, 0 differ')
+    texts = stored_texts(vectors('texts.txt'))
+    write('text_cases', texts, f'{len(texts)} texts, 0 differ')
 
 
 main()

@@ -1,8 +1,10 @@
-//! The calls as one table, over one set of all that is lent.
+//! The calls on a run as one table, over one set of all that is lent; and the call on a text.
 
-use crate::guarded::Guarded;
+use std::fmt::Debug;
 
-/// An implementation: the seven C calls with slices for pointers and lengths. Each answers 0 and its results, or
+use crate::guarded::{Cell, Guarded};
+
+/// An implementation: the eight C calls with slices for pointers and lengths. Each answers 0 and its results, or
 /// a refusal number and leaves everything lent as it was.
 pub struct Engine {
     pub name: &'static str,
@@ -13,6 +15,7 @@ pub struct Engine {
     pub marks: Marks,
     pub value: Value,
     pub pick: Pick,
+    pub text: Text,
 }
 
 pub type Fire = fn(
@@ -44,7 +47,15 @@ pub type Pick = fn(
     found: &mut u8,
 ) -> u8;
 
-/// All that is lent beside the model, results included, each between guard cells.
+pub type Text = fn(
+    model: &[u8],
+    text: &[u8],
+    kinds: &mut [u8],
+    parameters: &mut [i32],
+    count: &mut usize,
+) -> u8;
+
+/// All that is lent to the calls on a run beside the model, results included, each between guard cells.
 #[derive(Clone, PartialEq)]
 pub struct Store {
     pub values: Guarded<i32>,
@@ -88,13 +99,6 @@ impl Store {
 
     /// The parts in which two stores differ, in words.
     pub fn differences(&self, other: &Store) -> Vec<String> {
-        fn part<T: crate::guarded::Cell + std::fmt::Debug>(
-            name: &str,
-            one: &Guarded<T>,
-            two: &Guarded<T>,
-        ) -> Option<String> {
-            (one != two).then(|| format!("{name}: {:?} / {:?}", one.cells(), two.cells()))
-        }
         [
             part("values", &self.values, &other.values),
             part("history", &self.history, &other.history),
@@ -105,6 +109,58 @@ impl Store {
             part("value", &self.value, &other.value),
             part("transition", &self.transition, &other.transition),
             part("found", &self.found, &other.found),
+        ]
+        .into_iter()
+        .flatten()
+        .collect()
+    }
+}
+
+/// The two contents of a part, where they differ.
+fn part<T: Cell + Debug>(name: &str, one: &Guarded<T>, two: &Guarded<T>) -> Option<String> {
+    (one != two).then(|| format!("{name}: {:?} / {:?}", one.cells(), two.cells()))
+}
+
+/// All that is lent to the call on a text beside the model, each between guard cells.
+#[derive(Clone, PartialEq)]
+pub struct Typed {
+    pub text: Guarded<u8>,
+    pub kinds: Guarded<u8>,
+    pub parameters: Guarded<i32>,
+    pub count: Guarded<usize>,
+}
+
+impl Typed {
+    pub fn new(text: &[u8], kinds: &[u8], parameters: &[i32], count: usize) -> Self {
+        Typed {
+            text: Guarded::new(text),
+            kinds: Guarded::new(kinds),
+            parameters: Guarded::new(parameters),
+            count: Guarded::new(&[count]),
+        }
+    }
+
+    pub fn perform(&mut self, engine: &Engine, model: &[u8]) -> u8 {
+        (engine.text)(
+            model,
+            self.text.cells(),
+            self.kinds.cells_mut(),
+            self.parameters.cells_mut(),
+            self.count.get_mut(),
+        )
+    }
+
+    pub fn intact(&self) -> bool {
+        self.text.intact() && self.kinds.intact() && self.parameters.intact() && self.count.intact()
+    }
+
+    /// The parts in which two of them differ, in words.
+    pub fn differences(&self, other: &Typed) -> Vec<String> {
+        [
+            part("text", &self.text, &other.text),
+            part("kinds", &self.kinds, &other.kinds),
+            part("parameters", &self.parameters, &other.parameters),
+            part("count", &self.count, &other.count),
         ]
         .into_iter()
         .flatten()

@@ -65,6 +65,17 @@ extern "C" {
         transition: *mut usize,
         found: *mut u8,
     ) -> u8;
+    fn gts_text(
+        model: *const u8,
+        len: usize,
+        text: *const u8,
+        text_len: usize,
+        kinds: *mut u8,
+        kinds_len: usize,
+        parameters: *mut i32,
+        parameters_len: usize,
+        count: *mut usize,
+    ) -> u8;
 }
 
 /// The library in the form of the calls' table.
@@ -77,6 +88,7 @@ pub const LIBRARY: Engine = Engine {
     marks,
     value,
     pick,
+    text,
 };
 
 // In each wrapper the pointers and lengths are those of slices and references that are lent for the call alone.
@@ -193,6 +205,28 @@ pub fn pick(
             n,
             transition,
             found,
+        )
+    }
+}
+
+pub fn text(
+    model: &[u8],
+    text: &[u8],
+    kinds: &mut [u8],
+    parameters: &mut [i32],
+    count: &mut usize,
+) -> u8 {
+    unsafe {
+        gts_text(
+            model.as_ptr(),
+            model.len(),
+            text.as_ptr(),
+            text.len(),
+            kinds.as_mut_ptr(),
+            kinds.len(),
+            parameters.as_mut_ptr(),
+            parameters.len(),
+            count,
         )
     }
 }

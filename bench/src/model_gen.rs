@@ -1,12 +1,14 @@
-//! Random models, damaged files, and all that is lent to lists of calls.
+//! Random models, damaged files, and all that is lent to lists of calls and to texts.
 
 mod damage;
 mod lists;
 mod shapes;
+mod texts;
 mod writer;
 
 pub use damage::damaged;
 pub use lists::{calls, store};
+pub use texts::typed;
 
 use crate::random::Random;
 use crate::tree::Model;

@@ -1,14 +1,17 @@
-//! Guarded transition systems: a model file is parsed into a tree, and the calls work on that tree.
+//! Guarded transition systems: a model file is parsed into a tree, and the calls work on that tree; and texts read as
+//! expressions.
 
 mod evaluation;
 mod instructions;
 mod model;
 mod refusal;
 mod run;
+mod texts;
 
 pub use model::{Limits, Model, Sizes, Type};
 pub use refusal::Refusal;
 pub use run::{check, check_expression, fire, marks, pick, start, undo, value};
+pub use texts::write_nodes;
 
 use crate::calls::Engine;
 
@@ -48,6 +51,12 @@ pub const ENGINE: Engine = Engine {
             if let Some(lowest) = picked {
                 *transition = lowest;
             }
+            Ok(())
+        })
+    },
+    text: |model, text, kinds, parameters, count| {
+        answer(write_nodes(model, text, kinds, parameters), |nodes| {
+            *count = nodes;
             Ok(())
         })
     },

@@ -1,10 +1,10 @@
-//! The stored cases under cases/: checks.txt, calls.txt, programs.txt. Each line is a word and decimal numbers.
+//! The stored cases under cases/: checks.txt, calls.txt, programs.txt, texts.txt. Each line is a word and decimal numbers.
 
 use std::iter::Peekable;
 use std::path::Path;
 use std::str::Lines;
 
-use crate::calls::{Call, Store, TABLE};
+use crate::calls::{Call, Store, Typed, TABLE};
 use crate::reference::Type;
 
 /// A model, and what its check must answer; and expressions handed beside it.
@@ -92,6 +92,14 @@ pub struct ProgramCase {
     pub output: Vec<u8>,
 }
 
+/// A text beside a model, what is lent to it, and what must be answered and lie there afterwards.
+pub struct TextCase {
+    pub model: Vec<u8>,
+    pub lent: Typed,
+    pub want: u8,
+    pub after: Typed,
+}
+
 /// A file of the folder cases/.
 pub fn text(name: &str) -> String {
     let path = Path::new(env!("CARGO_MANIFEST_DIR"))
@@ -137,6 +145,13 @@ impl<'a> Source<'a> {
         let entries: Vec<T> = words.map(|word| number(Some(word))).collect();
         assert_eq!(entries.len(), length, "a stored list has another length");
         entries
+    }
+
+    /// A line with a length and what each of so many cells holds.
+    fn filled<T: std::str::FromStr + Clone>(&mut self, word: &str) -> Vec<T> {
+        let mut words = self.words(word);
+        let length = number(words.next());
+        vec![number(words.next()); length]
     }
 
     fn lent(&mut self) -> Lent {
@@ -284,4 +299,44 @@ pub fn programs(text: &str) -> Vec<ProgramCase> {
         });
     }
     cases
+}
+
+pub fn texts(text: &str) -> Vec<TextCase> {
+    let mut source = Source::new(text);
+    let mut cases = Vec::new();
+    while !source.ended() {
+        let model: Vec<u8> = source.list("model");
+        while source.sees("text") {
+            cases.push(text_case(&mut source, &model));
+        }
+    }
+    cases
+}
+
+fn text_case(source: &mut Source, model: &[u8]) -> TextCase {
+    /// What the count's cell holds before the call.
+    const COUNT: usize = 9_999;
+    let text = source.list("text");
+    let kinds: Vec<u8> = source.filled("outkinds");
+    let parameters: Vec<i32> = source.filled("outparams");
+    let lent = Typed::new(&text, &kinds, &parameters, COUNT);
+    let mut after = lent.clone();
+    let mut words = source.words("want");
+    let want = match words.next() {
+        Some("nodes") => {
+            let count: usize = number(words.next());
+            *after.count.get_mut() = count;
+            after.kinds.cells_mut()[..count].copy_from_slice(&source.list("kinds"));
+            after.parameters.cells_mut()[..count].copy_from_slice(&source.list("params"));
+            0
+        }
+        Some("no") => number(words.next()),
+        other => panic!("what a text wants: {other:?}"),
+    };
+    TextCase {
+        model: model.to_vec(),
+        lent,
+        want,
+        after,
+    }
 }

@@ -103,6 +103,13 @@ impl Expr {
         }
     }
 
+    /// Kinds and parameters in prefix order.
+    pub fn nodes(&self) -> Vec<Node> {
+        let mut nodes = Vec::new();
+        self.write(&mut nodes);
+        nodes
+    }
+
     fn write(&self, nodes: &mut Vec<Node>) {
         match self {
             Expr::Number(number) => nodes.push((32, *number)),

@@ -10,6 +10,16 @@ pub const COUNTER: &[u8] = include_bytes!("../../examples/counter/model.gts");
 /// Transitions of the counter that can be fired again and again: three articles scanned, then sold.
 pub const COUNTER_STEPS: [usize; 4] = [0, 0, 0, 13];
 
+/// Guards typed for the counter.
+pub const GUARDS: [&str; 6] = [
+    "v1 and v0 > 0 and v7",
+    "not v1 and v0 > 0 and v3 and v6",
+    "v8 and v0 < 4 and (v1 or v2 + v12 <= 6)",
+    "v4 and v10 and v9 and not v13 and v2 - v12 != 1",
+    "if v11 then v12 == 0 else v2 >= 3 and (v3 or v4) and v6",
+    "(if v1 then v0 + 1 else 4) * 2 - mod(v2 + 3 * v12, 5) >= div(v2 + v12, 2) + 1 or v5 == v6 and not (v8 != v9)",
+];
+
 /// The steps of a long run.
 pub const STEPS: usize = 200;
 
@@ -29,6 +39,8 @@ pub enum Work {
     Undo(Vec<usize>, usize),
     Marks,
     Pick,
+    /// Each text once, accepted or not.
+    Text(Vec<String>),
 }
 
 /// A workload with its buffers, to be carried out many times.
@@ -36,6 +48,9 @@ pub struct Prepared<'w> {
     workload: &'w Workload,
     /// The run that undo, marks and pick start from.
     run: Run,
+    /// What a text's nodes are written to.
+    kinds: Vec<u8>,
+    parameters: Vec<i32>,
 }
 
 #[derive(Clone)]
@@ -97,6 +112,8 @@ impl Workload {
         Prepared {
             workload: self,
             run,
+            kinds: vec![0; 400],
+            parameters: vec![0; 400],
         }
     }
 }
@@ -145,6 +162,19 @@ impl Prepared<'_> {
                 );
                 assert_eq!((answer, found), (0, 1));
                 transition as u64
+            }
+            Work::Text(texts) => {
+                let (kinds, parameters) = (&mut self.kinds, &mut self.parameters);
+                let mut total = 0;
+                for text in texts {
+                    let mut count = 0;
+                    let answer =
+                        (engine.text)(model, text.as_bytes(), kinds, parameters, &mut count);
+                    let kinds = kinds[..count].iter().map(|&kind| u64::from(kind));
+                    total += u64::from(answer) + kinds.sum::<u64>();
+                    total = total.wrapping_add(sum(&parameters[..count]));
+                }
+                total
             }
         }
     }
@@ -201,6 +231,44 @@ pub fn all() -> Vec<Workload> {
             inactive(4_000).encode(),
             Work::Run(vec![0], STEPS),
         ),
+        Workload::new(
+            format!("text, {} guards for the counter", GUARDS.len()),
+            counter(),
+            Work::Text(GUARDS.map(String::from).into()),
+        ),
+    ]
+}
+
+/// Texts of at most 200 bytes that nest as deep as they can, for the stack.
+pub fn nested_texts() -> Vec<Workload> {
+    let nested = |name: &str, beginning: &str, middle: &str, end: &str, times: usize| {
+        let text = [&beginning.repeat(times), middle, &end.repeat(times)].concat();
+        let name = format!("text, {times} {name}");
+        Workload::new(name, COUNTER.to_vec(), Work::Text(vec![text]))
+    };
+    vec![
+        nested("`(`, a digit, as many `)`", "(", "1", ")", 99),
+        nested("`(`, as many `)`", "(", "", ")", 100),
+        nested("`(`", "(", "", "", 200),
+        nested("`-`, a digit", "-", "1", "", 199),
+        nested("`-`", "-", "", "", 200),
+        nested("`-(`, a digit, as many `)`", "-(", "1", ")", 66),
+        nested("`1+(`", "1+(", "", "", 66),
+        nested("`1+(`, a digit, as many `)`", "1+(", "1", ")", 49),
+        nested("`1<(`, as many `)`", "1<(", "", ")", 50),
+        nested("`not `, true", "not ", "true", "", 49),
+        nested("`not(`, true, as many `)`", "not(", "true", ")", 39),
+        nested("`if `", "if ", "", "", 66),
+        nested("`if(`, as many `)`", "if(", "", ")", 50),
+        nested(
+            "`if v1 then `, 1, as many ` else 2`",
+            "if v1 then ",
+            "1",
+            " else 2",
+            11,
+        ),
+        nested("`div(`, 1, as many `,1)`", "div(", "1", ",1)", 28),
+        nested("`(if(`, as many `))`", "(if(", "", "))", 33),
     ]
 }
 

@@ -73,3 +73,19 @@ fn programs() {
     }
     assert_eq!(cases.len(), 500);
 }
+
+#[test]
+fn texts() {
+    let cases = stored::texts(&stored::text("texts.txt"));
+    for (place, case) in cases.iter().enumerate() {
+        let mut typed = case.lent.clone();
+        let answer = typed.perform(&ENGINE, &case.model);
+        let text = String::from_utf8_lossy(case.lent.text.cells());
+        assert_eq!(answer, case.want, "text {place}: {text}");
+        let wrong = case.after.differences(&typed);
+        assert_eq!(wrong, [""; 0], "text {place}: {text}");
+        assert!(typed.intact(), "text {place}: {text}");
+    }
+    let accepted = cases.iter().filter(|case| case.want == 0).count();
+    assert_eq!((cases.len(), accepted), (767, 230));
+}

@@ -4,7 +4,7 @@ use std::path::Path;
 
 use bench::program::gtsrun;
 use bench::reference::{self, ENGINE};
-use bench::workloads;
+use bench::workloads::{self, Work};
 
 fn rounds(model: &[u8]) -> usize {
     let (mut values, mut n) = ([0; 510], 0);
@@ -29,13 +29,36 @@ fn sizes_and_rounds() {
 }
 
 #[test]
-fn workloads_are_accepted() {
+fn workloads_repeat() {
     let growing = workloads::growing();
     let growing = growing.iter().flat_map(|(_, workloads)| workloads);
-    for workload in workloads::all().iter().chain(growing) {
+    let nested = workloads::nested_texts();
+    for workload in workloads::all().iter().chain(growing).chain(&nested) {
         let mut prepared = workload.prepare();
         let first = prepared.perform(&ENGINE);
         assert_eq!(prepared.perform(&ENGINE), first, "{}", workload.name);
+    }
+}
+
+/// The timed texts are accepted, of 20 to 120 bytes; those for the stack are not too long.
+#[test]
+fn texts() {
+    let (mut kinds, mut parameters) = ([0; 400], [0; 400]);
+    for text in workloads::GUARDS {
+        let bytes = text.as_bytes();
+        let nodes = reference::write_nodes(workloads::COUNTER, bytes, &mut kinds, &mut parameters);
+        assert!(nodes.is_ok(), "{text}: {nodes:?}");
+        assert!((20..=120).contains(&text.len()), "{text}");
+    }
+    for workload in workloads::nested_texts() {
+        let Work::Text(texts) = &workload.work else {
+            panic!("{} is no text", workload.name);
+        };
+        assert!(
+            texts.iter().all(|text| text.len() <= 200),
+            "{}",
+            workload.name
+        );
     }
 }
 

@@ -104,6 +104,20 @@ fn main() {
     }
     println!("\nHighest ratio: {highest:.2}\n");
 
+    println!("Bytes of stack of texts that nest.\n");
+    println!("| text | {library} stack | {reference} stack |");
+    println!("|---|---:|---:|");
+    let mut most = 0;
+    for workload in workloads::nested_texts().iter().filter(chosen) {
+        let mut prepared = workload.prepare();
+        let results = [&LIBRARY, &ENGINE].map(|engine| prepared.perform(engine));
+        assert_eq!(results[0], results[1], "{}: results differ", workload.name);
+        let [one, two] = [&LIBRARY, &ENGINE].map(|engine| stack_bytes(workload, engine));
+        most = most.max(one);
+        println!("| {} | {one} | {two} |", workload.name);
+    }
+    println!("\nMost: {most}\n");
+
     println!("How the costs grow; the factor is to the line before.\n");
     println!("| grows | workload | {library} µs | factor | {reference} µs | factor | {library}/{reference} |");
     println!("|---|---|---:|---:|---:|---:|---:|");

@@ -2,12 +2,13 @@
 //!
 //!     differential [CALLS [SEED]]
 //!
+//! CALLS are those on runs; each random model gets some texts beside them.
 //! Each case has its own seed, counted up from SEED: a difference is met again by `differential 1 SEED` with the
 //! seed that is printed for it.
 
 use std::process::ExitCode;
 
-use bench::calls::{Call, Store, TABLE};
+use bench::calls::{Call, Store, Typed, TABLE};
 use bench::ffi::LIBRARY;
 use bench::guarded::Guarded;
 use bench::model_gen;
@@ -19,17 +20,37 @@ use bench::stored::{self, Lent};
 /// How many differences are printed in full.
 const PRINTED: usize = 10;
 
-#[derive(Default)]
+/// The texts of a random model.
+const TEXTS: usize = 3;
+
+/// The column of the calls on texts, after those of the table.
+const TEXT: usize = TABLE.len();
+
+/// The answers are below this.
+const ANSWERS: usize = 35;
+
 struct Tally {
     calls: usize,
+    /// Those of the table alone.
+    on_runs: usize,
     differ: usize,
-    /// For each row of the table, how often each number was answered.
-    answers: [[usize; 32]; TABLE.len()],
+    /// For each row of the table, and then for texts, how often each number was answered.
+    answers: [[usize; ANSWERS]; TABLE.len() + 1],
 }
 
 impl Tally {
+    fn new() -> Self {
+        Tally {
+            calls: 0,
+            on_runs: 0,
+            differ: 0,
+            answers: [[0; ANSWERS]; TABLE.len() + 1],
+        }
+    }
+
     fn count(&mut self, row: usize, answer: u8) {
         self.calls += 1;
+        self.on_runs += usize::from(row != TEXT);
         if let Some(count) = self.answers[row].get_mut(usize::from(answer)) {
             *count += 1;
         }
@@ -47,8 +68,8 @@ impl Tally {
         for row in &TABLE {
             print!(" {} |", row.name);
         }
-        println!("\n|{}", "---|".repeat(TABLE.len() + 1));
-        for answer in 0..32 {
+        println!(" text |\n|{}", "---|".repeat(TABLE.len() + 2));
+        for answer in 0..ANSWERS {
             if self.answers.iter().all(|row| row[answer] == 0) {
                 continue;
             }
@@ -68,10 +89,11 @@ fn main() -> ExitCode {
     let wanted = arguments.next().unwrap_or(300_000) as usize;
     let first = arguments.next().unwrap_or(1);
 
-    let mut tally = Tally::default();
-    let stored = stored_cases(&mut tally);
+    let mut tally = Tally::new();
+    stored_cases(&mut tally);
+    let stored = tally.on_runs;
     let mut seed = first;
-    while tally.calls < stored + wanted {
+    while tally.on_runs < stored + wanted {
         random_case(&mut tally, seed);
         seed += 1;
     }
@@ -123,7 +145,24 @@ impl<'a> Pair<'a> {
     }
 }
 
-/// One random model with its twin, or one damaged file, and one list of calls.
+/// The library's answer to a text beside a model or its twin, and all that differs from what the Rust implementation
+/// gives beside the model.
+fn perform_text(model: &[u8], given: &[u8], typed: &Typed) -> (u8, Vec<String>) {
+    let (mut expected, mut found) = (typed.clone(), typed.clone());
+    let lent = Guarded::new(given);
+    let wanted = expected.perform(&ENGINE, model);
+    let answer = found.perform(&LIBRARY, lent.cells());
+    let mut wrong = expected.differences(&found);
+    if wanted != answer {
+        wrong.push(format!("answer: {wanted} / {answer}"));
+    }
+    if !found.intact() || lent != Guarded::new(given) {
+        wrong.push("guard cells or the model were written".to_string());
+    }
+    (answer, wrong)
+}
+
+/// One random model with its twin, or one damaged file; one list of calls, and some texts.
 fn random_case(tally: &mut Tally, seed: u64) {
     let mut random = Random::new(seed.wrapping_mul(0x9E37_79B9_7F4A_7C15));
     let shape = model_gen::shape(&mut random);
@@ -153,18 +192,33 @@ fn random_case(tally: &mut Tally, seed: u64) {
             }
         }
     }
+    for _ in 0..TEXTS {
+        let typed = model_gen::typed(&mut random, &model);
+        for (name, given) in [("model", Some(&file)), ("twin", twin.as_ref())] {
+            let Some(given) = given else { continue };
+            let (answer, wrong) = perform_text(&file, given, &typed);
+            tally.count(TEXT, answer);
+            if !wrong.is_empty() {
+                let text = typed.text.cells().escape_ascii();
+                let wrong = wrong.join("; ");
+                tally.report(format!(
+                    "seed {seed}, {shape:?} {name}, text {text}: {wrong}"
+                ));
+            }
+        }
+    }
 }
 
-/// The stored cases through the C calls; gives the number of calls.
-fn stored_cases(tally: &mut Tally) -> usize {
+/// The stored cases through the C calls.
+fn stored_cases(tally: &mut Tally) {
     let checks = stored_checks(tally);
     let lists = stored_lists(tally);
     let programs = stored_programs(tally);
+    let texts = stored_texts(tally);
     println!(
-        "stored: {checks} checks, {lists} lists of calls with their twins, {programs} programs: {} calls, {} differ",
+        "stored: {checks} checks, {lists} lists of calls with their twins, {programs} programs, {texts} texts: {} calls, {} differ",
         tally.calls, tally.differ
     );
-    tally.calls
 }
 
 fn stored_checks(tally: &mut Tally) -> usize {
@@ -224,4 +278,23 @@ fn stored_programs(tally: &mut Tally) -> usize {
         }
     }
     programs.len()
+}
+
+fn stored_texts(tally: &mut Tally) -> usize {
+    let texts = stored::texts(&stored::text("texts.txt"));
+    for (place, case) in texts.iter().enumerate() {
+        let model = Guarded::new(&case.model);
+        let mut found = case.lent.clone();
+        let answer = found.perform(&LIBRARY, model.cells());
+        tally.count(TEXT, answer);
+        // Guard cells are compared too.
+        if (answer, &found) != (case.want, &case.after) || model != Guarded::new(&case.model) {
+            let text = case.lent.text.cells().escape_ascii();
+            let wrong = case.after.differences(&found).join("; ");
+            tally.report(format!(
+                "stored text {place}, {text}: answers {answer}; {wrong}"
+            ));
+        }
+    }
+    texts.len()
 }

@@ -2,12 +2,16 @@
 
 use super::Refusal;
 
-/// The limits of a model.
+/// The limits of a model and of a text.
 pub struct Limits;
 
 impl Limits {
     pub const NODES: usize = 4_000;
     pub const DEPTH: usize = 32;
+    /// Bytes of a text.
+    pub const TEXT: usize = 200;
+    /// Cells that are lent for a text's nodes, at least.
+    pub const TEXT_NODES: usize = 400;
 }
 
 /// Length of the sizes at the head of a file.
@@ -412,7 +416,7 @@ impl<'a> Walk<'a> {
 }
 
 /// A binary operator with the type of its operands and of its result.
-fn binary(kind: u8) -> Option<(Operator, Type, Type)> {
+pub(super) fn binary(kind: u8) -> Option<(Operator, Type, Type)> {
     use Type::{Boolean, Number};
     Some(match kind {
         36 => (Operator::And, Boolean, Boolean),

@@ -29,6 +29,10 @@ pub enum Refusal {
     AssertionOutside = 29,
     AssertionConflict = 30,
     ReplayRefused = 31,
+    NotInGrammar = 32,
+    TypesDoNotFit = 33,
+    /// A text over 200 bytes, or nodes deeper than 32.
+    TooLongOrDeep = 34,
 }
 
 impl Refusal {

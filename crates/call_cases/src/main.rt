@@ -49,101 +49,11 @@ impl Tally {
     const NOTHING: u8 = 6;
 }
 
-fn wide(byte: u8) -> usize
-    ensures { λ r. ⌜ r < 256 ⌝ }
-{
-    byte as usize
-}
-
-// The number in two bytes of a header.
-fn two(head: &[u8; 32], at: usize) -> usize
-    requires { ⌜ at < 31 ⌝ }
-    ensures { λ r. ⌜ r < 65536 ⌝ }
-{
-    wide(head[at]) + 256 * wide(head[at + 1])
-}
-
-// The number in four bytes of a header.
-fn four(head: &[u8; 32], at: usize) -> usize
-    requires { ⌜ at < 29 ⌝ }
-    ensures { λ r. ⌜ r < 4294967296 ⌝ }
-{
-    two(head, at) + 65536 * two(head, at + 2)
-}
-
 // The number in eight bytes of a header.
 fn eight(head: &[u8; 32], at: usize) -> usize
     requires { ⌜ at < 25 ⌝ }
 {
-    four(head, at) + 4294967296 * four(head, at + 4)
-}
-
-// The signed number of four bytes.
-fn signed(number: usize) -> i32
-    requires { ⌜ number < 4294967296 ⌝ }
-{
-    if number < 2147483648 {
-        number as i32
-    } else {
-        !((4294967295 - number) as i32)
-    }
-}
-
-// The signed number in four bytes of a store.
-fn value_at(b: &[u8], at: usize) -> i32
-    requires { ⌜ at + 4 ≤ length (now b) ⌝ }
-{
-    let low = wide(b[at]) + 256 * wide(b[at + 1]);
-    let high = wide(b[at + 2]) + 256 * wide(b[at + 3]);
-    signed(low + 65536 * high)
-}
-
-fn load_values(b: &[u8], values: &mut [i32])
-    requires { ⌜ 4 * length (now values) ≤ length (now b) ⌝ }
-{
-    let mut i = 0;
-    while i < values.len() {
-        values[i] = value_at(b, 4 * i);
-        i += 1;
-    }
-}
-
-fn load_bytes(b: &[u8], bytes: &mut [u8])
-    requires { ⌜ length (now bytes) ≤ length (now b) ⌝ }
-{
-    let mut i = 0;
-    while i < bytes.len() {
-        bytes[i] = b[i];
-        i += 1;
-    }
-}
-
-// Are the values those of a store?
-fn is_same_values(b: &[u8], values: &[i32]) -> bool
-    requires { ⌜ 4 * length (now values) ≤ length (now b) ⌝ }
-{
-    let mut i = 0;
-    while i < values.len() {
-        if value_at(b, 4 * i) != values[i] {
-            return false;
-        }
-        i += 1;
-    }
-    true
-}
-
-// Are these bytes those at the beginning of b?
-fn is_same_bytes(b: &[u8], bytes: &[u8]) -> bool
-    requires { ⌜ length (now bytes) ≤ length (now b) ⌝ }
-{
-    let mut i = 0;
-    while i < bytes.len() {
-        if b[i] != bytes[i] {
-            return false;
-        }
-        i += 1;
-    }
-    true
+    cases::four(head, at) + 4294967296 * cases::four(head, at + 4)
 }
 
 // How many bytes a store has.
@@ -171,13 +81,13 @@ fn is_same_store(b: &[u8], values: &[i32], history: &[u8], marks: &[u8]) -> bool
         return false;
     }
     let second = first + history.len();
-    if !is_same_values(&b[0..first], values) {
+    if !cases::is_same_values(values, &b[0..first], 0) {
         return false;
     }
-    if !is_same_bytes(&b[first..second], history) {
+    if !cases::is_same_bytes(history, &b[first..second], 0) {
         return false;
     }
-    is_same_bytes(&b[second..], marks)
+    cases::is_same_bytes(marks, &b[second..], 0)
 }
 
 // Is the wanted answer of this form, with this number?
@@ -192,26 +102,26 @@ fn is_value(head: &[u8; 32], value: i32) -> bool {
     if head[1] != Tally::VALUE {
         return false;
     }
-    signed(four(head, 16)) == value
+    cases::signed(head, 16) == value
 }
 
 fn is_sizes(head: &[u8; 32], sizes: Sizes) -> bool {
     if head[1] != Tally::SIZES {
         return false;
     }
-    if sizes.states != wide(head[16]) {
+    if sizes.states != cases::wide(head[16]) {
         return false;
     }
-    if sizes.flows != wide(head[17]) {
+    if sizes.flows != cases::wide(head[17]) {
         return false;
     }
-    if sizes.events != wide(head[18]) {
+    if sizes.events != cases::wide(head[18]) {
         return false;
     }
-    if sizes.transitions != wide(head[19]) {
+    if sizes.transitions != cases::wide(head[19]) {
         return false;
     }
-    sizes.nodes == two(head, 20)
+    sizes.nodes == cases::two(head, 20)
 }
 
 fn is_found(head: &[u8; 32], found: Found) -> bool {
@@ -223,7 +133,7 @@ fn is_found(head: &[u8; 32], found: Found) -> bool {
 
 fn is_answer(head: &[u8; 32], answer: Answer) -> bool {
     match answer {
-        Answer::Refused(number) => is_number(head, Tally::REFUSED, wide(number)),
+        Answer::Refused(number) => is_number(head, Tally::REFUSED, cases::wide(number)),
         Answer::Rounds(count) => is_number(head, Tally::ROUNDS, count),
         Answer::Done => is_number(head, Tally::DONE, 0),
         Answer::Number(value) => is_value(head, value),
@@ -281,7 +191,7 @@ fn tell_wanted(head: &[u8; 32]) {
     let form = head[1];
     tell_form(form);
     if form == Tally::VALUE {
-        tell_value(signed(four(head, 16)));
+        tell_value(cases::signed(head, 16));
         return;
     }
     tell_number(eight(head, 16));
@@ -306,7 +216,7 @@ fn tell_found(found: Found) {
 // Prints an answer that came in place of the wanted one. Of sizes the number of nodes is told.
 fn tell_answer(answer: Answer) {
     match answer {
-        Answer::Refused(number) => tell_came(Tally::REFUSED, wide(number)),
+        Answer::Refused(number) => tell_came(Tally::REFUSED, cases::wide(number)),
         Answer::Rounds(count) => tell_came(Tally::ROUNDS, count),
         Answer::Done => tell_came(Tally::DONE, 0),
         Answer::Number(value) => {
@@ -374,12 +284,11 @@ fn is_equal(
 
 // Reads the header of a call and the store after it; false at the end of the file.
 fn read_call(fd: i32, head: &mut [u8; 32], store: &mut [u8]) -> bool {
-    let read = io::read_full(fd, head);
-    if read < 32 {
+    if !cases::is_read(fd, head, 32) {
         return false;
     }
-    let filled = io::read_full(fd, store);
-    filled == store.len()
+    let count = store.len();
+    cases::is_read(fd, store, count)
 }
 
 // The tally with one call more; a call that differs is told.
@@ -437,9 +346,9 @@ fn load(b: &[u8], values: &mut [i32], history: &mut [u8], marks: &mut [u8])
 {
     let first = 4 * values.len();
     let second = first + history.len();
-    load_values(&b[0..first], values);
-    load_bytes(&b[first..second], history);
-    load_bytes(&b[second..], marks);
+    cases::load_values(&b[0..first], values);
+    cases::load_bytes(&b[first..second], history);
+    cases::load_bytes(&b[second..], marks);
 }
 
 // A list: reads the store at the beginning into what is lent, and carries out the calls.
@@ -460,8 +369,7 @@ fn from_beginning(
     if body.len() < bytes {
         return Outcome::End;
     }
-    let filled = io::read_full(fd, &mut body[0..bytes]);
-    if filled < bytes {
+    if !cases::is_read(fd, body, bytes) {
         return Outcome::End;
     }
     load(body, values, history, marks);
@@ -480,9 +388,9 @@ fn from_beginning(
 
 // A list on a run that is made of parts of local arrays, with the stored lengths.
 fn one_list(fd: i32, head: &[u8; 32], model: &[u8], tally: Tally) -> Outcome {
-    let variables = two(head, 8);
-    let places = two(head, 10);
-    let transitions = two(head, 12);
+    let variables = cases::two(head, 8);
+    let places = cases::two(head, 10);
+    let transitions = cases::two(head, 12);
     if 512 < variables {
         return Outcome::End;
     }
@@ -498,7 +406,7 @@ fn one_list(fd: i32, head: &[u8; 32], model: &[u8], tally: Tally) -> Outcome {
     let mut body = [0u8; 4096];
     from_beginning(
         fd,
-        two(head, 14),
+        cases::two(head, 14),
         eight(head, 24),
         &mut body,
         model,
@@ -521,24 +429,21 @@ fn begun(tally: Tally) -> Tally {
 // Reads a list and carries it out on its model, or on its twin.
 fn next_list(fd: i32, of_twin: bool, model: &mut [u8], twin: &mut [u8], tally: Tally) -> Outcome {
     let mut head = [0u8; 32];
-    let read = io::read_full(fd, &mut head);
-    if read < 32 {
+    if !cases::is_read(fd, &mut head, 32) {
         return Outcome::End;
     }
-    let first = four(&head, 0);
-    let second = four(&head, 4);
+    let first = cases::four(&head, 0);
+    let second = cases::four(&head, 4);
     if model.len() < first {
         return Outcome::End;
     }
     if twin.len() < second {
         return Outcome::End;
     }
-    let filled = io::read_full(fd, &mut model[0..first]);
-    if filled < first {
+    if !cases::is_read(fd, model, first) {
         return Outcome::End;
     }
-    let filled = io::read_full(fd, &mut twin[0..second]);
-    if filled < second {
+    if !cases::is_read(fd, twin, second) {
         return Outcome::End;
     }
     if of_twin {
@@ -568,10 +473,7 @@ fn all_lists(fd: i32, of_twin: bool, model: &mut [u8], twin: &mut [u8]) -> Tally
 
 // All lists of data/cases, on the models or on their twins.
 fn carried_out(of_twin: bool) -> Tally {
-    let fd = os::open_read(b"cases");
-    if fd < 0 {
-        os::fail(b"cases");
-    }
+    let fd = cases::open();
     let mut model = [0u8; 24576];
     let mut twin = [0u8; 24576];
     let tally = all_lists(fd, of_twin, &mut model, &mut twin);

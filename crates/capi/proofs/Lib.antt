@@ -3,3 +3,4 @@ pub mod Coding
 pub mod Forms
 pub mod Reached
 pub mod Sizing
+pub mod Typing

@@ -11,6 +11,8 @@ use Rattle.results.specs.Results.{Answered, answered, over}
 use Rattle.model.specs.declared.Sizes.{Sizes}
 use Rattle.standing.specs.Runs.{Answer, Done}
 use Rattle.standing.specs.Runs.Answer.{refused, rounds, done, number, sizes, picked}
+use Rattle.texts.specs.declared.Typed.{Typed}
+use Rattle.texts.specs.declared.Typed.the-variants.{Refused, Nodes}
 
 -- the number of the refusal, else 0
 unfoldable pub codeOf : Answer → ℕ
@@ -86,3 +88,17 @@ pickedOr old (picked t) = foundOver (old .0) t
 -- a call whose result is a transition, or that there is none, over what stood there: pick
 abbrev pub codedPick : ℕ × ℕ → Answer → Answered ℕ (ℕ × ℕ)
 codedPick old a = answered (codeOf a) (pickedOr old a)
+
+-- a text's answer: the number of the refusal, else 0
+unfoldable pub codeOfText : Typed → ℕ
+codeOfText (Refused n) = n
+codeOfText (Nodes n) = 0
+
+-- how many nodes were written, else what stood there
+unfoldable pub nodesOr : ℕ → Typed → ℕ
+nodesOr old (Refused n) = old
+nodesOr old (Nodes n) = n
+
+-- a call whose result is a count of nodes, over what stood there: text
+abbrev pub codedText : {A : Type 0} → ℕ → Answered Typed A → Answered ℕ (A × ℕ)
+codedText old d = answered (codeOfText (d .answer)) (d .left, nodesOr old (d .answer))

@@ -11,7 +11,8 @@ use Rattle.steps.specs.Answers.{onFile, onFileAnswer}
 use Rattle.steps.specs.Calls as calls
 use Rattle.inspection.specs.Queries as queries
 use Rattle.run.specs.Promises.{seenCheck}
-use Rattle.capi.specs.Codes.{codedBy, codedRounds, codedNumber, codedSizes, codedPick}
+use Rattle.texts.specs.Texts.{slices, typedIn}
+use Rattle.capi.specs.Codes.{codedBy, codedRounds, codedNumber, codedSizes, codedPick, codedText}
 
 -- the cell of the round count, by the code. 01: "so it is at most F + 1"
 unfoldable pub CellBounded : Verdict → ℕ → ℕ → Type 0
@@ -52,3 +53,7 @@ abbrev pub PickCoded : List ℕ → List ℤ → List ℕ → ℕ → ℕ → �
 PickCoded m values history n transition found code transition′ found′ =
     answered code (transition′, found′)
     ≡ codedPick (transition, found) (onFileAnswer (verdict m) (λ m. queries.pick m (run values history n)))
+
+abbrev pub TextCoded : List ℕ → List ℕ → List ℕ → List ℤ → ℕ → ℕ → List ℕ → List ℤ → ℕ → Type 0
+TextCoded m text kinds parameters count code kinds′ parameters′ count′ =
+    answered code (slices kinds′ parameters′, count′) ≡ codedText count (typedIn (verdict m) text (slices kinds parameters))

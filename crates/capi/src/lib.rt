@@ -1,12 +1,13 @@
-// The calls on a run for C: 0 and the results, or the number of the refusal and nothing that was lent changed.
+// The calls on a run and on a text for C: 0 and the results, or the number of the refusal and nothing that was lent changed.
 
 ghost use mathlib.Core.Path.{_≡_};
 ghost use Rattle.steps.specs.Answers.{seen};
 ghost use Rattle.capi.specs.Codes.{codeOf, roundsOr, numberOr};
-ghost use Rattle.capi.specs.Promises.{CheckCoded, StartCoded, FireCoded, UndoCoded, MarksCoded, ValueCoded, PickCoded};
+ghost use Rattle.capi.specs.Promises.{CheckCoded, StartCoded, FireCoded, UndoCoded, MarksCoded, ValueCoded, PickCoded, TextCoded};
 use model::Checked;
 use results::Found;
 use steps::Answer;
+use texts::Typed;
 
 // The cells of the sizes S F E T N.
 const STATES: usize = 0;
@@ -176,5 +177,26 @@ pub extern "C" fn gts_pick(
             }
         },
         _ => 0,
+    }
+}
+
+// The nodes of a text, with their count.
+#[no_mangle]
+pub extern "C" fn gts_text(
+    model: &[u8],
+    text: &[u8],
+    kinds: &mut [u8],
+    parameters: &mut [i32],
+    count: &mut usize,
+) -> u8
+    ensures { λ r. ⌜ TextCoded (now (model .entry)) (now (text .entry)) (now (kinds .entry)) (now (parameters .entry)) (now (count .entry)) r
+        (now (kinds .exit)) (now (parameters .exit)) (now (count .exit)) ⌝ }
+{
+    match texts::write_nodes(model, text, kinds, parameters) {
+        Typed::Refused(number) => number,
+        Typed::Nodes(written) => {
+            *count = written;
+            0
+        }
     }
 }

@@ -1,32 +1,23 @@
 -- The command of a line, by its length and its first bytes.
 use mathlib.Core.Path.{_≡_, refl, sym, ap, _∙_}
-use mathlib.Core.Bool.{Bool, true, false, cond, _&&_}
+use mathlib.Core.Bool.{Bool, true, false, cond, _&&_, and-false}
 use mathlib.Core.List.{List, [], _∷_}
-use Prim.Native.Nat.{ℕ, suc, _+_, _*_, _-_, _≤_, _<_, _^_}
+use Prim.Native.Nat.{ℕ, _+_, _*_, _-_, _≤_, _<_, _^_}
 use native.Mathlib.Nat.{lt-of-lt-of-le, pow-le-pow-right}
-use native.Mathlib.Numerals.{add-one}
 use native.Mathlib.Omega.{arith}
 use borrow.Author.Tests.{ltb-true, ltb-false, le-leb, lt-leb, ne-eqb}
 use lib.Dec.{ltb, leb, eqb}
-use lib.ListN.{length, take, drop, getD, length-drop, drop-of-length-le}
-use lib.Seq.{take-all, length-take-le, drop-cons}
+use lib.ListN.{length, take, drop, getD, length-drop}
+use lib.Seq.{take-all, length-take-le}
 use Rattle.commands.specs.declared.Command.{Command}
 use Rattle.commands.specs.declared.Command.the-variants.{Fire, Undo, Marks, Unknown}
-use Rattle.commands.specs.Commands.{same, isDigit, areDigits, valueAfter, valueOf, isNumber, commandOf}
+use Rattle.ascii.specs.Ascii.{same, areDigits, valueAfter, valueOf}
+use Rattle.ascii.proofs.Digits.{next-digit, no-more-digits}
+use Rattle.ascii.proofs.Sameness.{other-length}
+use Rattle.commands.specs.Commands.{isNumber, commandOf}
 use Rattle.commands.specs.Theorems.{LongLineUnknown, CommandOfFirst}
 
 -- ---- lines that are no command
-
-and-false : (t : Bool) → t && false ≡ false
-and-false true = refl
-and-false false = refl
-
-other-length : (l s : List ℕ) → (length l ≡ length s → ⊥) → same l s ≡ false
-unfolding same
-other-length [] [] h = absurd (h refl)
-other-length [] (b ∷ s) h = refl
-other-length (a ∷ l) [] h = refl
-other-length (a ∷ l) (b ∷ s) h = rw (other-length l s (λ e. h (ap suc e))) (and-false (eqb a b))
 
 long-number : (l : List ℕ) → 3 < length l → isNumber l ≡ false
 unfolding isNumber
@@ -64,26 +55,17 @@ numberAfter n l = cond (areDigits l) (Fire (valueAfter n l)) Unknown
 
 module _ (l : List ℕ) (n i : ℕ) where
   -- a byte that is no digit
-  no-digit : i < length l → isDigit (getD l i 0) ≡ false → Unknown ≡ numberAfter n (drop i l)
-  unfolding areDigits
-  no-digit h e = rw (drop-cons l i 0 h, e)
-
-  pub below-digits : i < length l → getD l i 0 < 48 → Unknown ≡ numberAfter n (drop i l)
-  below-digits h b = no-digit h (rw (lt-leb 48 (getD l i 0) b))
-
-  pub above-digits : i < length l → 57 < getD l i 0 → Unknown ≡ numberAfter n (drop i l)
-  above-digits h b = no-digit h (rw (lt-leb (getD l i 0) 57 b) (and-false (leb 48 (getD l i 0))))
+  pub other-byte : areDigits (drop i l) ≡ false → Unknown ≡ numberAfter n (drop i l)
+  other-byte e = rw e
 
   -- a digit
-  pub next-digit : i < length l → 48 ≤ getD l i 0 → getD l i 0 ≤ 57
+  pub digit-read : i < length l → 48 ≤ getD l i 0 → getD l i 0 ≤ 57
       → numberAfter n (drop i l) ≡ numberAfter (10 * n + (getD l i 0 - 48)) (drop (i + 1) l)
-  unfolding areDigits valueAfter
-  next-digit h low high =
-      rw (drop-cons l i 0 h, add-one i, le-leb 48 (getD l i 0) low, le-leb (getD l i 0) 57 high)
+  digit-read h low high = let s = next-digit l i n h low high in rw (s .0, s .1)
 
-  pub no-more-digits : length l ≤ i → Fire n ≡ numberAfter n (drop i l)
-  unfolding areDigits valueAfter
-  no-more-digits h = rw (drop-of-length-le l h)
+  -- all are read
+  pub digits-end : length l ≤ i → Fire n ≡ numberAfter n (drop i l)
+  digits-end h = let s = no-more-digits l i n h in rw (s .0, s .1)
 
 -- so many digits are below a power of 10
 pub few-digits : (i n : ℕ) → i ≤ 3 → n < 10 ^ i → n < 1000

@@ -1,14 +1,15 @@
 -- 01: "lines of standard input: `f` space 1 to 3 digits, `u`, `m`"; 13 "a line is no command". A line is its bytes without
 -- the line feed.
-use mathlib.Core.Bool.{Bool, true, false, cond, _&&_}
+use mathlib.Core.Bool.{Bool, cond, _&&_}
 use mathlib.Core.List.{List, [], _∷_}
-use Prim.Native.Nat.{ℕ, _+_, _*_, _-_}
-use lib.Dec.{eqb, leb}
+use Prim.Native.Nat.{ℕ}
+use lib.Dec.{leb}
 use lib.ListN.{length, take, drop}
+use Rattle.ascii.specs.Ascii.{spaceByte, same, areDigits, valueOf}
 use Rattle.commands.specs.declared.Command.{Command}
 use Rattle.commands.specs.declared.Command.the-variants.{Fire, Undo, Marks, Unknown}
 
--- the bytes `u`, `m`, `f`, space, `0` and `9`
+-- the bytes `u`, `m`, `f`
 abbrev pub undoByte : ℕ
 undoByte = 117
 
@@ -17,38 +18,6 @@ marksByte = 109
 
 abbrev pub fireByte : ℕ
 fireByte = 102
-
-abbrev pub spaceByte : ℕ
-spaceByte = 32
-
-abbrev pub firstDigit : ℕ
-firstDigit = 48
-
-abbrev pub lastDigit : ℕ
-lastDigit = 57
-
--- are these the same bytes?
-unfoldable pub same : List ℕ → List ℕ → Bool
-same [] [] = true
-same [] (b ∷ t) = false
-same (a ∷ s) [] = false
-same (a ∷ s) (b ∷ t) = eqb a b && same s t
-
--- `0` to `9`
-abbrev pub isDigit : ℕ → Bool
-isDigit b = leb firstDigit b && leb b lastDigit
-
-unfoldable pub areDigits : List ℕ → Bool
-areDigits [] = true
-areDigits (b ∷ l) = isDigit b && areDigits l
-
--- digits read left to right, after those that gave n
-unfoldable pub valueAfter : ℕ → List ℕ → ℕ
-valueAfter n [] = n
-valueAfter n (b ∷ l) = valueAfter (10 * n + (b - firstDigit)) l
-
-abbrev pub valueOf : List ℕ → ℕ
-valueOf l = valueAfter 0 l
 
 -- 1 to 3 digits
 abbrev pub leastDigits : ℕ

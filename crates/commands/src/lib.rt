@@ -5,7 +5,8 @@ ghost use mathlib.Core.Bool.{cond};
 ghost use mathlib.Core.List.{[], _∷_};
 ghost use Prim.Native.Nat.{_≤_};
 ghost use lib.ListN.{length};
-ghost use Rattle.commands.specs.Commands.{commandOf, areDigits, valueOf, mostDigits};
+ghost use Rattle.ascii.specs.Ascii.{areDigits, valueOf};
+ghost use Rattle.commands.specs.Commands.{commandOf, mostDigits};
 
 // 01's commands; the last is none, refusal 13.
 pub enum Command {

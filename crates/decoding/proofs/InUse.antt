@@ -10,7 +10,7 @@ use lib.Seq.{take-at}
 use Rattle.results.specs.Results.{answered, over}
 use Rattle.model.specs.declared.Sizes.{Sizes}
 use Rattle.model.specs.declared.Model.{Model}
-use Rattle.model.specs.Trees.{System, variables, sortsOf}
+use Rattle.model.specs.Trees.{System, variables}
 use Rattle.model.specs.Sizes.{byteLayout}
 use Rattle.model.specs.Check.{Verdict, verdict, kindsIn}
 use Rattle.model.specs.Check.Verdict.{refusal, accepted}
@@ -45,10 +45,8 @@ DecodedIn m a d =
 pub record InUse (m : List ℕ) (a : Arrays) (d : Model) : Type 0 where
   pub bytes : Bytes m
   pub decoding : DecodedIn m a d
-  pub sortsDecoded : take (d .sizes .states + d .sizes .flows) (a .sorts) ≡ sortsOf (variables (decoding .system))
   pub fits : SizesFit (d .sizes)
   pub parameters : d .sizes .nodes ≡ length (take (d .sizes .nodes) (a .parameters))
-  pub sorts : d .sizes .states + d .sizes .flows ≡ length (take (d .sizes .states + d .sizes .flows) (a .sorts))
   pub variables : d .sizes .states + d .sizes .flows ≡ length (take (d .sizes .states + d .sizes .flows) (a .variables))
   pub nexts : d .sizes .nodes ≡ length (take (d .sizes .nodes) (a .nexts))
   pub guards : d .sizes .transitions ≡ length (take (d .sizes .transitions) (a .guards))
@@ -57,27 +55,23 @@ pub record InUse (m : List ℕ) (a : Arrays) (d : Model) : Type 0 where
 pub part-within : {A : Type 0} (n : ℕ) (l : List A) → n ≡ length (take n l) → n ≤ length l
 part-within n l e = omega (arith, length-take n l, e)
 
-module _ (m : List ℕ) (b : Bytes m) (a : Arrays) (d : Model) (x : DecodedIn m a d)
-    (s : take (d .sizes .states + d .sizes .flows) (a .sorts) ≡ sortsOf (variables (x .system))) where
+module _ (m : List ℕ) (b : Bytes m) (a : Arrays) (d : Model) (x : DecodedIn m a d) where
   decoding-used : InUse m a d
   decoding-used =
       let nodes = decoded-nodes m d _ _ _ _ _ x in
-      let number = decoded-variables m d _ _ _ _ _ x in
       record {
         bytes = b;
         decoding = x;
-        sortsDecoded = s;
         fits = sizes-fit m b (d .sizes) (x .system) (x .checked);
         parameters = sym (decoded-parameters m d _ _ _ _ _ x ∙ nodes);
-        sorts = sym (ap length s ∙ length-map (variables (x .system)) (λ v. v .sort) ∙ number);
-        variables = sym (decoded-rows m d _ _ _ _ _ x ∙ number);
+        variables = sym (decoded-rows m d _ _ _ _ _ x ∙ decoded-variables m d _ _ _ _ _ x);
         nexts = sym (decoded-nexts m d _ _ _ _ _ x ∙ nodes);
         guards = sym (decoded-guards m d _ _ _ _ _ x ∙ decoded-transitions m d _ _ _ _ _ x);
       }
 
 -- ---- what `prepare` leaves
 
-take-over : {A : Type 0} (new old : List A) (n : ℕ) → length new ≡ n → take n (over new old) ≡ new
+pub take-over : {A : Type 0} (new old : List A) (n : ℕ) → length new ≡ n → take n (over new old) ≡ new
 take-over new old n e = take-at new (drop (length new) old) n e
 
 module _ (m : List ℕ) (b : Bytes m) (old : Arrays) where
@@ -97,7 +91,6 @@ module _ (m : List ℕ) (b : Bytes m) (old : Arrays) where
         nextsDecoded = take-over _ (old .nexts) _ (nexts-length _ _ t (f .system .stands) ∙ kinds-length m s (f .sizes));
         guardsDecoded = take-over _ (old .guards) _ (guards-length (t .transitions) _ ∙ f .system .numberOfTransitions);
       })
-      (take-over _ (old .sorts) _ (length-map (variables t) (λ v. v .sort) ∙ f .system .number))
 
   ready-by : (v : Verdict) → verdict m ≡ v → (d : Model) (left : Arrays) → answered (Ready d) left ≡ preparedBy m old v → InUse m left d
   unfolding preparedBy

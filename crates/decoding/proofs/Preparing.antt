@@ -28,6 +28,11 @@ use Rattle.decoding.proofs.Places.{filled-nexts}
 
 -- ---- the answer of the check
 
+pub answer-refused : (n : ℕ) (v : Verdict) → answerOf v ≡ checked.Refused n → v ≡ refusal n
+unfolding answerOf
+answer-refused n (refusal k) e = let z : k ≡ n = cc in ap refusal z
+answer-refused n (accepted s t) e = let z : _≡_ {A = ℕ} 0 1 = cc in absurd (omega arith)
+
 module _ (m : List ℕ) (s : Sizes) where
   answer-by : (v : Verdict) → verdict m ≡ v → answerOf v ≡ checked.Accepted s → (t : System) × (verdict m ≡ accepted s t)
   unfolding answerOf
@@ -84,12 +89,17 @@ module _ (m : List ℕ) (s : Sizes) (ks : List ℕ) (ps : List ℤ) (k : ks ≡ 
   pub variables-asked : answerOf (verdict m) ≡ checked.Accepted s → VariablesRead ks ps (s .states + s .flows)
   variables-asked e = let a = answer-accepted m s e in variables-read (a .0) (a .1)
 
+pub sorts-asked : (m : List ℕ) (s : Sizes) (ks : List ℕ) → ks ≡ kindsIn byteLayout (s .nodes) m → answerOf (verdict m) ≡ checked.Accepted s
+    → (ps : List ℤ) × VariablesRead ks ps (s .states + s .flows)
+sorts-asked m s ks k e = (parametersIn byteLayout (s .nodes) m, variables-asked m s ks _ k refl e)
+
 -- what the functions leave
 pub record Steps (m : List ℕ) (s : Sizes) (ks : List ℕ) (old new : Arrays) (place assertion : ℕ) : Type 0 where
   pub kinds : ks ≡ kindsIn byteLayout (s .nodes) m
   pub parameters : new .parameters ≡ parametersAt m (6 + s .nodes) (s .nodes) ++ drop (s .nodes) (old .parameters)
+  pub sorts : (ps : List ℤ) (r : VariablesRead ks ps (s .states + s .flows)) → new .sorts ≡ over (sortsOf (r .variables)) (old .sorts)
   pub declarations : (r : VariablesRead ks (take (s .nodes) (new .parameters)) (s .states + s .flows))
-      → (place ≡ r .next) × (new .sorts ≡ over (sortsOf (r .variables)) (old .sorts)) × (new .variables ≡ over (variableRows (r .variables)) (old .variables))
+      → (place ≡ r .next) × (new .variables ≡ over (variableRows (r .variables)) (old .variables))
   pub nexts : new .nexts ≡ filled ks (take (s .nodes) (new .parameters)) (length ks) (old .nexts)
   pub long : s .nodes ≤ length (old .nexts)
   pub guards : (ts : List Transition) (rest : List ℕ) → length ts ≡ s .transitions → drop place (new .nexts) ≡ nextsOfTransitions ts place ++ rest
@@ -130,25 +140,22 @@ module _ (m : List ℕ) (s : Sizes) (ks : List ℕ) (old new : Arrays) (place as
   pub steps-decoded : (assertion ≡ assertionPlace t) × (new ≡ decodedOver m s t old)
   unfolding decodedOver
   steps-decoded =
-      let d = h .declarations (variables-read m s ks (take (s .nodes) (new .parameters)) (h .kinds) front t v) in
+      let read = variables-read m s ks (take (s .nodes) (new .parameters)) (h .kinds) front t v in
+      let d = h .declarations read in
       let g = subst (λ place. (ts : List Transition) (rest : List ℕ) → length ts ≡ s .transitions → drop place (new .nexts) ≡ nextsOfTransitions ts place ++ rest
       → (assertion ≡ place + sizeOfTransitions ts) × (new .guards ≡ over (guardPlaces ts place) (old .guards))) (d .0) (h .guards)
       (t .transitions) others (file .system .numberOfTransitions) entries in (
         g .0,
         arrays-same (h .parameters ∙ ap (λ n. fileParameters ++ drop n (old .parameters)) (sym (parameters-length m (s .nodes) (6 + s .nodes))))
-            (d .1) (d .2) table (g .1),
+            (h .sorts _ read) (d .1) table (g .1),
       )
 
 -- ---- the whole
 
 module _ (m : List ℕ) (old : Arrays) where
   pub refused-prepared : (n : ℕ) → answerOf (verdict m) ≡ checked.Refused n → answered (Refused n) old ≡ preparedBy m old (verdict m)
-  unfolding answerOf preparedBy
-  refused-prepared n e = go (verdict m) e
-    where
-      go : (v : Verdict) → answerOf v ≡ checked.Refused n → answered (Refused n) old ≡ preparedBy m old v
-      go (refusal k) e = let z : n ≡ k = cc in ap (λ n. answered (Refused n) old) z
-      go (accepted s t) e = let z : _≡_ {A = ℕ} 0 1 = cc in absurd (omega arith)
+  unfolding preparedBy
+  refused-prepared n e = ap (preparedBy m old) (sym (answer-refused n (verdict m) e))
 
   pub ready-prepared : (s : Sizes) (new : Arrays) (assertion : ℕ) → answerOf (verdict m) ≡ checked.Accepted s
       → ((t : System) → verdict m ≡ accepted s t → (assertion ≡ assertionPlace t) × (new ≡ decodedOver m s t old))

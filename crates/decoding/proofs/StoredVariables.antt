@@ -1,7 +1,7 @@
--- The loop of the decoding that stores the variables, by what is left to store.
+-- The loops of the decoding that store something of each variable, its sort or its row, by what is left to store.
 use mathlib.Core.Path.{_≡_, refl, sym, ap, _∙_, subst}
 use mathlib.Core.Bool.{Bool, true, false, cond}
-use mathlib.Core.List.{List, [], _∷_, _++_}
+use mathlib.Core.List.{List, [], _∷_, _++_, map}
 use Prim.Native.Nat.{ℕ, zero, suc, _+_, _-_, _≤_, _<_}
 use native.Mathlib.Numerals.{add-one}
 use native.Mathlib.Nat.{zero-add}
@@ -13,11 +13,11 @@ use lib.ListN.{length, getD, set, drop, length-set, length-map}
 use lib.Seq.{sets, sets-eq}
 use Rattle.results.specs.Results.{over}
 use Rattle.syntax.specs.Readings.{variableRefusal, endRefusal}
-use Rattle.model.specs.Trees.{Variable, sortsOf}
+use Rattle.model.specs.Trees.{Variable}
 use Rattle.model.specs.Walk.{Walk, andThen, rowAt, rangeAt, variableAt}
 use Rattle.model.specs.Walk.Walk.{refused, found}
 use Rattle.model.proofs.WalkClaims.{Holds, holds-found, holds-unless, no-refusal}
-use Rattle.variables.specs.Rows.{variableRow, variableRows}
+use Rattle.variables.specs.Rows.{variableRow}
 use Rattle.decoding.specs.Decoding.{VariablesRead}
 
 -- ---- rows of anything
@@ -104,67 +104,50 @@ module _ (ks : List ℕ) (ps : List ℤ) where
 pub sets-over : {A : Type 0} (new old : List A) → length new ≤ length old → sets old 0 new ≡ over new old
 sets-over new old h = sets-eq new old 0 (omega arith) ∙ ap (λ n. new ++ drop n old) (zero-add (length new))
 
--- the sorts and the rows
-pub record Cells : Type 0 where
-  pub sorts : List ℕ
-  pub rows : List (List ℤ)
-
-abbrev pub cells : List ℕ → List (List ℤ) → Cells
-cells sorts rows = record { sorts = sorts; rows = rows }
-
--- these variables, stored from place i on
-abbrev stored : Cells → ℕ → List Variable → Cells
-stored c i vs = cells (sets (c .sorts) i (sortsOf vs)) (sets (c .rows) i (variableRows vs))
-
--- the cells after one variable more
-abbrev storedOne : Cells → ℕ → Variable → Cells
-storedOne c i v = cells (set (c .sorts) i (v .sort)) (set (c .rows) i (variableRow v))
-
-record VariablesLeft (ks : List ℕ) (ps : List ℤ) (n at i : ℕ) (now then : Cells) (vs : List Variable) (next : ℕ) : Type 0 where
+record VariablesLeft {A : Type 0} (f : Variable → A) (ks : List ℕ) (ps : List ℤ) (n at i : ℕ) (now then : List A) (vs : List Variable) (next : ℕ) : Type 0 where
   rest : List Variable
   row : rowAt (variableAt ks ps) n at ≡ found rest next
-  same : stored now i rest ≡ stored then 0 vs
+  same : sets now i (map f rest) ≡ sets then 0 (map f vs)
 
-pub record VariablesStored (ks : List ℕ) (ps : List ℤ) (count i at : ℕ) (now then : Cells) : Type 0 where
+-- what f tells of each variable before number i is stored
+pub record VariablesStored {A : Type 0} (f : Variable → A) (ks : List ℕ) (ps : List ℤ) (count i at : ℕ) (now then : List A) : Type 0 where
   pub bound : i ≤ count
-  pub sorts : length (now .sorts) ≡ length (then .sorts)
-  pub rows : length (now .rows) ≡ length (then .rows)
-  left : (r : VariablesRead ks ps count) → VariablesLeft ks ps (count - i) at i now then (r .variables) (r .next)
+  pub long : length now ≡ length then
+  left : (r : VariablesRead ks ps count) → VariablesLeft f ks ps (count - i) at i now then (r .variables) (r .next)
 
-module _ (ks : List ℕ) (ps : List ℤ) (count : ℕ) where
-  pub variables-begin : (c : Cells) → VariablesStored ks ps count 0 0 c c
-  variables-begin c =
+module _ {A : Type 0} (f : Variable → A) (ks : List ℕ) (ps : List ℤ) (count : ℕ) where
+  pub variables-begin : (cells : List A) → VariablesStored f ks ps count 0 0 cells cells
+  variables-begin cells =
       let e : count ≡ count - 0 = omega arith in
       record {
         bound = omega arith;
-        sorts = refl;
-        rows = refl;
+        long = refl;
         left = λ r. record { rest = r .variables; row = subst (λ n. rowAt (variableAt ks ps) n 0 ≡ found (r .variables) (r .next)) e (r .row); same = refl };
       }
 
   -- the variable that is left first is the one that was read
-  left-turn : (n at i : ℕ) (now then : Cells) (vs : List Variable) (next : ℕ) (v : Variable) (second : ℕ) → variableAt ks ps at ≡ found v second
-      → VariablesLeft ks ps (suc n) at i now then vs next → VariablesLeft ks ps n second (i + 1) (storedOne now i v) then vs next
-  left-turn n at i now then vs next v second f l =
+  left-turn : (n at i : ℕ) (now then : List A) (vs : List Variable) (next : ℕ) (v : Variable) (second : ℕ) → variableAt ks ps at ≡ found v second
+      → VariablesLeft f ks ps (suc n) at i now then vs next → VariablesLeft f ks ps n second (i + 1) (set now i (f v)) then vs next
+  left-turn n at i now then vs next v second h l =
       let r = row-step (variableAt ks ps) n at (l .rest) next (l .row) in
-      let p : r .first ≡ v = cc (f, r .read) in
-      let q : r .second ≡ second = cc (f, r .read) in
+      let p : r .first ≡ v = cc (h, r .read) in
+      let q : r .second ≡ second = cc (h, r .read) in
       record {
         rest = r .rest;
         row = ap (rowAt (variableAt ks ps) n) (sym q) ∙ r .row;
         same =
-            ap (λ k. stored (storedOne now i v) k (r .rest)) (add-one i)
-            ∙ ap (λ v. stored now i (v ∷ r .rest)) (sym p)
-            ∙ ap (stored now i) (sym (r .parts))
+            ap (λ k. sets (set now i (f v)) k (map f (r .rest))) (add-one i)
+            ∙ ap (λ v. sets now i (map f (v ∷ r .rest))) (sym p)
+            ∙ ap (λ vs. sets now i (map f vs)) (sym (r .parts))
             ∙ l .same;
       }
 
-  module _ (i at : ℕ) (now then : Cells) (s : VariablesStored ks ps count i at now then) (l : i < count) where
+  module _ (i at : ℕ) (now then : List A) (s : VariablesStored f ks ps count i at now then) (l : i < count) where
     more : count - i ≡ suc (count - (i + 1))
     more = omega arith
 
-    left-now : (r : VariablesRead ks ps count) → VariablesLeft ks ps (suc (count - (i + 1))) at i now then (r .variables) (r .next)
-    left-now r = subst (λ n. VariablesLeft ks ps n at i now then (r .variables) (r .next)) more (s .left r)
+    left-now : (r : VariablesRead ks ps count) → VariablesLeft f ks ps (suc (count - (i + 1))) at i now then (r .variables) (r .next)
+    left-now r = subst (λ n. VariablesLeft f ks ps n at i now then (r .variables) (r .next)) more (s .left r)
 
     first-left : (r : VariablesRead ks ps count) → RowStep (variableAt ks ps) (count - (i + 1)) at (left-now r .rest) (r .next)
     first-left r = row-step (variableAt ks ps) (count - (i + 1)) at (left-now r .rest) (r .next) (left-now r .row)
@@ -180,43 +163,47 @@ module _ (ks : List ℕ) (ps : List ℤ) (count : ℕ) where
     nodes-within r k = first-read r .number k .0
 
     turn : (v : Variable) (second : ℕ) → ((r : VariablesRead ks ps count) → variableAt ks ps at ≡ found v second)
-        → VariablesStored ks ps count (i + 1) second (storedOne now i v) then
-    turn v second f =
+        → VariablesStored f ks ps count (i + 1) second (set now i (f v)) then
+    turn v second h =
         record {
           bound = omega arith;
-          sorts = length-set (now .sorts) i (v .sort) ∙ s .sorts;
-          rows = length-set (now .rows) i (variableRow v) ∙ s .rows;
-          left = λ r. left-turn (count - (i + 1)) at i now then (r .variables) (r .next) v second (f r) (left-now r);
+          long = length-set now i (f v) ∙ s .long;
+          left = λ r. left-turn (count - (i + 1)) at i now then (r .variables) (r .next) v second (h r) (left-now r);
         }
 
-    pub boolean-turn : (p : ℤ) → p ≡ getD ps at (pos 0) → getD ks at 0 ≡ 1
-        → VariablesStored ks ps count (i + 1) (at + 1) (cells (set (now .sorts) i 1) (set (now .rows) i (pos 0 ∷ pos 1 ∷ p ∷ []))) then
-    boolean-turn p e k = rw e (turn (booleanAt ks ps at) (at + 1) (λ r. first-left r .read ∙ first-read r .boolean k))
+    pub boolean-turn : getD ks at 0 ≡ 1 → VariablesStored f ks ps count (i + 1) (at + 1) (set now i (f (booleanAt ks ps at))) then
+    boolean-turn k = turn (booleanAt ks ps at) (at + 1) (λ r. first-left r .read ∙ first-read r .boolean k)
 
-    pub number-turn : (low high first : ℤ) → low ≡ getD ps at (pos 0) → high ≡ getD ps (at + 1) (pos 0) → first ≡ getD ps (at + 2) (pos 0)
-        → (getD ks at 0 ≡ 1 → ⊥)
-        → VariablesStored ks ps count (i + 1) (at + 3) (cells (set (now .sorts) i 2) (set (now .rows) i (low ∷ high ∷ first ∷ []))) then
-    number-turn low high first a b c k = rw (a, b, c) (turn (numberAt ks ps at) (at + 3) (λ r. first-left r .read ∙ first-read r .number k .1))
+    pub number-turn : (getD ks at 0 ≡ 1 → ⊥) → VariablesStored f ks ps count (i + 1) (at + 3) (set now i (f (numberAt ks ps at))) then
+    number-turn k = turn (numberAt ks ps at) (at + 3) (λ r. first-left r .read ∙ first-read r .number k .1)
 
   -- the same, by other names
-  pub stored-same : {i at at′ : ℕ} {sorts sorts′ : List ℕ} {rows rows′ : List (List ℤ)} {then : Cells} → sorts′ ≡ sorts → rows′ ≡ rows → at′ ≡ at
-      → VariablesStored ks ps count i at (cells sorts rows) then → VariablesStored ks ps count i at′ (cells sorts′ rows′) then
-  stored-same a b c s = rw (a, b, c) s
+  pub stored-same : {i at at′ : ℕ} {now now′ then : List A} → now′ ≡ now → at′ ≡ at
+      → VariablesStored f ks ps count i at now then → VariablesStored f ks ps count i at′ now′ then
+  stored-same a b s = rw (a, b) s
 
   -- what the loop has stored at its end
-  pub variables-end : (i at : ℕ) (now then : Cells) → VariablesStored ks ps count i at now then → count ≤ i
-      → count ≤ length (then .sorts) → count ≤ length (then .rows) → (r : VariablesRead ks ps count)
-      → (at ≡ r .next) × (now .sorts ≡ over (sortsOf (r .variables)) (then .sorts)) × (now .rows ≡ over (variableRows (r .variables)) (then .rows))
+  pub variables-end : (i at : ℕ) (now then : List A) → VariablesStored f ks ps count i at now then → count ≤ i → count ≤ length then
+      → (r : VariablesRead ks ps count) → (at ≡ r .next) × (now ≡ over (map f (r .variables)) then)
   unfolding rowAt
-  variables-end i at now then s h a b r =
+  variables-end i at now then s h a r =
       let l = s .left r in
       let none : count - i ≡ 0 = omega arith in
-      let f : found [] at ≡ found (l .rest) (r .next) = subst (λ n. rowAt (variableAt ks ps) n at ≡ found (l .rest) (r .next)) none (l .row) in
+      let e : found [] at ≡ found (l .rest) (r .next) = subst (λ n. rowAt (variableAt ks ps) n at ≡ found (l .rest) (r .next)) none (l .row) in
       let p : [] ≡ l .rest = cc in
       let q : at ≡ r .next = cc in
-      let e : now ≡ stored then 0 (r .variables) = ap (stored now i) p ∙ l .same in
       let n = row-length (variableAt ks ps) count 0 (r .variables) (r .next) (r .row) in (
         q,
-        ap (λ c. c .sorts) e ∙ sets-over (sortsOf (r .variables)) (then .sorts) (omega (arith, n, length-map (r .variables) (λ v. v .sort))),
-        ap (λ c. c .rows) e ∙ sets-over (variableRows (r .variables)) (then .rows) (omega (arith, n, length-map (r .variables) variableRow)),
+        ap (λ vs. sets now i (map f vs)) p ∙ l .same ∙ sets-over (map f (r .variables)) then (omega (arith, n, length-map (r .variables) f)),
       )
+
+-- ---- a turn that stores a row, by what was read of it
+
+module _ (ks : List ℕ) (ps : List ℤ) (count i at : ℕ) (now then : List (List ℤ)) (s : VariablesStored variableRow ks ps count i at now then) (l : i < count) where
+  pub boolean-row : (first : ℤ) → first ≡ getD ps at (pos 0) → getD ks at 0 ≡ 1
+      → VariablesStored variableRow ks ps count (i + 1) (at + 1) (set now i (pos 0 ∷ pos 1 ∷ first ∷ [])) then
+  boolean-row first e k = rw e (boolean-turn variableRow ks ps count i at now then s l k)
+
+  pub number-row : (low high first : ℤ) → low ≡ getD ps at (pos 0) → high ≡ getD ps (at + 1) (pos 0) → first ≡ getD ps (at + 2) (pos 0)
+      → (getD ks at 0 ≡ 1 → ⊥) → VariablesStored variableRow ks ps count (i + 1) (at + 3) (set now i (low ∷ high ∷ first ∷ [])) then
+  number-row low high first a b c k = rw (a, b, c) (number-turn variableRow ks ps count i at now then s l k)

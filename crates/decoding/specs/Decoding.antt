@@ -8,6 +8,8 @@ use lib.IntN.{ℤ}
 use Rattle.results.specs.Results.{Answered, answered, over}
 use Rattle.kinds.specs.Kinds.{booleanSort}
 use Rattle.model.specs.declared.Sizes.{Sizes}
+use Rattle.model.specs.declared.Checked.{Checked}
+use Rattle.model.specs.declared.Checked.the-variants as checked
 use Rattle.model.specs.declared.Model.{Model}
 use Rattle.model.specs.Trees.{Expression, Instruction, Instructions, Variable, Transition, System, variables, sortsOf}
 use Rattle.model.specs.Trees.Expression.{numeral, truth, variable, negation, binary, ifThenElse}
@@ -131,3 +133,8 @@ unfoldable pub preparedBy : List ℕ → Arrays → Verdict → Answered Prepare
 preparedBy m old (refusal n) = answered (Refused n) old
 preparedBy m old (accepted s t) =
     answered (Ready (record { sizes = s; assertion = assertionPlace t })) (decodedOver m s t old)
+
+-- the check's answer, and the sorts of an accepted model's variables at the beginning of the cells lent for them
+unfoldable pub sortsAfter : Verdict → List ℕ → Answered Checked (List ℕ)
+sortsAfter (refusal n) old = answered (checked.Refused n) old
+sortsAfter (accepted s t) old = answered (checked.Accepted s) (over (sortsOf (variables t)) old)

@@ -3,6 +3,7 @@
 ghost use mathlib.Core.Path.{_≡_};
 ghost use mathlib.Core.List.{List, _++_};
 ghost use Prim.Native.Nat.{ℕ, _+_, _<_, _≤_};
+ghost use lib.IntN.{ℤ};
 ghost use lib.ListN.{length, drop};
 ghost use Rattle.results.specs.Results.{answered, over};
 ghost use Rattle.kinds.specs.Kinds.{table};
@@ -14,7 +15,7 @@ ghost use Rattle.model.specs.Check.Verdict.{accepted};
 ghost use Rattle.model.specs.Standing.{sizeOfTransitions};
 ghost use Rattle.variables.specs.Rows.{variableRows};
 ghost use Rattle.decoding.specs.NextPlaces.{childrenBy, following, filled};
-ghost use Rattle.decoding.specs.Decoding.{VariablesRead, arrays, assertionPlace, decodedOver, guardPlaces, nextsOfTransitions, preparedBy};
+ghost use Rattle.decoding.specs.Decoding.{VariablesRead, arrays, assertionPlace, decodedOver, guardPlaces, nextsOfTransitions, preparedBy, sortsAfter};
 ghost use Rattle.decoding.specs.Outside.{givenAfter};
 use model::Checked;
 use model::Given;
@@ -36,33 +37,48 @@ pub enum Prepared {
     Ready(Model),
 }
 
-// So many variables from the first node on: their sorts and rows, and the place after them. A Boolean is one node; a number
-// three: its low end, its high end and its first value.
+// The sorts of so many variables from the first node on. A Boolean is one node, a number three.
+fn read_sorts(kinds: &[u8], count: usize, sorts: &mut [u8])
+    requires { ⌜ ((ps : List ℤ) × VariablesRead (now kinds) ps count) × (count ≤ length (now sorts)) ⌝ }
+    ensures { λ _. ⌜ ((ps : List ℤ) (read : VariablesRead (now (kinds .entry)) ps count) →
+        now (sorts .exit) ≡ over (sortsOf (read .variables)) (now (sorts .entry))) ⌝ }
+{
+    let mut i = 0;
+    let mut at = 0;
+    while i < count {
+        if kinds[at] == BOOLEAN_VARIABLE {
+            sorts[i] = kinds::BOOLEAN;
+            at += 1;
+        } else {
+            sorts[i] = kinds::NUMBER;
+            at += 3;
+        }
+        i += 1;
+    }
+}
+
+// So many variables from the first node on: their rows, and the place after them. The three nodes of a number are its low
+// end, its high end and its first value.
 fn read_variables(
     kinds: &[u8],
     parameters: &[i32],
     count: usize,
-    sorts: &mut [u8],
     variables: &mut [[i32; 3]],
 ) -> usize
-    requires { ⌜ (length (now parameters) ≡ length (now kinds)) × VariablesRead (now kinds) (now parameters) count × (count ≤ length (now sorts)) × (count ≤ length (now variables)) ⌝ }
+    requires { ⌜ (length (now parameters) ≡ length (now kinds)) × VariablesRead (now kinds) (now parameters) count × (count ≤ length (now variables)) ⌝ }
     ensures { λ r. ⌜ ((read : VariablesRead (now (kinds .entry)) (now (parameters .entry)) count) →
-        (r ≡ read .next)
-        × (now (sorts .exit) ≡ over (sortsOf (read .variables)) (now (sorts .entry)))
-        × (now (variables .exit) ≡ over (variableRows (read .variables)) (now (variables .entry)))) ⌝ }
+        (r ≡ read .next) × (now (variables .exit) ≡ over (variableRows (read .variables)) (now (variables .entry)))) ⌝ }
 {
     let mut i = 0;
     let mut at = 0;
     while i < count {
         let parameter = parameters[at];
         if kinds[at] == BOOLEAN_VARIABLE {
-            sorts[i] = kinds::BOOLEAN;
             variables[i] = [0, 1, parameter];
             at += 1;
         } else {
             let high = parameters[at + 1];
             let first = parameters[at + 2];
-            sorts[i] = kinds::NUMBER;
             variables[i] = [parameter, high, first];
             at += 3;
         }
@@ -156,9 +172,10 @@ fn decode(
     header::parameters_in(model, Model::HEADER + nodes, nodes, parameters);
     let kinds = kinds_of(model, nodes);
     let count = sizes.states + sizes.flows;
+    read_sorts(kinds, count, sorts);
     let lent = &parameters[..];
     let decoded = &lent[..nodes];
-    let transitions = read_variables(kinds, decoded, count, sorts, variables);
+    let transitions = read_variables(kinds, decoded, count, variables);
     next_places(kinds, decoded, nexts);
     guard_places(nexts, sizes.transitions, transitions, guards)
 }
@@ -203,26 +220,28 @@ pub fn kinds_of(model: &[u8], nodes: usize) -> &[u8]
     &model[Model::HEADER..past]
 }
 
+// The check of a model file, and the sorts of an accepted one's variables, which depend on its kinds alone.
+pub fn sorts_of(model: &[u8], sorts: &mut [u8; Model::MAX_VARIABLES]) -> Checked
+    ensures { λ r. ⌜ answered r (now (sorts .exit)) ≡ sortsAfter (verdict (now (model .entry))) (now (sorts .entry)) ⌝ }
+{
+    match check::check(model) {
+        Checked::Refused(number) => Checked::Refused(number),
+        Checked::Accepted(sizes) => {
+            let kinds = kinds_of(model, sizes.nodes);
+            read_sorts(kinds, sizes.states + sizes.flows, sorts);
+            Checked::Accepted(sizes)
+        }
+    }
+}
+
 // The check of an expression handed outside a model: the model's refusal, or the expression's over the model's variables.
 pub fn check_expression(model: &[u8], kinds: &[u8], parameters: &[i32], wanted: Sort) -> Given
     ensures { λ r. ⌜ r ≡ givenAfter (verdict (now (model .entry))) (now (kinds .entry)) (now (parameters .entry)) (sortOf wanted) ⌝ }
 {
-    let mut decoded = [0i32; Model::MAX_NODES];
     let mut sorts = [0u8; Model::MAX_VARIABLES];
-    let mut variables = [[0i32; 3]; Model::MAX_VARIABLES];
-    let mut nexts = [0u16; Model::MAX_NODES];
-    let mut guards = [0u16; Model::MAX_TRANSITIONS];
-    match prepare(
-        model,
-        &mut decoded,
-        &mut sorts,
-        &mut variables,
-        &mut nexts,
-        &mut guards,
-    ) {
-        Prepared::Refused(number) => Given::Refused(number),
-        Prepared::Ready(prepared) => {
-            let sizes = prepared.sizes;
+    match sorts_of(model, &mut sorts) {
+        Checked::Refused(number) => Given::Refused(number),
+        Checked::Accepted(sizes) => {
             let count = sizes.states + sizes.flows;
             check::check_over_sorts(kinds, parameters, &sorts[..count], wanted)
         }

@@ -26,7 +26,7 @@ pub const INSTRUCTION: u8 = 5;
 
 pub const EXPRESSION: u8 = 6;
 
-// What an expression yields; NO_SORT where the kind alone does not tell.
+// What an expression yields; NO_SORT where the kind alone does not tell, and where types do not fit.
 pub const NO_SORT: u8 = 0;
 
 pub const BOOLEAN: u8 = 1;

@@ -8,7 +8,7 @@ use native.Mathlib.Omega.{arith}
 use borrow.Author.Tests.{ltb-true, ltb-false, lt-ltb, le-ltb, le-leb}
 use lib.Dec.{ltb}
 use lib.ListN.{length, getD, length-append}
-use Rattle.commands.specs.Commands.{isDigit, areDigits, valueAfter}
+use Rattle.ascii.specs.Ascii.{isDigit, areDigits, valueAfter}
 use Rattle.lines.specs.Lines.{digit, digits, decimal}
 use Rattle.lines.specs.Theorems.{IsDecimal, DecimalRight}
 

@@ -9,7 +9,7 @@ use lib.IntN.{ℤ, pos, negsuc}
 use lib.ListN.{length}
 use lib.Seq.{sets}
 use Rattle.results.specs.Results.{Answered, answered, over}
-use Rattle.commands.specs.Commands.{spaceByte, firstDigit}
+use Rattle.ascii.specs.Ascii.{spaceByte, firstDigit}
 use Rattle.lines.specs.declared.Written.{Written}
 use Rattle.lines.specs.declared.Written.the-variants.{Length, TooShort}
 

@@ -7,7 +7,7 @@ use lib.IntN.{ℤ, pos}
 use lib.ListN.{length, getD}
 use Rattle.evaluation.specs.Numbers.{representable}
 use Rattle.model.specs.Theorems.{Bytes}
-use Rattle.commands.specs.Commands.{firstDigit, areDigits, valueOf}
+use Rattle.ascii.specs.Ascii.{firstDigit, areDigits, valueOf}
 use Rattle.lines.specs.Lines.{decimal, okText, backText, marksText, refusalText, room, valueWidth, markWidth}
 
 -- `decimal` is right: digits that read as the number, as a command's number is read, with no zero in front but for 0 itself

@@ -6,7 +6,7 @@ ghost use Prim.Native.Nat.{_+_, _*_, _≤_, _<_};
 ghost use lib.Dec.{ltb};
 ghost use lib.IntN.{natAbs};
 ghost use lib.ListN.{length, set};
-ghost use Rattle.commands.specs.Commands.{spaceByte};
+ghost use Rattle.ascii.specs.Ascii.{spaceByte};
 ghost use Rattle.lines.specs.Lines.{feedByte, decimal, signedDecimal, spaced, okText, backText, marksText, refusalText};
 ghost use Rattle.lines.specs.Lines.{room, valueWidth, markWidth, writtenInto, lineInto, Put};
 

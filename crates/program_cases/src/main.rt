@@ -1,26 +1,14 @@
 // Runs the stored programs of data/cases through the functions that gtsrun uses, and compares what they print with what is stored.
 //
 // A case is the lengths of a model file, of an input and of an output (four bytes each, low byte first), and these three.
-ghost use Prim.Native.Nat.{_+_, _*_, _≤_, _<_};
-ghost use lib.ListN.{length};
+ghost use Prim.Native.Nat.{_≤_, _<_};
+use cases::Outcome;
+use cases::Tally;
 use dialogue::Dimensions;
 use dialogue::Line;
 use dialogue::Program;
 use dialogue::exchange;
-use libc::STDOUT_FILENO;
 use model::Model;
-
-// How many programs were run, and how many differed.
-struct Tally {
-    programs: u64,
-    differing: u64,
-}
-
-// What a case comes to: the end of the file, or whether it printed what is stored.
-enum Compared {
-    End,
-    Equal(bool),
-}
 
 // How many bytes of the wanted output have been printed, and whether no other was.
 struct Output {
@@ -37,36 +25,6 @@ struct Progress {
 // Bytes of a part of the input: few, so that lines go across parts.
 const PART: usize = 7;
 
-fn wide(byte: u8) -> usize
-    ensures { λ r. ⌜ r < 256 ⌝ }
-{
-    byte as usize
-}
-
-// The number in four bytes of a header.
-fn four(head: &[u8; 12], at: usize) -> usize
-    requires { ⌜ at < 9 ⌝ }
-    ensures { λ r. ⌜ r < 4294967296 ⌝ }
-{
-    let low = wide(head[at]) + 256 * wide(head[at + 1]);
-    let high = wide(head[at + 2]) + 256 * wide(head[at + 3]);
-    low + 65536 * high
-}
-
-// Are these the first bytes of b?
-fn is_same_bytes(b: &[u8], bytes: &[u8]) -> bool
-    requires { ⌜ length (now bytes) ≤ length (now b) ⌝ }
-{
-    let mut i = 0;
-    while i < bytes.len() {
-        if b[i] != bytes[i] {
-            return false;
-        }
-        i += 1;
-    }
-    true
-}
-
 // The output with these bytes after it.
 fn extended(before: Output, wanted: &[u8], bytes: &[u8]) -> Output {
     let at = before.at;
@@ -77,7 +35,7 @@ fn extended(before: Output, wanted: &[u8], bytes: &[u8]) -> Output {
         return Output { at, is_same: false };
     }
     let past = at + bytes.len();
-    if is_same_bytes(&wanted[at..past], bytes) {
+    if cases::is_same_bytes(bytes, &wanted[at..past], 0) {
         Output {
             at: past,
             is_same: before.is_same,
@@ -256,73 +214,42 @@ fn keep(model: &[u8], file: &mut [u8; Program::FILE_BYTES]) -> usize {
 }
 
 // Reads a case and runs it.
-fn next_case(fd: i32, body: &mut [u8], file: &mut [u8; Program::FILE_BYTES]) -> Compared {
+fn next_case(fd: i32, body: &mut [u8], file: &mut [u8; Program::FILE_BYTES]) -> Outcome {
     let mut head = [0u8; 12];
-    let read = io::read_full(fd, &mut head);
-    if read < 12 {
-        return Compared::End;
+    if !cases::is_read(fd, &mut head, 12) {
+        return Outcome::End;
     }
-    let first = four(&head, 0);
-    let second = first + four(&head, 4);
-    let third = second + four(&head, 8);
+    let first = cases::four(&head, 0);
+    let second = first + cases::four(&head, 4);
+    let third = second + cases::four(&head, 8);
     if body.len() < third {
-        return Compared::End;
+        return Outcome::End;
     }
-    let filled = io::read_full(fd, &mut body[0..third]);
-    if filled < third {
-        return Compared::End;
+    if !cases::is_read(fd, body, third) {
+        return Outcome::End;
     }
     let bytes = keep(&body[0..first], file);
-    Compared::Equal(is_equal(file, bytes, &body[first..second], &body[second..third]))
-}
-
-// The tally with one program more; one that differs is told.
-fn counted(tally: Tally, is_same: bool) -> Tally {
-    let programs = std::num::wrapping_add_u64(tally.programs, 1);
-    if is_same {
-        return Tally {
-            programs,
-            differing: tally.differing,
-        };
-    }
-    io::write_all(STDOUT_FILENO, b"program ");
-    io::print_decimal(STDOUT_FILENO, programs);
-    io::write_all(STDOUT_FILENO, b" differs\n");
-    Tally {
-        programs,
-        differing: std::num::wrapping_add_u64(tally.differing, 1),
-    }
+    Outcome::Equal(is_equal(file, bytes, &body[first..second], &body[second..third]))
 }
 
 // All cases of the file. The turns fall, so the loop ends whatever the file holds.
-fn all_cases(fd: i32, body: &mut [u8], file: &mut [u8; Program::FILE_BYTES]) -> Tally {
-    let mut tally = Tally {
-        programs: 0,
-        differing: 0,
-    };
+fn run(fd: i32, body: &mut [u8], file: &mut [u8; Program::FILE_BYTES]) -> Tally {
+    let mut tally = Tally::empty();
     let mut turns: u64 = 1000000;
     while 0 < turns {
         turns -= 1;
         match next_case(fd, body, file) {
-            Compared::End => return tally,
-            Compared::Equal(is_same) => tally = counted(tally, is_same),
+            Outcome::End => return tally,
+            Outcome::Equal(is_same) => tally = cases::counted(tally, is_same),
         }
     }
     tally
 }
 
 fn main() {
-    let fd = os::open_read(b"cases");
-    if fd < 0 {
-        os::fail(b"cases");
-        return;
-    }
+    let fd = cases::open();
     let mut body = [0u8; 32768];
     let mut file = [0u8; Program::FILE_BYTES];
-    let tally = all_cases(fd, &mut body, &mut file);
+    cases::print(run(fd, &mut body, &mut file), b"programs");
     libc::close(fd);
-    io::print_decimal(STDOUT_FILENO, tally.programs);
-    io::write_all(STDOUT_FILENO, b" programs, ");
-    io::print_decimal(STDOUT_FILENO, tally.differing);
-    io::write_all(STDOUT_FILENO, b" differ\n");
 }

@@ -11,6 +11,9 @@ Inv-loop fd buffer₀ tally₀ turns₀ buffer tally turns = length buffer ≡ l
 abbrev μ-loop : tie.MeasureT-loop
 μ-loop fd buffer₀ tally₀ turns₀ buffer tally turns = turns
 
+empty-requires : tie.Need-empty-requires Inv-loop μ-loop
+empty-requires c κs = search needs
+
 loop-holds : tie.Need-loop-holds Inv-loop μ-loop
 loop-holds c = search needs
 
@@ -29,8 +32,8 @@ same-length c = search needs
 returns : tie.Need-returns Inv-loop μ-loop
 returns c = search needs
 
-enum-known-answer : tie.Need-enum-known-answer Inv-loop μ-loop
-enum-known-answer c = search needs
+enum-known-is-same : tie.Need-enum-known-is-same Inv-loop μ-loop
+enum-known-is-same c = search needs
 
 counted-requires : tie.Need-counted-requires Inv-loop μ-loop
 counted-requires c κs = search needs
@@ -53,13 +56,14 @@ run-spec =
     (tie.spec
     Inv-loop
     μ-loop
+    empty-requires
     loop-holds
     sub-turns
     next-case-requires
     enum-told
     same-length
     returns
-    enum-known-answer
+    enum-known-is-same
     counted-requires
     loop-less
     loop-again

@@ -5,7 +5,8 @@ use Prim.Native.Nat.{_-_, _^_, _≤_, _<_}
 use native.Mathlib.Numerals.{add-one}
 use native.Mathlib.Omega.{arith}
 use lib.ListN.{length, drop}
-use Rattle.commands.proofs.Commands.{numberAfter, below-digits, above-digits, next-digit, no-more-digits, few-digits}
+use Rattle.ascii.proofs.Digits.{below-digits, above-digits}
+use Rattle.commands.proofs.Commands.{numberAfter, other-byte, digit-read, digits-end, few-digits}
 use Rattle.commands.proofs.fire_of.Statement.{statement}
 use Rattle.commands.proofs.fire_of.Tie as tie
 
@@ -25,14 +26,15 @@ shared-slice-read-b c = omega arith
 returns : tie.Need-returns Inv-loop μ-loop
 returns c =
     let s = c .before .before .before in
-    below-digits (s .before .args .digits .now) (s .loop .value) (s .loop .i) (c .before .before .loop-test .taken) (c .if1 .taken)
+    let digits = s .before .args .digits .now in
+    other-byte digits (s .loop .value) (s .loop .i) (below-digits digits (s .loop .i) (c .before .before .loop-test .taken) (c .if1 .taken))
     ∙ sym (s .loop .inv .2)
 
 returns-2 : tie.Need-returns-2 Inv-loop μ-loop
 returns-2 c =
     let s = c .before .before .before .before in
-    above-digits (s .before .args .digits .now) (s .loop .value) (s .loop .i) (c .before .before .before .loop-test .taken)
-    (c .if2 .taken)
+    let digits = s .before .args .digits .now in
+    other-byte digits (s .loop .value) (s .loop .i) (above-digits digits (s .loop .i) (c .before .before .before .loop-test .taken) (c .if2 .taken))
     ∙ sym (s .loop .inv .2)
 
 small : (c : tie.Else2 Inv-loop μ-loop) → c .before .before .before .before .loop .value < 1000
@@ -61,13 +63,13 @@ loop-again c =
       omega arith,
       rw (add-one (s .loop .i)) (omega (arith, s .loop .inv .1, c .if2 .left)),
       s .loop .inv .2
-          ∙ next-digit (s .before .args .digits .now) (s .loop .value) (s .loop .i) (c .before .before .before .loop-test .taken)
+          ∙ digit-read (s .before .args .digits .now) (s .loop .value) (s .loop .i) (c .before .before .before .loop-test .taken)
           (c .before .if1 .left) (c .if2 .left),
     )
 
 returns-3 : tie.Need-returns-3 Inv-loop μ-loop
 returns-3 c =
-    no-more-digits (c .before .before .args .digits .now) (c .before .loop .value) (c .before .loop .i) (c .loop-test .left)
+    digits-end (c .before .before .args .digits .now) (c .before .loop .value) (c .before .loop .i) (c .loop-test .left)
     ∙ sym (c .before .loop .inv .2)
 
 pub fire-of-spec : {M : Type 1} → statement M

@@ -1,0 +1,3 @@
+-- Proofs of crate `ascii`.
+pub mod Digits
+pub mod Sameness

@@ -1,0 +1,4 @@
+-- Proofs of crate `cases`.
+pub mod Beside
+pub mod Counting
+pub mod Loading
