@@ -29,9 +29,9 @@ extern "C" {
 #endif
 
 /* The version of this header: the first number rises when a caller must change, the second when a call is added or
- * promises more. 1.1: gts_pick answers the lowest. 1.2: gts_text. */
+ * promises more. 1.1: gts_pick answers the lowest. 1.2: gts_text. 1.3: gts_first_outside. */
 #define GTS_VERSION_MAJOR 1
-#define GTS_VERSION_MINOR 2
+#define GTS_VERSION_MINOR 3
 
 /* The largest model. */
 #define GTS_MAX_NODES 4000
@@ -47,11 +47,11 @@ extern "C" {
 #define GTS_SIZES 5        /* of `sizes`; of `values` it is S + F, of `marks` T, of `history` none */
 #define GTS_TEXT_NODES 400 /* of `kinds` and of `parameters`: no text has more nodes */
 
-/* The stack that a call on a run needs, in bytes: the most that was measured is 59,544 (README), rounded up. It does not
+/* The stack that a call on a run needs, in bytes: the most that was measured is 59,576 (README), rounded up. It does not
  * grow with the model: recursion goes by depth, at most GTS_MAX_DEPTH. */
 #define GTS_STACK_BYTES 65536
 
-/* The stack that gts_text needs: the most that was measured is 110,728 (README), rounded up. Recursion goes by parts of a
+/* The stack that gts_text needs: the most that was measured is 110,760 (README), rounded up. Recursion goes by parts of a
  * text that stand in one another, in at most GTS_MAX_TEXT bytes. */
 #define GTS_TEXT_STACK_BYTES 122880
 
@@ -73,7 +73,8 @@ enum gts_refusal {
     GTS_NO_SUCH_TRANSITION = 11, /* T or above */
     GTS_NO_SUCH_VARIABLE = 12,   /* S + F or above; also one in a text */
     /* the run */
-    GTS_RUN_NOT_VALID = 20,      /* n above the history's length, one of the first n entries T or above, or a value outside its ends */
+    GTS_RUN_NOT_VALID = 20,      /* n above the history's length, one of the first n entries T or above, or a value outside its
+                                    ends (gts_first_outside tells the first such variable) */
     GTS_HISTORY_FULL = 21,       /* n is the history's length */
     GTS_NOTHING_TO_UNDO = 22,    /* n is 0 */
     /* the step */
@@ -117,6 +118,11 @@ uint8_t gts_value(const uint8_t *model, size_t len, const int32_t *values, size_
 /* The lowest transition whose mark is 1: `found` is 1. Where there is none, `found` is 0 and `transition` keeps its content.
  * Refuses by 1 to 8, 9, 20. */
 uint8_t gts_pick(const uint8_t *model, size_t len, const int32_t *values, size_t values_len, const uint8_t *history, size_t history_len, size_t n, size_t *transition, uint8_t *found);
+
+/* The check of the values behind 20: the first variable whose value is outside its ends, lowest first, goes to `variable`,
+ * and `found` is 1. Where all are within, `found` is 0 and `variable` keeps its content. `looked` is how many values were
+ * looked at: that variable's number plus one, or S + F. A value outside is the answer and not 20. Refuses by 1 to 8, 9. */
+uint8_t gts_first_outside(const uint8_t *model, size_t len, const int32_t *values, size_t values_len, size_t *variable, uint8_t *found, size_t *looked);
 
 /* The nodes of a text, which is an expression of either type: kinds and parameters as in a model, in prefix order, into
  * the first `count` cells of `kinds` and of `parameters`. In the text variables are v0, v1 and so on, numbers digits up to

@@ -1,9 +1,9 @@
 #!/usr/bin/env python3
 """cases.py: writes the stored cases of the test programs, from the files of bench/cases.
 
-check_cases: checks.txt and the edges below; call_cases: calls.txt, the extremes and the picks below; program_cases: programs.txt;
-text_cases: texts.txt. The cases of NAME go to crates/NAME/data/cases and the expected output to crates/NAME/stdout. The byte format is
-described in crates/NAME/src/main.rt.
+check_cases: checks.txt and the edges below; call_cases: calls.txt, values.txt, the extremes, the picks and the ranges below;
+program_cases: programs.txt; text_cases: texts.txt. The cases of NAME go to crates/NAME/data/cases and the expected output to
+crates/NAME/stdout. The byte format is described in crates/NAME/src/main.rt.
 """
 import os
 
@@ -42,27 +42,32 @@ def numbers(words):
     return [int(w) for w in words[2:]]
 
 
+def words_of(path):
+    """The words of each line of a file."""
+    with open(path) as lines:
+        for line in lines:
+            yield line.split()
+
+
 def stored_checks(path):
     """The cases of checks.txt."""
     cases, file, kinds = [], b'', None
-    with open(path) as lines:
-        for line in lines:
-            words = line.split()
-            if words[0] == 'model':
-                file, kinds = bytes(numbers(words)), None
-            elif words[0] == 'kinds':
-                kinds = numbers(words)
-            elif words[0] == 'params':
-                parameters = numbers(words)
-            elif words[0] == 'wanted':
-                wanted = BOOLEAN if words[1] == 'boolean' else NUMBER
-            elif kinds is not None:
-                answer = 0 if words[1] == 'ok' else int(words[2])
-                cases.append(expression_case(kinds, parameters, file, wanted, answer))
-            elif words[1] == 'no':
-                cases.append(model_case(file, int(words[2])))
-            else:
-                cases.append(model_case(file, 0, [int(w) for w in words[2:]]))
+    for words in words_of(path):
+        if words[0] == 'model':
+            file, kinds = bytes(numbers(words)), None
+        elif words[0] == 'kinds':
+            kinds = numbers(words)
+        elif words[0] == 'params':
+            parameters = numbers(words)
+        elif words[0] == 'wanted':
+            wanted = BOOLEAN if words[1] == 'boolean' else NUMBER
+        elif kinds is not None:
+            answer = 0 if words[1] == 'ok' else int(words[2])
+            cases.append(expression_case(kinds, parameters, file, wanted, answer))
+        elif words[1] == 'no':
+            cases.append(model_case(file, int(words[2])))
+        else:
+            cases.append(model_case(file, 0, [int(w) for w in words[2:]]))
     return cases
 
 
@@ -247,8 +252,8 @@ def edges():
     return cases
 
 
-CALLS = {'check': 0, 'start': 1, 'fire': 2, 'back': 3, 'marks': 4, 'value': 5, 'pick': 6}
-FORMS = {'no': 0, 'ok': 1, 'done': 2, 'value': 3, 'sizes': 4, 'pick': 5, 'none': 6}
+CALLS = {'check': 0, 'start': 1, 'fire': 2, 'back': 3, 'marks': 4, 'value': 5, 'pick': 6, 'first_outside': 7}
+FORMS = {'no': 0, 'ok': 1, 'done': 2, 'value': 3, 'sizes': 4, 'pick': 5, 'none': 6, 'outside': 7, 'within': 8}
 
 
 def store_bytes(store):
@@ -258,14 +263,15 @@ def store_bytes(store):
 
 def call_bytes(call, wanted, store):
     """A call, as ('fire', 3), its wanted answer, as ('ok', 2), and the store afterwards."""
+    looked = wanted[-1] if wanted[0] in ('outside', 'within') else 0
     if wanted[0] == 'sizes':
         number = bytes(wanted[1:5]) + little(wanted[5], 2) + bytes(2)
-    elif wanted[0] in ('done', 'none'):
+    elif wanted[0] in ('done', 'none', 'within'):
         number = bytes(8)
     else:
         number = little(wanted[1], 8)
     argument = call[1] if len(call) == 2 else 0
-    header = bytes([CALLS[call[0]], FORMS[wanted[0]]]) + bytes(6)
+    header = bytes([CALLS[call[0]], FORMS[wanted[0]]]) + little(looked, 2) + bytes(4)
     return header + little(argument, 8) + number + little(store[2], 8) + store_bytes(store)
 
 
@@ -279,25 +285,41 @@ def list_bytes(file, twin, store, calls):
 def stored_calls(path):
     """The lists of calls.txt, each with its number of calls."""
     lists, part, calls = [], {}, []
-    with open(path) as lines:
-        for line in lines:
-            words = line.split()
-            if words[0] == 'call':
-                if not calls:
-                    begin = (part['values'], part['record'], part['n'], part['marks'])
-                calls.append([(words[1], *map(int, words[2:]))])
-            elif words[0] == 'want':
-                rest = numbers(words[1:]) if words[1] == 'pick' else [int(w) for w in words[2:]]
-                assert words[1] != 'pick' or len(rest) == 1
-                calls[-1].append((words[1], *rest))
-            elif words[0] == 'end':
-                lists.append((bytes(part['model']), bytes(part['twin']), begin, calls))
-                part, calls = {}, []
-            elif words[0] != 'same':
-                part[words[0]] = int(words[1]) if words[0] == 'n' else numbers(words)
-            if calls and words[0] in ('same', 'marks'):
-                calls[-1].append((part['values'], part['record'], part['n'], part['marks']))
+    for words in words_of(path):
+        if words[0] == 'call':
+            if not calls:
+                begin = (part['values'], part['record'], part['n'], part['marks'])
+            calls.append([(words[1], *map(int, words[2:]))])
+        elif words[0] == 'want':
+            rest = numbers(words[1:]) if words[1] == 'pick' else [int(w) for w in words[2:]]
+            assert words[1] != 'pick' or len(rest) == 1
+            calls[-1].append((words[1], *rest))
+        elif words[0] == 'end':
+            lists.append((bytes(part['model']), bytes(part['twin']), begin, calls))
+            part, calls = {}, []
+        elif words[0] != 'same':
+            part[words[0]] = int(words[1]) if words[0] == 'n' else numbers(words)
+        if calls and words[0] in ('same', 'marks'):
+            calls[-1].append((part['values'], part['record'], part['n'], part['marks']))
     return [(list_bytes(*each), len(each[3])) for each in lists]
+
+
+def range_check(file, twin, store, wanted):
+    """A list of one call, first outside."""
+    return (list_bytes(file, twin, store, [(('first_outside',), wanted, store)]), 1)
+
+
+def stored_values(path):
+    """The cases of values.txt, each a list of one call; no history is lent to it."""
+    lists = []
+    for words in words_of(path):
+        if words[0] == 'model':
+            file = bytes(numbers(words))
+        elif words[0] == 'values':
+            values = numbers(words)
+        else:
+            lists.append(range_check(file, file, (values, [], 0, []), (words[1], *map(int, words[2:]))))
+    return lists
 
 
 ASSIGN = [(17, 0), TRUE]
@@ -381,7 +403,12 @@ def largest_sizes():
     raised = lambda k: k * [1] + (255 - k) * [0]
     after = lambda k: raised(k) + raised(k) + [-7, 8]
     store = (510 * [-1] + [-7, 8], history, 2 ** 64 - 1, 255 * [9] + [3, 4])
-    calls = [(('start',), ('ok', 2), (values, history, 0, store[3])), (('marks',), ('done',), (values, history, 0, marks))]
+    calls = [
+        (('first_outside',), ('outside', 0, 1), store),
+        (('start',), ('ok', 2), (values, history, 0, store[3])),
+        (('first_outside',), ('within', 510), (values, history, 0, store[3])),
+        (('marks',), ('done',), (values, history, 0, marks)),
+    ]
     for k in range(3):
         history = history[:k] + [k] + history[k + 1:]
         calls.append((('fire', k), ('ok', 2), (after(k + 1), history, k + 1, marks)))
@@ -477,15 +504,53 @@ def picks():
     ]
 
 
+def range_models():
+    """A number from -1 to 3 that the transition raises by 1, and whether it is below 2; and the twin."""
+    x, one = (34, 0), (32, 1)
+    head, below = [(2, -1), (3, 3), (4, 0), FLAG, (5, 0), TRUE, (17, 0), (41, 0)], [(17, 1), (39, 0), x, (32, 2)]
+    return [model(1, 1, 1, 1, head + [x, one] + block([below, [SKIP]])), model(1, 1, 1, 1, head + [one, x] + block([[SKIP], below]))]
+
+
+def checked_along():
+    """First outside before a start, and after steps that are accepted or refused."""
+    stale = ([4, 2, 9], [5], 3, [7])
+    begun = ([0, 1, 9], [5], 0, [7])
+    raised = ([1, 1, 9], [0], 1, [7])
+    back = ([0, 1, 9], [0], 0, [7])
+    check, within = ('first_outside',), ('within', 2)
+    calls = [
+        (check, ('outside', 0, 1), stale),
+        (('pick',), ('no', 20), stale),
+        (('start',), ('ok', 2), begun),
+        (check, within, begun),
+        (('fire', 0), ('ok', 2), raised),
+        (('fire', 0), ('no', 21), raised),
+        (check, within, raised),
+        (('back',), ('done',), back),
+        (check, within, back),
+    ]
+    return (list_bytes(*range_models(), stale, calls), len(calls))
+
+
+def ranges():
+    """Lists for first outside: along a run, both sides of each end, and a history and an n that it does not look at."""
+    within, first, second = ('within', 2), ('outside', 0, 1), ('outside', 1, 2)
+    answers = [
+        ([-1, 0], within), ([3, 1], within), ([-2, 0], first), ([4, 0], first), ([0, -1], second), ([0, 2], second), ([4, 2], first),
+        ([0, 1, -7], within), ([0], ('no', 9)), ([], ('no', 9)),
+    ]
+    lists = [range_check(*range_models(), (values, [], 0, []), wanted) for values, wanted in answers]
+    return [checked_along()] + lists + [range_check(*range_models(), ([0, 1], [9], 2 ** 64 - 1, []), within)]
+
+
 def stored_programs(path):
     """The cases of programs.txt: three lengths of four bytes, the model file, the input, the output."""
     parts, cases = [], []
-    with open(path) as lines:
-        for line in lines:
-            parts.append(bytes(numbers(line.split())))
-            if len(parts) == 3:
-                cases.append(b''.join(little(len(part), 4) for part in parts) + b''.join(parts))
-                parts = []
+    for words in words_of(path):
+        parts.append(bytes(numbers(words)))
+        if len(parts) == 3:
+            cases.append(b''.join(little(len(part), 4) for part in parts) + b''.join(parts))
+            parts = []
     return cases
 
 
@@ -499,26 +564,24 @@ def text_case(file, text, kinds, parameters, answer, nodes):
 def stored_texts(path):
     """The cases of texts.txt."""
     cases = []
-    with open(path) as lines:
-        for line in lines:
-            words = line.split()
-            if words[0] == 'model':
-                file = bytes(numbers(words))
-            elif words[0] == 'text':
-                text = bytes(numbers(words))
-            elif words[0] == 'outkinds':
-                kinds = (int(words[1]), int(words[2]))
-            elif words[0] == 'outparams':
-                parameters = (int(words[1]), int(words[2]))
-            elif words[0] == 'kinds':
-                nodes = numbers(words)
-            elif words[0] == 'params':
-                assert len(nodes) == count == int(words[1])
-                cases.append(text_case(file, text, kinds, parameters, 0, (nodes, numbers(words))))
-            elif words[1] == 'no':
-                cases.append(text_case(file, text, kinds, parameters, int(words[2]), ([], [])))
-            else:
-                count = int(words[2])
+    for words in words_of(path):
+        if words[0] == 'model':
+            file = bytes(numbers(words))
+        elif words[0] == 'text':
+            text = bytes(numbers(words))
+        elif words[0] == 'outkinds':
+            kinds = (int(words[1]), int(words[2]))
+        elif words[0] == 'outparams':
+            parameters = (int(words[1]), int(words[2]))
+        elif words[0] == 'kinds':
+            nodes = numbers(words)
+        elif words[0] == 'params':
+            assert len(nodes) == count == int(words[1])
+            cases.append(text_case(file, text, kinds, parameters, 0, (nodes, numbers(words))))
+        elif words[1] == 'no':
+            cases.append(text_case(file, text, kinds, parameters, int(words[2]), ([], [])))
+        else:
+            count = int(words[2])
     return cases
 
 
@@ -536,7 +599,7 @@ def main():
     vectors = lambda name: os.path.join(ROOT, 'bench', 'cases', name)
     checks = stored_checks(vectors('checks.txt')) + edges()
     write('check_cases', checks, f'{len(checks)} cases, 0 differ')
-    lists = stored_calls(vectors('calls.txt')) + extremes() + picks()
+    lists = stored_calls(vectors('calls.txt')) + stored_values(vectors('values.txt')) + extremes() + picks() + ranges()
     calls = sum(number for _, number in lists)
     write('call_cases', [each for each, _ in lists], f'{len(lists)} lists, {2 * calls} calls, 0 differ')
     programs = stored_programs(vectors('programs.txt'))

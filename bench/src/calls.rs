@@ -4,7 +4,7 @@ use std::fmt::Debug;
 
 use crate::guarded::{Cell, Guarded};
 
-/// An implementation: the eight C calls with slices for pointers and lengths. Each answers 0 and its results, or
+/// An implementation: the nine C calls with slices for pointers and lengths. Each answers 0 and its results, or
 /// a refusal number and leaves everything lent as it was.
 pub struct Engine {
     pub name: &'static str,
@@ -15,6 +15,7 @@ pub struct Engine {
     pub marks: Marks,
     pub value: Value,
     pub pick: Pick,
+    pub first_outside: FirstOutside,
     pub text: Text,
 }
 
@@ -47,6 +48,14 @@ pub type Pick = fn(
     found: &mut u8,
 ) -> u8;
 
+pub type FirstOutside = fn(
+    model: &[u8],
+    values: &[i32],
+    variable: &mut usize,
+    found: &mut u8,
+    looked: &mut usize,
+) -> u8;
+
 pub type Text = fn(
     model: &[u8],
     text: &[u8],
@@ -66,7 +75,10 @@ pub struct Store {
     pub rounds: Guarded<usize>,
     pub value: Guarded<i32>,
     pub transition: Guarded<usize>,
+    pub variable: Guarded<usize>,
+    /// Whether there is such a transition, or such a variable.
     pub found: Guarded<u8>,
+    pub looked: Guarded<usize>,
 }
 
 impl Store {
@@ -81,7 +93,9 @@ impl Store {
             rounds: Guarded::new(&[0]),
             value: Guarded::new(&[0]),
             transition: Guarded::new(&[0]),
+            variable: Guarded::new(&[0]),
             found: Guarded::new(&[0]),
+            looked: Guarded::new(&[0]),
         }
     }
 
@@ -94,7 +108,9 @@ impl Store {
             && self.rounds.intact()
             && self.value.intact()
             && self.transition.intact()
+            && self.variable.intact()
             && self.found.intact()
+            && self.looked.intact()
     }
 
     /// The parts in which two stores differ, in words.
@@ -108,7 +124,9 @@ impl Store {
             part("rounds", &self.rounds, &other.rounds),
             part("value", &self.value, &other.value),
             part("transition", &self.transition, &other.transition),
+            part("variable", &self.variable, &other.variable),
             part("found", &self.found, &other.found),
+            part("looked", &self.looked, &other.looked),
         ]
         .into_iter()
         .flatten()
@@ -191,8 +209,9 @@ pub const UNDO: usize = 3;
 pub const MARKS: usize = 4;
 pub const VALUE: usize = 5;
 pub const PICK: usize = 6;
+pub const FIRST_OUTSIDE: usize = 7;
 
-pub const TABLE: [Row; 7] = [
+pub const TABLE: [Row; 8] = [
     Row {
         name: "check",
         number: Number::None,
@@ -274,6 +293,19 @@ pub const TABLE: [Row; 7] = [
                 s.n.get(),
                 s.transition.get_mut(),
                 s.found.get_mut(),
+            )
+        },
+    },
+    Row {
+        name: "first_outside",
+        number: Number::None,
+        perform: |engine, model, s, _| {
+            (engine.first_outside)(
+                model,
+                s.values.cells(),
+                s.variable.get_mut(),
+                s.found.get_mut(),
+                s.looked.get_mut(),
             )
         },
     },

@@ -65,6 +65,15 @@ extern "C" {
         transition: *mut usize,
         found: *mut u8,
     ) -> u8;
+    fn gts_first_outside(
+        model: *const u8,
+        len: usize,
+        values: *const i32,
+        values_len: usize,
+        variable: *mut usize,
+        found: *mut u8,
+        looked: *mut usize,
+    ) -> u8;
     fn gts_text(
         model: *const u8,
         len: usize,
@@ -88,6 +97,7 @@ pub const LIBRARY: Engine = Engine {
     marks,
     value,
     pick,
+    first_outside,
     text,
 };
 
@@ -205,6 +215,26 @@ pub fn pick(
             n,
             transition,
             found,
+        )
+    }
+}
+
+pub fn first_outside(
+    model: &[u8],
+    values: &[i32],
+    variable: &mut usize,
+    found: &mut u8,
+    looked: &mut usize,
+) -> u8 {
+    unsafe {
+        gts_first_outside(
+            model.as_ptr(),
+            model.len(),
+            values.as_ptr(),
+            values.len(),
+            variable,
+            found,
+            looked,
         )
     }
 }

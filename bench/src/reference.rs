@@ -10,7 +10,7 @@ mod texts;
 
 pub use model::{Limits, Model, Sizes, Type};
 pub use refusal::Refusal;
-pub use run::{check, check_expression, fire, marks, pick, start, undo, value};
+pub use run::{check, check_expression, fire, first_outside, marks, pick, start, undo, value};
 pub use texts::write_nodes;
 
 use crate::calls::Engine;
@@ -51,6 +51,16 @@ pub const ENGINE: Engine = Engine {
             if let Some(lowest) = picked {
                 *transition = lowest;
             }
+            Ok(())
+        })
+    },
+    first_outside: |model, values, variable, found, looked| {
+        answer(first_outside(model, values), |(outside, count)| {
+            *found = u8::from(outside.is_some());
+            if let Some(lowest) = outside {
+                *variable = lowest;
+            }
+            *looked = count;
             Ok(())
         })
     },

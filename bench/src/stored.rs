@@ -1,10 +1,12 @@
-//! The stored cases under cases/: checks.txt, calls.txt, programs.txt, texts.txt. Each line is a word and decimal numbers.
+//! The stored cases under cases/: checks.txt, calls.txt, programs.txt, texts.txt, values.txt. Each line is a word and
+//! decimal numbers.
 
 use std::iter::Peekable;
 use std::path::Path;
 use std::str::Lines;
 
 use crate::calls::{Call, Store, Typed, TABLE};
+use crate::guarded::Guarded;
 use crate::reference::Type;
 
 /// A model, and what its check must answer; and expressions handed beside it.
@@ -98,6 +100,14 @@ pub struct TextCase {
     pub lent: Typed,
     pub want: u8,
     pub after: Typed,
+}
+
+/// Values beside a model for `first_outside`, and what must be answered and lie there afterwards.
+pub struct ValuesCase {
+    pub model: Vec<u8>,
+    pub lent: Store,
+    pub want: u8,
+    pub after: Store,
 }
 
 /// A file of the folder cases/.
@@ -334,6 +344,52 @@ fn text_case(source: &mut Source, model: &[u8]) -> TextCase {
         other => panic!("what a text wants: {other:?}"),
     };
     TextCase {
+        model: model.to_vec(),
+        lent,
+        want,
+        after,
+    }
+}
+
+pub fn values(text: &str) -> Vec<ValuesCase> {
+    let mut source = Source::new(text);
+    let mut cases = Vec::new();
+    while !source.ended() {
+        let model: Vec<u8> = source.list("model");
+        while source.sees("values") {
+            cases.push(values_case(&mut source, &model));
+        }
+    }
+    cases
+}
+
+fn values_case(source: &mut Source, model: &[u8]) -> ValuesCase {
+    let values = source.list("values");
+    // Before the call the results hold what no call gives.
+    let lent = Store {
+        variable: Guarded::new(&[9_999]),
+        found: Guarded::new(&[99]),
+        looked: Guarded::new(&[9_999]),
+        ..Store::new(&values, &[], 0, &[])
+    };
+    let mut after = lent.clone();
+    let mut words = source.words("want");
+    let want = match words.next() {
+        Some("outside") => {
+            *after.variable.get_mut() = number(words.next());
+            *after.found.get_mut() = 1;
+            *after.looked.get_mut() = number(words.next());
+            0
+        }
+        Some("within") => {
+            *after.found.get_mut() = 0;
+            *after.looked.get_mut() = number(words.next());
+            0
+        }
+        Some("no") => number(words.next()),
+        other => panic!("what values want: {other:?}"),
+    };
+    ValuesCase {
         model: model.to_vec(),
         lent,
         want,

@@ -39,6 +39,8 @@ pub enum Work {
     Undo(Vec<usize>, usize),
     Marks,
     Pick,
+    /// All values are within their ends, or that of this variable alone is not.
+    FirstOutside(Option<usize>),
     /// Each text once, accepted or not.
     Text(Vec<String>),
 }
@@ -46,7 +48,7 @@ pub enum Work {
 /// A workload with its buffers, to be carried out many times.
 pub struct Prepared<'w> {
     workload: &'w Workload,
-    /// The run that undo, marks and pick start from.
+    /// The run that undo, marks, pick and first_outside start from.
     run: Run,
     /// What a text's nodes are written to.
     kinds: Vec<u8>,
@@ -82,6 +84,49 @@ impl Run {
         }
         sum
     }
+
+    /// Takes the last step back; gives the sum of the values.
+    fn undo(&mut self, engine: &Engine, model: &[u8]) -> u64 {
+        let n = self.n;
+        let answer = (engine.undo)(model, &mut self.values, &self.history, &mut self.n);
+        assert_eq!((answer, self.n), (0, n - 1));
+        // The history still holds the step: the run's length is all that must be put back.
+        self.n = n;
+        sum(&self.values)
+    }
+
+    /// The sum of the marks.
+    fn marks(&mut self, engine: &Engine, model: &[u8]) -> u64 {
+        let marks = &mut self.marks;
+        let answer = (engine.marks)(model, &self.values, &self.history, self.n, marks);
+        assert_eq!(answer, 0);
+        marks.iter().map(|&mark| u64::from(mark)).sum()
+    }
+
+    /// The transition picked.
+    fn pick(&self, engine: &Engine, model: &[u8]) -> u64 {
+        let (mut transition, mut found) = (0, 0);
+        let answer = (engine.pick)(
+            model,
+            &self.values,
+            &self.history,
+            self.n,
+            &mut transition,
+            &mut found,
+        );
+        assert_eq!((answer, found), (0, 1));
+        transition as u64
+    }
+
+    /// How many values were looked at; the variable found must be this one, or none.
+    fn first_outside(&self, engine: &Engine, model: &[u8], outside: Option<usize>) -> u64 {
+        let (mut variable, mut found, mut looked) = (0, 9, 0);
+        let answer =
+            (engine.first_outside)(model, &self.values, &mut variable, &mut found, &mut looked);
+        assert_eq!((answer, found), (0, u8::from(outside.is_some())));
+        assert_eq!((found == 1).then_some(variable), outside);
+        looked as u64
+    }
 }
 
 impl Workload {
@@ -101,13 +146,14 @@ impl Workload {
             n: 0,
             marks: vec![0; sizes.transitions],
         };
-        match &self.work {
-            Work::Undo(steps, count) => {
-                run.perform(&reference::ENGINE, &self.model, steps, *count);
-            }
-            _ => {
-                run.perform(&reference::ENGINE, &self.model, &[], 0);
-            }
+        let (steps, count) = match &self.work {
+            Work::Undo(steps, count) => (&steps[..], *count),
+            _ => (&[][..], 0),
+        };
+        run.perform(&reference::ENGINE, &self.model, steps, count);
+        if let Work::FirstOutside(Some(variable)) = self.work {
+            // The variable is a Boolean.
+            run.values[variable] = 2;
         }
         Prepared {
             workload: self,
@@ -124,60 +170,40 @@ impl Prepared<'_> {
         let Workload { model, work, .. } = self.workload;
         let run = &mut self.run;
         match work {
-            Work::Check => {
-                let mut sizes = [0; 5];
-                assert_eq!((engine.check)(model, &mut sizes), 0);
-                sizes.iter().map(|&size| u64::from(size)).sum()
-            }
+            Work::Check => check(engine, model),
             Work::Start => run.perform(engine, model, &[], 0) as u64,
             Work::Run(steps, count) => {
                 let rounds = run.perform(engine, model, steps, *count) as u64;
                 rounds + sum(&run.values)
             }
-            Work::Undo(..) => {
-                let n = run.n;
-                let answer = (engine.undo)(model, &mut run.values, &run.history, &mut run.n);
-                assert_eq!((answer, run.n), (0, n - 1));
-                // The history still holds the step: the run's length is all that must be put back.
-                run.n = n;
-                sum(&run.values)
-            }
-            Work::Marks => {
-                let marks = &mut run.marks;
-                assert_eq!(
-                    (engine.marks)(model, &run.values, &run.history, run.n, marks),
-                    0
-                );
-                marks.iter().map(|&mark| u64::from(mark)).sum()
-            }
-            Work::Pick => {
-                let (mut transition, mut found) = (0, 0);
-                let answer = (engine.pick)(
-                    model,
-                    &run.values,
-                    &run.history,
-                    run.n,
-                    &mut transition,
-                    &mut found,
-                );
-                assert_eq!((answer, found), (0, 1));
-                transition as u64
-            }
-            Work::Text(texts) => {
-                let (kinds, parameters) = (&mut self.kinds, &mut self.parameters);
-                let mut total = 0;
-                for text in texts {
-                    let mut count = 0;
-                    let answer =
-                        (engine.text)(model, text.as_bytes(), kinds, parameters, &mut count);
-                    let kinds = kinds[..count].iter().map(|&kind| u64::from(kind));
-                    total += u64::from(answer) + kinds.sum::<u64>();
-                    total = total.wrapping_add(sum(&parameters[..count]));
-                }
-                total
-            }
+            Work::Undo(..) => run.undo(engine, model),
+            Work::Marks => run.marks(engine, model),
+            Work::Pick => run.pick(engine, model),
+            Work::FirstOutside(outside) => run.first_outside(engine, model, *outside),
+            Work::Text(texts) => self.write_nodes(engine, model, texts),
         }
     }
+
+    /// Each text's answer and nodes, summed.
+    fn write_nodes(&mut self, engine: &Engine, model: &[u8], texts: &[String]) -> u64 {
+        let (kinds, parameters) = (&mut self.kinds, &mut self.parameters);
+        let mut total = 0;
+        for text in texts {
+            let mut count = 0;
+            let answer = (engine.text)(model, text.as_bytes(), kinds, parameters, &mut count);
+            let kinds = kinds[..count].iter().map(|&kind| u64::from(kind));
+            total += u64::from(answer) + kinds.sum::<u64>();
+            total = total.wrapping_add(sum(&parameters[..count]));
+        }
+        total
+    }
+}
+
+/// The sum of the sizes.
+fn check(engine: &Engine, model: &[u8]) -> u64 {
+    let mut sizes = [0; 5];
+    assert_eq!((engine.check)(model, &mut sizes), 0);
+    sizes.iter().map(|&size| u64::from(size)).sum()
 }
 
 fn sum(values: &[i32]) -> u64 {
@@ -188,38 +214,69 @@ fn sum(values: &[i32]) -> u64 {
 
 /// The workloads of the ratio table.
 pub fn all() -> Vec<Workload> {
-    let counter = || COUNTER.to_vec();
-    let steps = COUNTER_STEPS.to_vec();
-    let large_steps: Vec<usize> = (0..20).collect();
-    let large_model = || large(4_000).encode();
+    let check = Workload::new("check, 4,000 nodes", large(4_000).encode(), Work::Check);
+    let deep = Workload::new(
+        "deep inactive branches, 4,000 nodes, start and 200 fires",
+        inactive(4_000).encode(),
+        Work::Run(vec![0], STEPS),
+    );
+    let text = Workload::new(
+        format!("text, {} guards for the counter", GUARDS.len()),
+        COUNTER.to_vec(),
+        Work::Text(GUARDS.map(String::from).into()),
+    );
+    [vec![check], runs(), undos(), readings(), vec![deep, text]]
+        .into_iter()
+        .flatten()
+        .collect()
+}
+
+/// Transitions of the model of 4,000 nodes that can be fired again and again.
+fn large_steps() -> Vec<usize> {
+    (0..20).collect()
+}
+
+/// Starts and fires.
+fn runs() -> Vec<Workload> {
     let counter_nodes = COUNTER.len() / 5 - 1;
     vec![
-        Workload::new("check, 4,000 nodes", large_model(), Work::Check),
         Workload::new(
             format!("counter of {counter_nodes} nodes, start and 200 fires"),
-            counter(),
-            Work::Run(steps.clone(), STEPS),
+            COUNTER.to_vec(),
+            Work::Run(COUNTER_STEPS.to_vec(), STEPS),
         ),
         Workload::new(
             "4,000 nodes, 4 rounds, start and 200 fires",
-            large_model(),
-            Work::Run(large_steps.clone(), STEPS),
+            large(4_000).encode(),
+            Work::Run(large_steps(), STEPS),
         ),
         Workload::new(
             "chain of 255 flows in reverse, 256 rounds, start",
             chain(255, 0).encode(),
             Work::Start,
         ),
+    ]
+}
+
+/// Steps taken back.
+fn undos() -> Vec<Workload> {
+    vec![
         Workload::new(
             "counter, undo at n = 200",
-            counter(),
-            Work::Undo(steps, STEPS),
+            COUNTER.to_vec(),
+            Work::Undo(COUNTER_STEPS.to_vec(), STEPS),
         ),
         Workload::new(
             "4,000 nodes, undo at n = 200",
-            large_model(),
-            Work::Undo(large_steps, STEPS),
+            large(4_000).encode(),
+            Work::Undo(large_steps(), STEPS),
         ),
+    ]
+}
+
+/// Calls that change no run.
+fn readings() -> Vec<Workload> {
+    vec![
         Workload::new("marks, 255 transitions", guards().encode(), Work::Marks),
         Workload::new(
             "pick, 255 transitions, the second fireable",
@@ -227,14 +284,14 @@ pub fn all() -> Vec<Workload> {
             Work::Pick,
         ),
         Workload::new(
-            "deep inactive branches, 4,000 nodes, start and 200 fires",
-            inactive(4_000).encode(),
-            Work::Run(vec![0], STEPS),
+            "first_outside, 510 variables, the second outside",
+            booleans().encode(),
+            Work::FirstOutside(Some(1)),
         ),
         Workload::new(
-            format!("text, {} guards for the counter", GUARDS.len()),
-            counter(),
-            Work::Text(GUARDS.map(String::from).into()),
+            "first_outside, 510 variables, all within",
+            booleans().encode(),
+            Work::FirstOutside(None),
         ),
     ]
 }
@@ -332,68 +389,65 @@ pub fn large(nodes: usize) -> Model {
     let transitions = nodes / 200;
     // A transition takes 21 nodes, a state 3, a flow 3 and its assignment 66.
     let flows = (nodes - 1 - 21 * transitions - 3 * states) / 69;
-    let counted = Variable::Number {
+    let variable = |first| Variable::Number {
         low: -999,
         high: 999,
-        first: 7,
-    };
-    let flow = Variable::Number {
-        low: -999,
-        high: 999,
-        first: 0,
+        first,
     };
     let layer = flows.div_ceil(3);
     let branches = (0..flows)
         .rev()
-        .map(|place| {
-            let from = (place / layer).checked_sub(1).map(|before| {
-                let first = states + before * layer;
-                (first, layer)
-            });
-            let mut leaf = place;
-            let tree = sum_tree(5, &mut |depth| {
-                leaf += 7;
-                match from {
-                    _ if leaf % 5 == 0 => number((leaf % 9) as i32 + depth as i32),
-                    Some((first, count)) if leaf.is_multiple_of(2) => {
-                        Expr::Variable(first + leaf % count)
-                    }
-                    _ => Expr::Variable(leaf % states),
-                }
-            });
-            let value = Expr::binary(Operator::Mod, tree, number(1_000));
-            Instr::Assign(states + place, value)
-        })
+        .map(|place| layered_flow(place, states, layer))
         .collect();
-    let transitions = (0..transitions)
-        .map(|place| {
-            let (one, two) = (place % states, (place + 5) % states);
-            let next = |state, step| {
-                let sum = Expr::binary(Operator::Plus, Expr::Variable(state), number(step));
-                Expr::binary(Operator::Mod, sum, number(1_000))
-            };
-            Transition {
-                event: place as u8,
-                guard: Expr::binary(
-                    Operator::Or,
-                    Expr::binary(Operator::Less, number(-1_000), Expr::Variable(one)),
-                    Expr::binary(Operator::Less, Expr::Variable(states), number(1_000)),
-                ),
-                action: Instr::Block(vec![
-                    Instr::Assign(one, next(one, 13)),
-                    Instr::Assign(two, next(two, 17)),
-                ]),
-            }
-        })
-        .collect::<Vec<_>>();
     let model = Model {
-        states: vec![counted; states],
-        flows: vec![flow; flows],
-        events: transitions.len() as u8,
-        transitions,
+        states: vec![variable(7); states],
+        flows: vec![variable(0); flows],
+        events: transitions as u8,
+        transitions: (0..transitions)
+            .map(|place| counting_transition(place, states))
+            .collect(),
         assertion: Instr::Block(branches),
     };
     filled(model, nodes)
+}
+
+/// The assignment of the flow at this place, layers being of so many flows.
+fn layered_flow(place: usize, states: usize, layer: usize) -> Instr {
+    let before = (place / layer).checked_sub(1);
+    let mut leaf = place;
+    let tree = sum_tree(5, &mut |depth| {
+        leaf += 7;
+        match before {
+            _ if leaf.is_multiple_of(5) => number((leaf % 9) as i32 + depth as i32),
+            Some(before) if leaf.is_multiple_of(2) => {
+                Expr::Variable(states + before * layer + leaf % layer)
+            }
+            _ => Expr::Variable(leaf % states),
+        }
+    });
+    let value = Expr::binary(Operator::Mod, tree, number(1_000));
+    Instr::Assign(states + place, value)
+}
+
+/// A transition that counts two states up, the guard of which is true.
+fn counting_transition(place: usize, states: usize) -> Transition {
+    let (one, two) = (place % states, (place + 5) % states);
+    let next = |state, step| {
+        let sum = Expr::binary(Operator::Plus, Expr::Variable(state), number(step));
+        Expr::binary(Operator::Mod, sum, number(1_000))
+    };
+    Transition {
+        event: place as u8,
+        guard: Expr::binary(
+            Operator::Or,
+            Expr::binary(Operator::Less, number(-1_000), Expr::Variable(one)),
+            Expr::binary(Operator::Less, Expr::Variable(states), number(1_000)),
+        ),
+        action: Instr::Block(vec![
+            Instr::Assign(one, next(one, 13)),
+            Instr::Assign(two, next(two, 17)),
+        ]),
+    }
 }
 
 /// A full tree of sums and differences over leaves.
@@ -469,44 +523,50 @@ pub fn guards() -> Model {
     }
 }
 
+/// 255 states and 255 flows, all Booleans, and nothing else.
+pub fn booleans() -> Model {
+    let variable = Variable::Boolean { first: false };
+    Model {
+        states: vec![variable; 255],
+        flows: vec![variable; 255],
+        events: 0,
+        transitions: Vec::new(),
+        assertion: Instr::Skip,
+    }
+}
+
+// The variables of the next model: a state that stays false, a state that is toggled, three flows.
+const NEVER: usize = 0;
+const TOGGLED: usize = 1;
+const FIRST: usize = 2;
+const SECOND: usize = 3;
+const THIRD: usize = 4;
+
 /// A model of so many nodes, nearly all of them below conditions that are false, 32 deep.
 pub fn inactive(nodes: usize) -> Model {
-    // Variables: a state that stays false, a state that is toggled, three flows.
-    let [never, toggled, first, second, third] = [0, 1, 2, 3, 4];
-    let unchosen = (0..14).fold(Expr::Variable(first), |inner, _| {
-        Expr::binary(Operator::Or, inner, Expr::Variable(toggled)).negated()
+    let unchosen = (0..14).fold(Expr::Variable(FIRST), |inner, _| {
+        Expr::binary(Operator::Or, inner, Expr::Variable(TOGGLED)).negated()
     });
-    let choice = Expr::conditional(Expr::Variable(never), unchosen, Expr::Variable(toggled));
+    let choice = Expr::conditional(Expr::Variable(NEVER), unchosen, Expr::Variable(TOGGLED));
     let mut branches = vec![
-        Instr::Assign(first, Expr::Variable(toggled)),
-        Instr::Assign(second, Expr::Variable(first)),
-        Instr::Assign(third, choice),
+        Instr::Assign(FIRST, Expr::Variable(TOGGLED)),
+        Instr::Assign(SECOND, Expr::Variable(FIRST)),
+        Instr::Assign(THIRD, choice),
     ];
-    let both = Expr::binary(
-        Operator::And,
-        Expr::Variable(toggled),
-        Expr::Variable(first),
-    );
-    let mut body = Instr::Assign(second, Expr::Variable(first));
-    while body.depth() < 28 {
-        let beside = Instr::Assign(third, both.clone());
-        body = Instr::when(both.clone(), Instr::Block(vec![beside, body]));
-    }
-    let deep = Instr::when(Expr::Variable(never), body);
     let mut model = Model {
         states: vec![Variable::Boolean { first: false }; 2],
         flows: vec![Variable::Boolean { first: false }; 3],
         events: 1,
         transitions: vec![Transition {
             event: 0,
-            guard: Expr::Variable(never).negated(),
-            action: Instr::Assign(toggled, Expr::Variable(toggled).negated()),
+            guard: Expr::Variable(NEVER).negated(),
+            action: Instr::Assign(TOGGLED, Expr::Variable(TOGGLED).negated()),
         }],
         assertion: Instr::Skip,
     };
     loop {
         model.assertion = Instr::Block(branches.clone());
-        branches.push(deep.clone());
+        branches.push(deep_branch());
         let more = Model {
             assertion: Instr::Block(branches.clone()),
             ..model.clone()
@@ -515,4 +575,19 @@ pub fn inactive(nodes: usize) -> Model {
             return filled(model, nodes);
         }
     }
+}
+
+/// A branch with a condition that is false, and under it conditions in one another.
+fn deep_branch() -> Instr {
+    let both = Expr::binary(
+        Operator::And,
+        Expr::Variable(TOGGLED),
+        Expr::Variable(FIRST),
+    );
+    let mut body = Instr::Assign(SECOND, Expr::Variable(FIRST));
+    while body.depth() < 28 {
+        let beside = Instr::Assign(THIRD, both.clone());
+        body = Instr::when(both.clone(), Instr::Block(vec![beside, body]));
+    }
+    Instr::when(Expr::Variable(NEVER), body)
 }

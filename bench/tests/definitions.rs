@@ -1,5 +1,7 @@
-//! The scope document's examples and orders of refusal, and the lowest pick of A1, by hand.
+//! The scope document's examples and orders of refusal, the lowest pick of A1 and the first value outside of A3, by
+//! hand.
 
+use bench::calls::{Call, Store, FIRE, MARKS, PICK, UNDO, VALUE};
 use bench::program::gtsrun;
 use bench::reference::{self, Refusal, ENGINE};
 use bench::tree;
@@ -403,6 +405,97 @@ fn refusals_and_results_of_pick() {
     assert_eq!(pick(&[1], &[1, 2], 1), (0, 0, 1));
     // None: the transition's cell stays.
     assert_eq!(pick(&[0, 5], &[], 0), (0, 77, 0));
+}
+
+const BOOLEAN: &[(u8, i32)] = &[(1, 0)];
+/// A number from -3 to 5.
+const NUMBER: &[(u8, i32)] = &[(2, -3), (3, 5), (4, 0)];
+
+/// A model of these states and flows.
+fn variables(states: &[&[(u8, i32)]], flows: &[&[(u8, i32)]]) -> Vec<u8> {
+    let nodes = [&states.concat()[..], &flows.concat(), &[(16, 0)]].concat();
+    file([states.len() as u8, flows.len() as u8, 0, 0], &nodes)
+}
+
+#[test]
+fn first_outside_is_the_lowest() {
+    let file = variables(&[BOOLEAN, NUMBER], &[NUMBER, BOOLEAN]);
+    let first = |values: [i32; 4]| reference::first_outside(&file, &values);
+    // At the ends.
+    assert_eq!(first([0, -3, 5, 1]), Ok((None, 4)));
+    assert_eq!(first([1, 5, -3, 0]), Ok((None, 4)));
+    // The first state, the last one, the first flow, the last one; above and below.
+    assert_eq!(first([2, 0, 0, 0]), Ok((Some(0), 1)));
+    assert_eq!(first([-1, 0, 0, 0]), Ok((Some(0), 1)));
+    assert_eq!(first([0, 6, 0, 0]), Ok((Some(1), 2)));
+    assert_eq!(first([0, -4, 0, 0]), Ok((Some(1), 2)));
+    assert_eq!(first([0, 0, i32::MAX, 0]), Ok((Some(2), 3)));
+    assert_eq!(first([0, 0, i32::MIN, 0]), Ok((Some(2), 3)));
+    assert_eq!(first([0, 0, 0, 2]), Ok((Some(3), 4)));
+    assert_eq!(first([0, 0, 0, -1]), Ok((Some(3), 4)));
+    // Of several the lowest.
+    assert_eq!(first([9, 9, 9, 9]), Ok((Some(0), 1)));
+    assert_eq!(first([1, 9, 0, 9]), Ok((Some(1), 2)));
+    assert_eq!(first([1, 5, 6, 2]), Ok((Some(2), 3)));
+}
+
+#[test]
+fn first_outside_of_none_and_of_many() {
+    let none = variables(&[], &[]);
+    assert_eq!(reference::first_outside(&none, &[]), Ok((None, 0)));
+    assert_eq!(reference::first_outside(&none, &[9]), Ok((None, 0)));
+    let many = variables(&[BOOLEAN; 255], &[NUMBER; 255]);
+    let first = |wrong: &[usize]| {
+        let mut values = [1; 510];
+        wrong.iter().for_each(|&place| values[place] = 6);
+        reference::first_outside(&many, &values)
+    };
+    assert_eq!(first(&[]), Ok((None, 510)));
+    assert_eq!(first(&[1]), Ok((Some(1), 2)));
+    assert_eq!(first(&[1, 2, 254, 509]), Ok((Some(1), 2)));
+    assert_eq!(first(&[255, 256]), Ok((Some(255), 256)));
+    assert_eq!(first(&[509]), Ok((Some(509), 510)));
+}
+
+#[test]
+fn refusals_and_results_of_first_outside() {
+    let file = variables(&[BOOLEAN], &[NUMBER]);
+    let first = |file: &[u8], values: &[i32]| {
+        let (mut variable, mut found, mut looked) = (77, 9, 88);
+        let answer = (ENGINE.first_outside)(file, values, &mut variable, &mut found, &mut looked);
+        (answer, variable, found, looked)
+    };
+    // The model's refusal, then 9: a value outside does not come before it.
+    assert_eq!(first(&file[..5], &[]), (1, 77, 9, 88));
+    assert_eq!(first(&file[..9], &[2]), (3, 77, 9, 88));
+    assert_eq!(
+        first(&variables(&[BOOLEAN, &[(99, 0)]], &[]), &[2]),
+        (6, 77, 9, 88)
+    );
+    assert_eq!(first(&file, &[]), (9, 77, 9, 88));
+    assert_eq!(first(&file, &[2]), (9, 77, 9, 88));
+    assert_eq!(first(&file, &[0, 6]), (0, 1, 1, 2));
+    // None: the variable's cell stays. Cells after the last variable's are not looked at.
+    assert_eq!(first(&file, &[0, 5]), (0, 77, 0, 2));
+    assert_eq!(first(&file, &[0, 5, 6, i32::MIN]), (0, 77, 0, 2));
+}
+
+/// With n and history right, the calls on a run answer 20 exactly where there is a value outside.
+#[test]
+fn first_outside_and_20() {
+    const NUMBERS: [i32; 4] = [-1, 0, 1, 2];
+    let model = example();
+    for place in 0..64 {
+        let values = [place / 16, place / 4 % 4, place % 4].map(|number| NUMBERS[number]);
+        let (outside, _) = reference::first_outside(&model, &values).expect("accepted");
+        for row in [FIRE, UNDO, MARKS, VALUE, PICK] {
+            let call = Call { row, number: 0 };
+            let mut store = Store::new(&values, &[0, 9], 1, &[7; 2]);
+            let answer = call.perform(&ENGINE, &model, &mut store);
+            let name = call.name();
+            assert_eq!(answer == 20, outside.is_some(), "{name}, {values:?}");
+        }
+    }
 }
 
 #[test]

@@ -2,10 +2,11 @@
 
 use std::collections::BTreeMap;
 
-use bench::calls::{Call, Store, START, TABLE};
+use bench::calls::{Call, Store, PICK, START, TABLE};
 use bench::model_gen::{self, SHAPES};
 use bench::random::Random;
 use bench::reference::{self, ENGINE};
+use bench::tree::Model;
 
 #[test]
 fn models_of_every_shape_are_accepted() {
@@ -65,6 +66,7 @@ fn shuffled_models_and_refusals() {
         ("marks", &[0, 9, 10, 20]),
         ("value", &[0, 9, 12, 20]),
         ("pick", &[0, 9, 20]),
+        ("first_outside", &[0, 9]),
         ("check", &[0, 10]),
     ] {
         let met: Vec<u8> = answers
@@ -85,10 +87,9 @@ fn runs_stay_consistent() {
         let shape = model_gen::shape(&mut random);
         let model = model_gen::model(&mut random, shape);
         let file = model.encode();
-        let variables = model.states.len() + model.flows.len();
         let places = random.between(0, 12);
         let mut store = Store::new(
-            &vec![7; variables],
+            &vec![7; model.variables().count()],
             &vec![255; places],
             99,
             &vec![9; model.transitions.len()],
@@ -97,31 +98,39 @@ fn runs_stay_consistent() {
             row: START,
             number: 0,
         };
-        if start.perform(&ENGINE, &file, &mut store) != 0 {
-            continue;
-        }
-        let mut values = vec![store.values.cells().to_vec()];
-        for call in model_gen::calls(&mut random, &model) {
-            let answer = call.perform(&ENGINE, &file, &mut store);
-            assert!(!matches!(answer, 20 | 31), "{call:?} answers {answer}");
-            match (answer, TABLE[call.row].name) {
-                (0, "start") => values.truncate(1),
-                (0, "fire") => {
-                    let flows = model.flows.len();
-                    assert!((1..=flows + 1).contains(&store.rounds.get()));
-                    values.push(store.values.cells().to_vec());
-                }
-                (0, "undo") => {
-                    values.pop();
-                    undone += 1;
-                }
-                _ => {}
-            }
-            assert_eq!(store.n.get(), values.len() - 1);
-            assert_eq!(store.values.cells(), values[values.len() - 1]);
+        if start.perform(&ENGINE, &file, &mut store) == 0 {
+            let calls = model_gen::calls(&mut random, &model);
+            undone += consistent_calls(&model, &file, &mut store, &calls);
         }
     }
     assert!(undone > 500, "{undone} undone");
+}
+
+/// Calls on a run that was started; gives how many steps were undone.
+fn consistent_calls(model: &Model, file: &[u8], store: &mut Store, calls: &[Call]) -> usize {
+    let mut undone = 0;
+    let mut values = vec![store.values.cells().to_vec()];
+    for call in calls {
+        let answer = call.perform(&ENGINE, file, store);
+        assert!(!matches!(answer, 20 | 31), "{call:?} answers {answer}");
+        match (answer, TABLE[call.row].name) {
+            (0, "start") => values.truncate(1),
+            (0, "fire") => {
+                let flows = model.flows.len();
+                assert!((1..=flows + 1).contains(&store.rounds.get()));
+                values.push(store.values.cells().to_vec());
+            }
+            (0, "undo") => {
+                values.pop();
+                undone += 1;
+            }
+            (0, "first_outside") => assert_eq!(store.found.get(), 0),
+            _ => {}
+        }
+        assert_eq!(store.n.get(), values.len() - 1);
+        assert_eq!(store.values.cells(), values[values.len() - 1]);
+    }
+    undone
 }
 
 /// Damaged files are refused or run like any other; every refusal of a file is met.
@@ -146,4 +155,69 @@ fn damaged_files() {
     }
     println!("{answers:?}");
     assert!((0..=8).all(|number| answers.contains_key(&number)));
+}
+
+/// Where the values that are lent to lists of calls are outside: each of these is met, and the lowest is found.
+#[test]
+fn values_outside() {
+    let mut random = Random::new(5);
+    let mut met: BTreeMap<&str, usize> = BTreeMap::new();
+    for _ in 0..6_000 {
+        let shape = model_gen::shape(&mut random);
+        let model = model_gen::model(&mut random, shape);
+        let file = model.encode();
+        let store = model_gen::store(&mut random, &model);
+        let values = store.values.cells();
+        let found = reference::first_outside(&file, values).map_err(|refusal| refusal.number());
+        for place in places_outside(&model, values, found) {
+            *met.entry(place).or_default() += 1;
+        }
+        // With n = 0 no other part of 20 can be the reason.
+        let mut store = Store::new(values, &[], 0, &[]);
+        let call = Call {
+            row: PICK,
+            number: 0,
+        };
+        let answer = call.perform(&ENGINE, &file, &mut store);
+        let outside = matches!(found, Ok((Some(_), _)));
+        assert_eq!(answer == 20, outside);
+    }
+    println!("{met:?}");
+    assert_eq!(met.len(), 10);
+    assert!(met.values().all(|&times| times >= 20), "{met:?}");
+}
+
+/// What these values are examples of; what was found in them must be right.
+fn places_outside(
+    model: &Model,
+    values: &[i32],
+    found: Result<(Option<usize>, usize), u8>,
+) -> Vec<&'static str> {
+    let (states, variables) = (model.states.len(), model.variables().count());
+    if values.len() < variables {
+        assert_eq!(found, Err(9));
+        let one_short = values.len() + 1 == variables;
+        return vec![if one_short { "one short" } else { "shorter" }];
+    }
+    let outside = |&place: &usize| {
+        let (low, high) = model.variables().nth(place).expect("a variable").ends();
+        !(low..=high).contains(&values[place])
+    };
+    let outside: Vec<usize> = (0..variables).filter(outside).collect();
+    let Some(&first) = outside.first() else {
+        assert_eq!(found, Ok((None, variables)));
+        let longer = values.len() > variables;
+        return vec![if longer { "within, longer" } else { "within" }];
+    };
+    assert_eq!(found, Ok((Some(first), first + 1)));
+    let places = [
+        (first == 0, "the first"),
+        (first == 1, "the second"),
+        (first + 1 == states, "the last state"),
+        (first == states, "the first flow"),
+        (first >= states && first + 1 == variables, "the last flow"),
+        (outside.len() > 1, "several"),
+    ];
+    let met = places.into_iter().filter(|&(met, _)| met);
+    met.map(|(_, place)| place).collect()
 }

@@ -1,5 +1,6 @@
 //! The stored cases through the reference implementation.
 
+use bench::calls::{Call, FIRST_OUTSIDE};
 use bench::program::gtsrun;
 use bench::reference::{self, ENGINE};
 use bench::stored::{self, Lent};
@@ -88,4 +89,25 @@ fn texts() {
     }
     let accepted = cases.iter().filter(|case| case.want == 0).count();
     assert_eq!((cases.len(), accepted), (767, 230));
+}
+
+#[test]
+fn values() {
+    let cases = stored::values(&stored::text("values.txt"));
+    let call = Call {
+        row: FIRST_OUTSIDE,
+        number: 0,
+    };
+    for (place, case) in cases.iter().enumerate() {
+        let mut store = case.lent.clone();
+        let answer = call.perform(&ENGINE, &case.model, &mut store);
+        assert_eq!(answer, case.want, "values {place}");
+        let wrong = case.after.differences(&store);
+        assert_eq!(wrong, [""; 0], "values {place}");
+        assert!(store.intact(), "values {place}");
+    }
+    let accepted = cases.iter().filter(|case| case.want == 0).count();
+    let outside = |case: &&stored::ValuesCase| case.after.found.get() == 1;
+    let outside = cases.iter().filter(outside).count();
+    assert_eq!((cases.len(), accepted, outside), (406, 347, 190));
 }

@@ -23,6 +23,8 @@ fn sizes_and_rounds() {
     assert_eq!((chain.nodes().len(), rounds(&chain.encode())), (2_000, 32));
     let sizes = reference::check(&workloads::guards().encode()).expect("accepted");
     assert_eq!(sizes.transitions, 255);
+    let sizes = reference::check(&workloads::booleans().encode()).expect("accepted");
+    assert_eq!(sizes.to_array(), [255, 255, 0, 0, 511]);
     let inactive = workloads::inactive(4_000);
     assert_eq!((inactive.nodes().len(), inactive.depth()), (4_000, 32));
     assert_eq!(rounds(&inactive.encode()), 3);
@@ -37,6 +39,20 @@ fn workloads_repeat() {
         let mut prepared = workload.prepare();
         let first = prepared.perform(&ENGINE);
         assert_eq!(prepared.perform(&ENGINE), first, "{}", workload.name);
+    }
+}
+
+/// The check of the values ends at the first that is outside.
+#[test]
+fn values_looked_at() {
+    let workloads = workloads::all();
+    for (name, looked) in [
+        ("first_outside, 510 variables, the second outside", 2),
+        ("first_outside, 510 variables, all within", 510),
+    ] {
+        let mut named = workloads.iter().filter(|workload| workload.name == name);
+        let workload = named.next().expect(name);
+        assert_eq!(workload.prepare().perform(&ENGINE), looked, "{name}");
     }
 }
 

@@ -8,7 +8,7 @@
 
 use std::process::ExitCode;
 
-use bench::calls::{Call, Store, Typed, TABLE};
+use bench::calls::{Call, Store, Typed, FIRST_OUTSIDE, TABLE};
 use bench::ffi::LIBRARY;
 use bench::guarded::Guarded;
 use bench::model_gen;
@@ -36,6 +36,8 @@ struct Tally {
     differ: usize,
     /// For each row of the table, and then for texts, how often each number was answered.
     answers: [[usize; ANSWERS]; TABLE.len() + 1],
+    /// How often `first_outside` found a variable.
+    outside: usize,
 }
 
 impl Tally {
@@ -45,6 +47,7 @@ impl Tally {
             on_runs: 0,
             differ: 0,
             answers: [[0; ANSWERS]; TABLE.len() + 1],
+            outside: 0,
         }
     }
 
@@ -53,6 +56,14 @@ impl Tally {
         self.on_runs += usize::from(row != TEXT);
         if let Some(count) = self.answers[row].get_mut(usize::from(answer)) {
             *count += 1;
+        }
+    }
+
+    /// Counts a call of the table, after which the results are these.
+    fn count_call(&mut self, row: usize, answer: u8, results: &Store) {
+        self.count(row, answer);
+        if row == FIRST_OUTSIDE && answer == 0 && results.found.get() == 1 {
+            self.outside += 1;
         }
     }
 
@@ -79,6 +90,8 @@ impl Tally {
             }
             println!();
         }
+        let within = self.answers[FIRST_OUTSIDE][0] - self.outside;
+        println!("\nfirst_outside: {} outside, {within} within", self.outside);
     }
 }
 
@@ -181,7 +194,7 @@ fn random_case(tally: &mut Tally, seed: u64) {
         let mut pair = Pair::new(&file, given, &store);
         for &call in &calls {
             let (answer, wrong) = pair.perform(call);
-            tally.count(call.row, answer);
+            tally.count_call(call.row, answer, &pair.found);
             if !wrong.is_empty() {
                 let numbered = format!("{} {}", call.name(), call.number);
                 tally.report(format!(
@@ -215,8 +228,9 @@ fn stored_cases(tally: &mut Tally) {
     let lists = stored_lists(tally);
     let programs = stored_programs(tally);
     let texts = stored_texts(tally);
+    let values = stored_values(tally);
     println!(
-        "stored: {checks} checks, {lists} lists of calls with their twins, {programs} programs, {texts} texts: {} calls, {} differ",
+        "stored: {checks} checks, {lists} lists of calls with their twins, {programs} programs, {texts} texts, {values} values slices: {} calls, {} differ",
         tally.calls, tally.differ
     );
 }
@@ -249,7 +263,7 @@ fn stored_lists(tally: &mut Tally) -> usize {
             let mut lent = case.lent.clone();
             for case in &case.calls {
                 let (answer, mut wrong) = pair.perform(case.call);
-                tally.count(case.call.row, answer);
+                tally.count_call(case.call.row, answer, &pair.found);
                 if let Some(after) = &case.after {
                     lent.clone_from(after);
                 }
@@ -297,4 +311,30 @@ fn stored_texts(tally: &mut Tally) -> usize {
         }
     }
     texts.len()
+}
+
+fn stored_values(tally: &mut Tally) -> usize {
+    let cases = stored::values(&stored::text("values.txt"));
+    let call = Call {
+        row: FIRST_OUTSIDE,
+        number: 0,
+    };
+    for (place, case) in cases.iter().enumerate() {
+        let model = Guarded::new(&case.model);
+        let mut found = case.lent.clone();
+        let answer = call.perform(&LIBRARY, model.cells(), &mut found);
+        tally.count_call(call.row, answer, &found);
+        let mut wrong = case.after.differences(&found);
+        if answer != case.want {
+            wrong.push(format!("answer: {} / {answer}", case.want));
+        }
+        if !found.intact() || model != Guarded::new(&case.model) {
+            wrong.push("guard cells or the model were written".to_string());
+        }
+        if !wrong.is_empty() {
+            let wrong = wrong.join("; ");
+            tally.report(format!("stored values {place}: {wrong}"));
+        }
+    }
+    cases.len()
 }

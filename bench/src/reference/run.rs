@@ -116,6 +116,13 @@ pub fn pick(
         .position(|transition| model.evaluate(transition.guard, cells) == Evaluation::Value(1)))
 }
 
+/// The lowest variable whose value is outside its ends, or that there is none, and how many values were looked at.
+pub fn first_outside(file: &[u8], values: &[i32]) -> Result<(Option<usize>, usize), Refusal> {
+    let model = Model::parse(file)?;
+    let cells = model.cells(values)?;
+    Ok(model.first_outside(cells))
+}
+
 impl Model {
     /// The cells of a values slice that are in use.
     fn cells<'v>(&self, values: &'v [i32]) -> Result<&'v [i32], Refusal> {
@@ -130,6 +137,18 @@ impl Model {
             .ok_or(Refusal::ShortValues)
     }
 
+    /// Looks at the values from the lowest variable up, and at none after the first that is outside its ends.
+    fn first_outside(&self, cells: &[i32]) -> (Option<usize>, usize) {
+        let mut looked = 0;
+        for (place, (variable, &cell)) in self.variables.iter().zip(cells).enumerate() {
+            looked += 1;
+            if !variable.admits(cell) {
+                return (Some(place), looked);
+            }
+        }
+        (None, looked)
+    }
+
     /// The recorded steps, if these and the values can be those of a run.
     fn consistent<'h>(
         &self,
@@ -141,12 +160,8 @@ impl Model {
         let fired = steps
             .iter()
             .all(|&step| usize::from(step) < self.sizes.transitions);
-        let within = self
-            .variables
-            .iter()
-            .zip(cells)
-            .all(|(variable, &cell)| variable.admits(cell));
-        if !(fired && within) {
+        let (outside, _) = self.first_outside(cells);
+        if !fired || outside.is_some() {
             return Err(Refusal::InconsistentRun);
         }
         Ok(steps)

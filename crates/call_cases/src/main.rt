@@ -6,9 +6,10 @@
 // number of calls (two bytes each), eight bytes of 0, and n (eight bytes). A store: the values (four bytes each), the history, the marks.
 //
 // A call is a header of 32 bytes and the store afterwards. The header: the call (0 check, 1 start, 2 fire, 3 undo, 4 marks, 5 value, 6
-// pick), the form of its answer (0 refused, 1 a round count, 2 done, 3 a value, 4 the five sizes, 5 a transition, 6 nothing), six bytes
-// of 0, then eight bytes each: the transition or variable, the answer's number (the sizes are S, F, E, T in a byte each and N in two),
-// and n afterwards.
+// pick, 7 first outside), the form of its answer (0 refused, 1 a round count, 2 done, 3 a value, 4 the five sizes, 5 a transition, 6
+// nothing, 7 a variable outside its ends, 8 all within), how many values were looked at (two bytes; 0 but in the last two forms), four
+// bytes of 0, then eight bytes each: the transition or variable, the answer's number (the sizes are S, F, E, T in a byte each and N in
+// two), and n afterwards.
 ghost use Prim.Native.Nat.{_+_, _*_, _≤_, _<_};
 ghost use mathlib.Core.Path.{_≡_};
 ghost use lib.ListN.{length};
@@ -32,8 +33,14 @@ enum Outcome {
     Counted(Tally),
 }
 
-// The forms of an answer, as a call's header has them.
-impl Tally {
+// An answer as the header of a call has it: its form, its number, and how many values were looked at.
+struct Reply {
+    form: u8,
+    number: usize,
+    looked: usize,
+}
+
+impl Reply {
     const REFUSED: u8 = 0;
 
     const ROUNDS: u8 = 1;
@@ -47,6 +54,10 @@ impl Tally {
     const TRANSITION: u8 = 5;
 
     const NOTHING: u8 = 6;
+
+    const OUTSIDE: u8 = 7;
+
+    const WITHIN: u8 = 8;
 }
 
 // The number in eight bytes of a header.
@@ -90,55 +101,72 @@ fn is_same_store(b: &[u8], values: &[i32], history: &[u8], marks: &[u8]) -> bool
     cases::is_same_bytes(marks, &b[second..], 0)
 }
 
-// Is the wanted answer of this form, with this number?
-fn is_number(head: &[u8; 32], form: u8, number: usize) -> bool {
-    if head[1] != form {
-        return false;
+// An answer whose number is all that it tells.
+fn plain(form: u8, number: usize) -> Reply {
+    Reply {
+        form,
+        number,
+        looked: 0,
     }
-    eight(head, 16) == number
 }
 
-fn is_value(head: &[u8; 32], value: i32) -> bool {
-    if head[1] != Tally::VALUE {
-        return false;
+// What was found, in the first form, or nothing, in the second.
+fn found_reply(found: Found, form: u8, nothing: u8, looked: usize) -> Reply {
+    match found {
+        Found::At(number) => Reply {
+            form,
+            number,
+            looked,
+        },
+        Found::Nothing => Reply {
+            form: nothing,
+            number: 0,
+            looked,
+        },
     }
-    cases::signed(head, 16) == value
 }
 
-fn is_sizes(head: &[u8; 32], sizes: Sizes) -> bool {
-    if head[1] != Tally::SIZES {
-        return false;
+// A value as a number of eight bytes.
+fn value_number(value: i32) -> usize {
+    if value < 0 {
+        return std::num::wrapping_sub_usize(0, nodes::magnitude(value));
     }
+    nodes::magnitude(value)
+}
+
+// The number of the header if it packs these sizes, else 0, which no header of sizes has: N is 1 or more.
+fn sizes_number(head: &[u8; 32], sizes: Sizes) -> usize {
     if sizes.states != cases::wide(head[16]) {
-        return false;
+        return 0;
     }
     if sizes.flows != cases::wide(head[17]) {
-        return false;
+        return 0;
     }
     if sizes.events != cases::wide(head[18]) {
-        return false;
+        return 0;
     }
     if sizes.transitions != cases::wide(head[19]) {
-        return false;
+        return 0;
     }
-    sizes.nodes == cases::two(head, 20)
+    if sizes.nodes != cases::two(head, 20) {
+        return 0;
+    }
+    eight(head, 16)
 }
 
-fn is_found(head: &[u8; 32], found: Found) -> bool {
-    match found {
-        Found::At(transition) => is_number(head, Tally::TRANSITION, transition),
-        Found::Nothing => is_number(head, Tally::NOTHING, 0),
-    }
-}
-
-fn is_answer(head: &[u8; 32], answer: Answer) -> bool {
+// An answer that came, as a header has it.
+fn reply_of(head: &[u8; 32], answer: Answer) -> Reply {
     match answer {
-        Answer::Refused(number) => is_number(head, Tally::REFUSED, cases::wide(number)),
-        Answer::Rounds(count) => is_number(head, Tally::ROUNDS, count),
-        Answer::Done => is_number(head, Tally::DONE, 0),
-        Answer::Number(value) => is_value(head, value),
-        Answer::Sizes(sizes) => is_sizes(head, sizes),
-        Answer::Picked(found) => is_found(head, found),
+        Answer::Refused(number) => plain(Reply::REFUSED, cases::wide(number)),
+        Answer::Rounds(count) => plain(Reply::ROUNDS, count),
+        Answer::Done => plain(Reply::DONE, 0),
+        Answer::Number(value) => plain(Reply::VALUE, value_number(value)),
+        Answer::Sizes(sizes) => plain(Reply::SIZES, sizes_number(head, sizes)),
+        Answer::Picked(found) => found_reply(found, Reply::TRANSITION, Reply::NOTHING, 0),
+        Answer::Outside(check) => {
+            let outside = check.outside;
+            found_reply(outside, Reply::OUTSIDE, Reply::WITHIN, check.looked)
+        }
     }
 }
 
@@ -148,94 +176,50 @@ fn tell_number(number: usize) {
     io::print_decimal(STDOUT_FILENO, number as u64);
 }
 
-// Prints a space and a signed number.
-fn tell_value(value: i32) {
-    if value < 0 {
-        io::write_all(STDOUT_FILENO, b" -");
-        io::print_decimal(STDOUT_FILENO, nodes::magnitude(value) as u64);
-    } else {
-        tell_number(nodes::magnitude(value));
+// Prints one of several words, each in twelve bytes.
+fn tell_word(words: &[u8], word: u8) {
+    let at = 12 * cases::wide(word);
+    if at + 12 <= words.len() {
+        io::write_all(STDOUT_FILENO, &words[at..at + 12]);
     }
 }
 
-// Prints the form of an answer.
-fn tell_form(form: u8) {
-    match form {
-        0 => {
-            io::write_all(STDOUT_FILENO, b" refused");
-        }
-        1 => {
-            io::write_all(STDOUT_FILENO, b" rounds");
-        }
-        2 => {
-            io::write_all(STDOUT_FILENO, b" done");
-        }
-        3 => {
-            io::write_all(STDOUT_FILENO, b" value");
-        }
-        4 => {
-            io::write_all(STDOUT_FILENO, b" sizes");
-        }
-        5 => {
-            io::write_all(STDOUT_FILENO, b" transition");
-        }
-        _ => {
-            io::write_all(STDOUT_FILENO, b" nothing");
-        }
-    }
+// Prints an answer. Sizes are told as the header packs them, other sizes as 0; a negative value as it stands in eight bytes.
+fn tell(reply: Reply) {
+    tell_word(
+        b" refused     rounds      done        value       sizes       transition  nothing     outside     within     ",
+        reply.form,
+    );
+    tell_number(reply.number);
+    tell_number(reply.looked);
 }
 
-// Prints the wanted answer. Sizes are told as the header packs them.
-fn tell_wanted(head: &[u8; 32]) {
-    io::write_all(STDOUT_FILENO, b"wanted");
-    let form = head[1];
-    tell_form(form);
-    if form == Tally::VALUE {
-        tell_value(cases::signed(head, 16));
-        return;
+fn is_same_reply(a: Reply, b: Reply) -> bool {
+    if a.form != b.form {
+        return false;
     }
-    tell_number(eight(head, 16));
-}
-
-// Prints a form and a number that came in place of the wanted answer.
-fn tell_came(form: u8, number: usize) {
-    io::write_all(STDOUT_FILENO, b", came");
-    tell_form(form);
-    tell_number(number);
-    io::write_all(STDOUT_FILENO, b"; ");
-}
-
-// Prints what pick found in place of the wanted answer.
-fn tell_found(found: Found) {
-    match found {
-        Found::At(transition) => tell_came(Tally::TRANSITION, transition),
-        Found::Nothing => tell_came(Tally::NOTHING, 0),
+    if a.number != b.number {
+        return false;
     }
-}
-
-// Prints an answer that came in place of the wanted one. Of sizes the number of nodes is told.
-fn tell_answer(answer: Answer) {
-    match answer {
-        Answer::Refused(number) => tell_came(Tally::REFUSED, cases::wide(number)),
-        Answer::Rounds(count) => tell_came(Tally::ROUNDS, count),
-        Answer::Done => tell_came(Tally::DONE, 0),
-        Answer::Number(value) => {
-            io::write_all(STDOUT_FILENO, b", came value");
-            tell_value(value);
-            io::write_all(STDOUT_FILENO, b"; ");
-        }
-        Answer::Sizes(sizes) => tell_came(Tally::SIZES, sizes.nodes),
-        Answer::Picked(found) => tell_found(found),
-    }
+    a.looked == b.looked
 }
 
 // Is the answer the stored one? If not, both are told.
 fn is_wanted(head: &[u8; 32], answer: Answer) -> bool {
-    if is_answer(head, answer) {
+    let wanted = Reply {
+        form: head[1],
+        number: eight(head, 16),
+        looked: cases::two(head, 2),
+    };
+    let came = reply_of(head, answer);
+    if is_same_reply(wanted, came) {
         return true;
     }
-    tell_wanted(head);
-    tell_answer(answer);
+    io::write_all(STDOUT_FILENO, b"wanted");
+    tell(wanted);
+    io::write_all(STDOUT_FILENO, b", came");
+    tell(came);
+    io::write_all(STDOUT_FILENO, b"; ");
     false
 }
 
@@ -250,8 +234,32 @@ fn call_of(head: &[u8; 32]) -> Call {
         4 => Call::Marks,
         5 => Call::Value(number),
         6 => Call::Pick,
+        7 => Call::FirstOutside,
         _ => Call::Check,
     }
+}
+
+// Is n the stored one? If not, both are told.
+fn is_count(head: &[u8; 32], n: usize) -> bool {
+    let wanted = eight(head, 24);
+    if wanted == n {
+        return true;
+    }
+    io::write_all(STDOUT_FILENO, b"wanted n");
+    tell_number(wanted);
+    io::write_all(STDOUT_FILENO, b", came");
+    tell_number(n);
+    io::write_all(STDOUT_FILENO, b"; ");
+    false
+}
+
+// Is everything lent as stored? If not, that is told.
+fn is_left(store: &[u8], values: &[i32], history: &[u8], marks: &[u8]) -> bool {
+    if is_same_store(store, values, history, marks) {
+        return true;
+    }
+    io::write_all(STDOUT_FILENO, b"a value, an entry or a mark is another; ");
+    false
 }
 
 // Carries out a call; are its answer and everything lent as stored?
@@ -265,21 +273,10 @@ fn is_equal(
     marks: &mut [u8],
 ) -> bool {
     let answer = run::perform(call_of(head), model, values, history, n, marks);
-    let answered = is_wanted(head, answer);
     let count = *n;
-    if count != eight(head, 24) {
-        io::write_all(STDOUT_FILENO, b"wanted n");
-        tell_number(eight(head, 24));
-        io::write_all(STDOUT_FILENO, b", came");
-        tell_number(count);
-        io::write_all(STDOUT_FILENO, b"; ");
-        return false;
-    }
-    if !is_same_store(store, values, history, marks) {
-        io::write_all(STDOUT_FILENO, b"a value, an entry or a mark is another; ");
-        return false;
-    }
-    answered
+    let is_answered = is_wanted(head, answer);
+    let is_counted = is_count(head, count);
+    is_left(store, values, history, marks) && is_answered && is_counted
 }
 
 // Reads the header of a call and the store after it; false at the end of the file.
@@ -363,7 +360,7 @@ fn from_beginning(
     marks: &mut [u8],
     tally: Tally,
 ) -> Outcome
-    requires { ⌜ (length (now values) ≤ 512) × ((length (now history) ≤ 512) × (length (now marks) ≤ 512)) ⌝ }
+    requires { ⌜ (length (now values) ≤ 520) × ((length (now history) ≤ 520) × (length (now marks) ≤ 520)) ⌝ }
 {
     let bytes = store_length(values.len(), history.len(), marks.len());
     if body.len() < bytes {
@@ -386,23 +383,23 @@ fn from_beginning(
     )
 }
 
-// A list on a run that is made of parts of local arrays, with the stored lengths.
+// A list on a run that is made of parts of local arrays, with the stored lengths: 517 values and 512 places at most.
 fn one_list(fd: i32, head: &[u8; 32], model: &[u8], tally: Tally) -> Outcome {
     let variables = cases::two(head, 8);
     let places = cases::two(head, 10);
     let transitions = cases::two(head, 12);
-    if 512 < variables {
+    if 520 < variables {
         return Outcome::End;
     }
-    if 512 < places {
+    if 520 < places {
         return Outcome::End;
     }
-    if 512 < transitions {
+    if 520 < transitions {
         return Outcome::End;
     }
-    let mut values = [0i32; 512];
-    let mut history = [0u8; 512];
-    let mut marks = [0u8; 512];
+    let mut values = [0i32; 520];
+    let mut history = [0u8; 520];
+    let mut marks = [0u8; 520];
     let mut body = [0u8; 4096];
     from_beginning(
         fd,
@@ -427,34 +424,28 @@ fn begun(tally: Tally) -> Tally {
 }
 
 // Reads a list and carries it out on its model, or on its twin.
-fn next_list(fd: i32, of_twin: bool, model: &mut [u8], twin: &mut [u8], tally: Tally) -> Outcome {
+fn next_list(fd: i32, of_twin: bool, files: &mut [u8], tally: Tally) -> Outcome {
     let mut head = [0u8; 32];
     if !cases::is_read(fd, &mut head, 32) {
         return Outcome::End;
     }
     let first = cases::four(&head, 0);
-    let second = cases::four(&head, 4);
-    if model.len() < first {
+    let second = first + cases::four(&head, 4);
+    if files.len() < second {
         return Outcome::End;
     }
-    if twin.len() < second {
-        return Outcome::End;
-    }
-    if !cases::is_read(fd, model, first) {
-        return Outcome::End;
-    }
-    if !cases::is_read(fd, twin, second) {
+    if !cases::is_read(fd, files, second) {
         return Outcome::End;
     }
     if of_twin {
-        one_list(fd, &head, &twin[0..second], begun(tally))
+        one_list(fd, &head, &files[first..second], begun(tally))
     } else {
-        one_list(fd, &head, &model[0..first], begun(tally))
+        one_list(fd, &head, &files[0..first], begun(tally))
     }
 }
 
 // All lists of the file. The turns fall, so the loop ends whatever the file holds.
-fn all_lists(fd: i32, of_twin: bool, model: &mut [u8], twin: &mut [u8]) -> Tally {
+fn all_lists(fd: i32, of_twin: bool, files: &mut [u8]) -> Tally {
     let mut tally = Tally {
         lists: 0,
         calls: 0,
@@ -463,7 +454,7 @@ fn all_lists(fd: i32, of_twin: bool, model: &mut [u8], twin: &mut [u8]) -> Tally
     let mut turns: u64 = 1000000;
     while 0 < turns {
         turns -= 1;
-        match next_list(fd, of_twin, model, twin, tally) {
+        match next_list(fd, of_twin, files, tally) {
             Outcome::End => return tally,
             Outcome::Counted(next) => tally = next,
         }
@@ -474,9 +465,8 @@ fn all_lists(fd: i32, of_twin: bool, model: &mut [u8], twin: &mut [u8]) -> Tally
 // All lists of data/cases, on the models or on their twins.
 fn carried_out(of_twin: bool) -> Tally {
     let fd = cases::open();
-    let mut model = [0u8; 24576];
-    let mut twin = [0u8; 24576];
-    let tally = all_lists(fd, of_twin, &mut model, &mut twin);
+    let mut files = [0u8; 49152];
+    let tally = all_lists(fd, of_twin, &mut files);
     libc::close(fd);
     tally
 }

@@ -1,6 +1,6 @@
 -- The code and the results of an answer, from what the function of crate `run` promises.
 use mathlib.Core.Path.{_≡_, refl, sym, ap, ap₂, _∙_, subst}
-use mathlib.Core.List.{List, [], _∷_}
+use mathlib.Core.List.{List, []}
 use types.Run.{OneOf}
 use denote.Enum.Declared.{tagOf}
 use Prim.Native.Nat.{ℕ, zero, suc, _≤_}
@@ -10,26 +10,27 @@ use mir.Val.{toZ, ofZ, SFits}
 use mir.ValLaws.{toZ-ofZ}
 use lib.IntN.{ℤ}
 use Rattle.results.specs.declared.Found.{Found}
-use Rattle.results.specs.declared.Found.the-variants.{At, Nothing}
 use Rattle.results.specs.Results.{answered, found}
 use Rattle.model.specs.declared.Sizes.{Sizes}
 use Rattle.model.specs.Trees.{System}
 use Rattle.model.specs.Check.{Verdict, verdict}
 use Rattle.model.specs.Check.Verdict.{refusal, accepted}
 use Rattle.semantics.specs.Meanings.{Meaning, meaningOf}
+use Rattle.standing.specs.declared.RangeCheck.{RangeCheck}
 use Rattle.steps.specs.declared.Answer as declared
-use Rattle.steps.specs.declared.Answer.the-variants.{Refused, Picked}
+use Rattle.steps.specs.declared.Answer.the-variants.{Refused, Picked, Outside}
 use Rattle.steps.proofs.Answer.{the-type}
+use Rattle.steps.proofs.Tags.{noneOfPick, noneOfRangeCheck}
 use Rattle.standing.specs.Runs.{Run, Answer, Done, run}
 use Rattle.standing.specs.Runs.Answer.{rounds}
 use Rattle.steps.specs.Answers.{seen, onFile}
 use Rattle.steps.specs.Calls as calls
 use Rattle.run.specs.Lists.{CountWithin, CountBounded}
-use Rattle.run.specs.Promises.{StartPromise, FirePromise, UndoPromise, MarksPromise, ValuePromise, PickPromise}
+use Rattle.run.specs.Promises.{StartPromise, FirePromise, UndoPromise, MarksPromise, ValuePromise, PickPromise, FirstOutsidePromise}
 use Rattle.run.proofs.Cases.{start-cases, fire-cases}
-use Rattle.capi.proofs.Forms.{no-pick}
-use Rattle.capi.specs.Codes.{codeOf, roundsOr, numberOr, foundOver, pickedOr, codedBy, codedRounds, codedNumber, codedPick}
-use Rattle.capi.specs.Promises.{CellBounded, StartCoded, FireCoded, UndoCoded, MarksCoded, ValueCoded, PickCoded}
+use Rattle.capi.proofs.Forms.{no-pick, no-range-check}
+use Rattle.capi.specs.Codes.{codeOf, roundsOr, numberOr, foundOver, pickedOr, codedBy, codedRounds, codedNumber, codedPick, outsideOr, codedOutside}
+use Rattle.capi.specs.Promises.{CellBounded, StartCoded, FireCoded, UndoCoded, MarksCoded, ValueCoded, PickCoded, FirstOutsideCoded}
 
 -- a code 0 is that of a round count
 abbrev Counts : Answer → Type 0
@@ -112,13 +113,29 @@ module _ (m : List ℕ) (values : List ℤ) (history : List ℕ) (n transition f
   unfolding seen codeOf pickedOr
   pick-refused k e = coded k transition found-there (rw e)
 
-  pub pick-found : (f : Found) (t : ℕ) → r ≡ Picked f → f ≡ At t → PickCoded m values history n transition found-there 0 t 1
-  unfolding seen found codeOf foundOver pickedOr
-  pick-found f t e q = coded 0 t 1 (rw (e, q))
+  pub pick-handed : (f : Found) (transition′ found′ : ℕ) → r ≡ Picked f → foundOver transition (found f) ≡ (transition′, found′)
+      → PickCoded m values history n transition found-there 0 transition′ found′
+  unfolding seen codeOf pickedOr
+  pick-handed f transition′ found′ e q = coded 0 transition′ found′ (rw e (ap (answered 0) q))
 
-  pub pick-none : (f : Found) → r ≡ Picked f → f ≡ Nothing → PickCoded m values history n transition found-there 0 transition 0
-  unfolding seen found codeOf foundOver pickedOr
-  pick-none f e q = coded 0 transition 0 (rw (e, q))
-
-  pub pick-other : OneOf (1 ∷ 2 ∷ 3 ∷ 4 ∷ []) (tagOf the-type r) → PickCoded m values history n transition found-there 0 transition found-there
+  pub pick-other : OneOf noneOfPick (tagOf the-type r) → PickCoded m values history n transition found-there 0 transition found-there
   pick-other h = coded 0 transition found-there (no-pick (transition, found-there) r h)
+
+-- first outside, by its answer
+module _ (m : List ℕ) (values : List ℤ) (variable found-there looked : ℕ) (r : declared.Answer) (p : FirstOutsidePromise m values r) where
+  coded-cells : (code variable′ found′ looked′ : ℕ)
+      → codedOutside ((variable, found-there), looked) (seen r) ≡ answered code ((variable′, found′), looked′)
+      → FirstOutsideCoded m values variable found-there looked code variable′ found′ looked′
+  coded-cells code variable′ found′ looked′ e = sym e ∙ ap (codedOutside ((variable, found-there), looked)) p
+
+  pub range-refused : (k : ℕ) → r ≡ Refused k → FirstOutsideCoded m values variable found-there looked k variable found-there looked
+  unfolding seen codeOf outsideOr
+  range-refused k e = coded-cells k variable found-there looked (rw e)
+
+  pub range-handed : (c : RangeCheck) (variable′ found′ : ℕ) → r ≡ Outside c → foundOver variable (found (c .outside)) ≡ (variable′, found′)
+      → FirstOutsideCoded m values variable found-there looked 0 variable′ found′ (c .looked)
+  unfolding seen codeOf outsideOr
+  range-handed c variable′ found′ e q = coded-cells 0 variable′ found′ (c .looked) (rw e (ap (λ p. answered 0 (p, c .looked)) q))
+
+  pub range-other : OneOf noneOfRangeCheck (tagOf the-type r) → FirstOutsideCoded m values variable found-there looked 0 variable found-there looked
+  range-other h = coded-cells 0 variable found-there looked (no-range-check ((variable, found-there), looked) r h)

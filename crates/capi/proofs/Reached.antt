@@ -9,7 +9,7 @@ use Rattle.steps.specs.Answers.{onFile, onFileAnswer}
 use Rattle.steps.specs.Calls as calls
 use Rattle.inspection.specs.Queries as queries
 use Rattle.run.proofs.Reached as runs
-use Rattle.capi.specs.Codes.{codedBy, codedRounds, codedNumber, codedSizes, codedPick}
+use Rattle.capi.specs.Codes.{codedBy, codedRounds, codedNumber, codedSizes, codedPick, codedOutside}
 use Rattle.capi.specs.Theorems.{CallsReached}
 
 answer-of : {d e : Done Store} → d ≡ e → d .answer ≡ e .answer
@@ -55,4 +55,7 @@ calls-reached = record {
   pick = λ m values history n held transition found code transition′ found′ e.
       let p = runs.pick-reached (store (run values history n) held) (verdict m) (onFileAnswer (verdict m) (λ m. queries.pick m (run values history n))) refl in
       (e ∙ ap (codedPick (transition, found)) (answer-of p), left-of p);
+  firstOutside = λ m values history n held variable found looked code variable′ found′ looked′ e.
+      let p = runs.range-reached (store (run values history n) held) (verdict m) (onFileAnswer (verdict m) (λ m. queries.rangeCheck m values)) refl in
+      (e ∙ ap (codedOutside ((variable, found), looked)) (answer-of p), left-of p);
 }

@@ -10,7 +10,7 @@ use lib.ListN.{length}
 use Rattle.results.specs.Results.{Answered, answered, over}
 use Rattle.model.specs.declared.Sizes.{Sizes}
 use Rattle.standing.specs.Runs.{Answer, Done}
-use Rattle.standing.specs.Runs.Answer.{refused, rounds, done, number, sizes, picked}
+use Rattle.standing.specs.Runs.Answer.{refused, rounds, done, number, sizes, picked, outside}
 use Rattle.texts.specs.declared.Typed.{Typed}
 use Rattle.texts.specs.declared.Typed.the-variants.{Refused, Nodes}
 
@@ -22,6 +22,7 @@ codeOf done = 0
 codeOf (number v) = 0
 codeOf (sizes z) = 0
 codeOf (picked t) = 0
+codeOf (outside x looked) = 0
 
 -- the round count where one is answered, else what stood there
 unfoldable pub roundsOr : ℕ → Answer → ℕ
@@ -31,6 +32,7 @@ roundsOr old done = old
 roundsOr old (number v) = old
 roundsOr old (sizes z) = old
 roundsOr old (picked t) = old
+roundsOr old (outside x looked) = old
 
 -- the value where one is answered, else what stood there
 unfoldable pub numberOr : ℤ → Answer → ℤ
@@ -40,6 +42,7 @@ numberOr old done = old
 numberOr old (number v) = v
 numberOr old (sizes z) = old
 numberOr old (picked t) = old
+numberOr old (outside x looked) = old
 
 -- a call without results: undo, marks
 abbrev pub codedBy : {A : Type 0} → Done A → Answered ℕ A
@@ -69,11 +72,12 @@ codedSizes old (rounds n) = answered 0 old
 codedSizes old done = answered 0 old
 codedSizes old (number v) = answered 0 old
 codedSizes old (picked t) = answered 0 old
+codedSizes old (outside x looked) = answered 0 old
 codedSizes old (sizes z) = cond (ltb (length old) sizeCells) (answered 10 old) (answered 0 (over (cellsOf z) old))
 
--- the transition that was picked and 1; where there is none the transition that stood there and 0
+-- what was found and 1; where there is none what stood there and 0
 unfoldable pub foundOver : ℕ → Option ℕ → ℕ × ℕ
-foundOver old (some t) = (t, 1)
+foundOver old (some x) = (x, 1)
 foundOver old none = (old, 0)
 
 -- what pick answers as these two cells, else what stood in `transition` and `found`
@@ -84,10 +88,25 @@ pickedOr old done = old
 pickedOr old (number v) = old
 pickedOr old (sizes z) = old
 pickedOr old (picked t) = foundOver (old .0) t
+pickedOr old (outside x looked) = old
 
 -- a call whose result is a transition, or that there is none, over what stood there: pick
 abbrev pub codedPick : ℕ × ℕ → Answer → Answered ℕ (ℕ × ℕ)
 codedPick old a = answered (codeOf a) (pickedOr old a)
+
+-- `variable`, `found` and `looked` as the check of the values answers them, else what stood there
+unfoldable pub outsideOr : (ℕ × ℕ) × ℕ → Answer → (ℕ × ℕ) × ℕ
+outsideOr old (refused n) = old
+outsideOr old (rounds n) = old
+outsideOr old done = old
+outsideOr old (number v) = old
+outsideOr old (sizes z) = old
+outsideOr old (picked t) = old
+outsideOr old (outside x looked) = (foundOver (old .0 .0) x, looked)
+
+-- a call whose result is a variable, or that there is none, and a count, over what stood there: first outside
+abbrev pub codedOutside : (ℕ × ℕ) × ℕ → Answer → Answered ℕ ((ℕ × ℕ) × ℕ)
+codedOutside old a = answered (codeOf a) (outsideOr old a)
 
 -- a text's answer: the number of the refusal, else 0
 unfoldable pub codeOfText : Typed → ℕ

@@ -12,7 +12,7 @@ use Rattle.steps.specs.Calls as calls
 use Rattle.inspection.specs.Queries as queries
 use Rattle.run.specs.Promises.{seenCheck}
 use Rattle.texts.specs.Texts.{slices, typedIn}
-use Rattle.capi.specs.Codes.{codedBy, codedRounds, codedNumber, codedSizes, codedPick, codedText}
+use Rattle.capi.specs.Codes.{codedBy, codedRounds, codedNumber, codedSizes, codedPick, codedOutside, codedText}
 
 -- the cell of the round count, by the code. 01: "so it is at most F + 1"
 unfoldable pub CellBounded : Verdict → ℕ → ℕ → Type 0
@@ -53,6 +53,12 @@ abbrev pub PickCoded : List ℕ → List ℤ → List ℕ → ℕ → ℕ → �
 PickCoded m values history n transition found code transition′ found′ =
     answered code (transition′, found′)
     ≡ codedPick (transition, found) (onFileAnswer (verdict m) (λ m. queries.pick m (run values history n)))
+
+-- neither the history nor n is lent
+abbrev pub FirstOutsideCoded : List ℕ → List ℤ → ℕ → ℕ → ℕ → ℕ → ℕ → ℕ → ℕ → Type 0
+FirstOutsideCoded m values variable found looked code variable′ found′ looked′ =
+    answered code ((variable′, found′), looked′)
+    ≡ codedOutside ((variable, found), looked) (onFileAnswer (verdict m) (λ m. queries.rangeCheck m values))
 
 abbrev pub TextCoded : List ℕ → List ℕ → List ℕ → List ℤ → ℕ → ℕ → List ℕ → List ℤ → ℕ → Type 0
 TextCoded m text kinds parameters count code kinds′ parameters′ count′ =

@@ -5,10 +5,10 @@ use Prim.Native.Nat.{ℕ}
 use lib.IntN.{ℤ}
 use Rattle.results.specs.Results.{answered}
 use Rattle.standing.specs.Runs.{Store, run, store}
-use Rattle.run.specs.declared.Call.the-variants.{Check, Start, Fire, Undo, Marks, Value, Pick}
+use Rattle.run.specs.declared.Call.the-variants.{Check, Start, Fire, Undo, Marks, Value, Pick, FirstOutside}
 use Rattle.run.specs.Lists.{call}
-use Rattle.capi.specs.Codes.{codedBy, codedRounds, codedNumber, codedSizes, codedPick}
-use Rattle.capi.specs.Promises.{CheckCoded, StartCoded, FireCoded, UndoCoded, MarksCoded, ValueCoded, PickCoded}
+use Rattle.capi.specs.Codes.{codedBy, codedRounds, codedNumber, codedSizes, codedPick, codedOutside}
+use Rattle.capi.specs.Promises.{CheckCoded, StartCoded, FireCoded, UndoCoded, MarksCoded, ValueCoded, PickCoded, FirstOutsideCoded}
 
 -- What each function promises is its call of crate `run`, over a store with all that is lent and the rest as it was: the code is that of
 -- the call's answer, every cell is what the call leaves, and the results are the answer's.
@@ -35,3 +35,8 @@ pub record CallsReached : Type 0 where
       → PickCoded m values history n transition found code transition′ found′
       → (answered code (transition′, found′) ≡ codedPick (transition, found) (call m Pick (store (run values history n) held) .answer))
       × (store (run values history n) held ≡ call m Pick (store (run values history n) held) .left)
+  pub firstOutside : (m : List ℕ) (values : List ℤ) (history : List ℕ) (n : ℕ) (held : List ℕ)
+      (variable found looked code variable′ found′ looked′ : ℕ) → FirstOutsideCoded m values variable found looked code variable′ found′ looked′
+      → (answered code ((variable′, found′), looked′)
+      ≡ codedOutside ((variable, found), looked) (call m FirstOutside (store (run values history n) held) .answer))
+      × (store (run values history n) held ≡ call m FirstOutside (store (run values history n) held) .left)

@@ -1,9 +1,10 @@
 // The calls on a run and on a text for C: 0 and the results, or the number of the refusal and nothing that was lent changed.
 
 ghost use mathlib.Core.Path.{_≡_};
+ghost use Rattle.results.specs.Results as results;
 ghost use Rattle.steps.specs.Answers.{seen};
-ghost use Rattle.capi.specs.Codes.{codeOf, roundsOr, numberOr};
-ghost use Rattle.capi.specs.Promises.{CheckCoded, StartCoded, FireCoded, UndoCoded, MarksCoded, ValueCoded, PickCoded, TextCoded};
+ghost use Rattle.capi.specs.Codes.{codeOf, roundsOr, numberOr, foundOver};
+ghost use Rattle.capi.specs.Promises.{CheckCoded, StartCoded, FireCoded, UndoCoded, MarksCoded, ValueCoded, PickCoded, FirstOutsideCoded, TextCoded};
 use model::Checked;
 use results::Found;
 use steps::Answer;
@@ -50,6 +51,21 @@ fn number_or(old: i32, answer: Answer) -> i32
     match answer {
         Answer::Number(found) => found,
         _ => old,
+    }
+}
+
+// What was found, and 1; where there is none the cell stays, and 0.
+fn hand_out(place: Found, cell: &mut usize, found: &mut u8)
+    ensures { λ _. ⌜ foundOver (now (cell .entry)) (results.found place) ≡ (now (cell .exit), now (found .exit)) ⌝ }
+{
+    match place {
+        Found::At(number) => {
+            *cell = number;
+            *found = 1;
+        }
+        Found::Nothing => {
+            *found = 0;
+        }
     }
 }
 
@@ -165,17 +181,35 @@ pub extern "C" fn gts_pick(
 {
     match run::pick(model, values, history, n) {
         Answer::Refused(number) => number,
-        Answer::Picked(picked) => match picked {
-            Found::At(fireable) => {
-                *transition = fireable;
-                *found = 1;
-                0
-            }
-            Found::Nothing => {
-                *found = 0;
-                0
-            }
-        },
+        Answer::Picked(picked) => {
+            hand_out(picked, transition, found);
+            0
+        }
+        _ => 0,
+    }
+}
+
+// The first variable whose value is outside its ends: found is 1; where there is none found is 0 and the variable stays. looked is how
+// many values were looked at.
+#[no_mangle]
+pub extern "C" fn gts_first_outside(
+    model: &[u8],
+    values: &[i32],
+    variable: &mut usize,
+    found: &mut u8,
+    looked: &mut usize,
+) -> u8
+    ensures { λ r. ⌜ FirstOutsideCoded (now (model .entry)) (now (values .entry)) (now (variable .entry)) (now (found .entry)) (now (looked .entry)) r
+        (now (variable .exit)) (now (found .exit)) (now (looked .exit)) ⌝ }
+{
+    match run::first_outside(model, values) {
+        Answer::Refused(number) => number,
+        Answer::Outside(check) => {
+            *looked = check.looked;
+            let outside = check.outside;
+            hand_out(outside, variable, found);
+            0
+        }
         _ => 0,
     }
 }

@@ -10,16 +10,17 @@ use Rattle.model.specs.declared.Checked.{Checked}
 use Rattle.model.specs.declared.Checked.the-variants.{Refused}
 use Rattle.model.specs.declared.Given.{Given}
 use Rattle.model.specs.declared.Given.the-variants as given
+use Rattle.model.specs.Trees.{sortsOf}
 use Rattle.model.specs.Check.{verdict, expressionGiven, givenAnswer}
 use Rattle.decoding.specs.Decoding.{sortsAfter}
 use Rattle.decoding.specs.Outside.{givenAfter}
-use Rattle.decoding.proofs.SortsRead.{SortsInUse, sorts-refused}
+use Rattle.decoding.proofs.VariablesInUse.{SortsInUse, after-refused}
 
 module _ (m : List ℕ) (ks : List ℕ) (ps : List ℤ) (wanted : ℕ) (left : List ℕ) where
   pub refused-given : (old : List ℕ) (r : Checked) (n : ℕ) → answered r left ≡ sortsAfter (verdict m) old → r ≡ Refused n
       → given.Refused n ≡ givenAfter (verdict m) ks ps wanted
   unfolding givenAfter
-  refused-given old r n e h = ap (λ v. givenAfter v ks ps wanted) (sym (sorts-refused old left r n (verdict m) e h))
+  refused-given old r n e h = ap (λ v. givenAfter v ks ps wanted) (sym (after-refused sortsOf old left r n (verdict m) e h))
 
   pub ready-given : (s : Sizes) (g : Given) → SortsInUse m s left
       → g ≡ givenAnswer (expressionGiven ks ps (take (s .states + s .flows) left) wanted) → g ≡ givenAfter (verdict m) ks ps wanted

@@ -5,6 +5,6 @@ pub mod Handed
 pub mod InUse
 pub mod Places
 pub mod Preparing
-pub mod SortsRead
 pub mod StoredGuards
 pub mod StoredVariables
+pub mod VariablesInUse

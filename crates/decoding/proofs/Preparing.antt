@@ -77,8 +77,8 @@ arrays-same : {a a′ : List ℤ} {b b′ : List ℕ} {c c′ : List (List ℤ)}
 arrays-same p q r s t = λ i. arrays (p i) (q i) (r i) (s i) (t i)
 
 -- the parameters that were read stand in the first cells
-pub parameters-front : (m : List ℕ) (n : ℕ) (old new : List ℤ) → new ≡ parametersAt m (6 + n) n ++ drop n old → take n new ≡ parametersIn byteLayout n m
-parameters-front m n old new e = ap (take n) e ∙ take-at (parametersIn byteLayout n m) (drop n old) n (parameters-length m n (6 + n))
+pub parameters-front : (m : List ℕ) (n : ℕ) (rest new : List ℤ) → new ≡ parametersIn byteLayout n m ++ rest → take n new ≡ parametersIn byteLayout n m
+parameters-front m n rest new e = ap (take n) e ∙ take-at (parametersIn byteLayout n m) rest n (parameters-length m n (6 + n))
 
 -- the variables of an accepted file are those that the walk finds
 module _ (m : List ℕ) (s : Sizes) (ks : List ℕ) (ps : List ℤ) (k : ks ≡ kindsIn byteLayout (s .nodes) m) (p : ps ≡ parametersIn byteLayout (s .nodes) m) where
@@ -93,13 +93,26 @@ pub sorts-asked : (m : List ℕ) (s : Sizes) (ks : List ℕ) → ks ≡ kindsIn 
     → (ps : List ℤ) × VariablesRead ks ps (s .states + s .flows)
 sorts-asked m s ks k e = (parametersIn byteLayout (s .nodes) m, variables-asked m s ks _ k refl e)
 
+-- the parameters and the rows of the variables, from what the functions leave that read them
+pub variables-decoded : (m : List ℕ) (s : Sizes) (ks : List ℕ) (old new : List ℤ) (before after : List (List ℤ)) (place : ℕ)
+    → ks ≡ kindsIn byteLayout (s .nodes) m → new ≡ parametersAt m (6 + s .nodes) (s .nodes) ++ drop (s .nodes) old
+    → ((r : VariablesRead ks (take (s .nodes) new) (s .states + s .flows)) → (place ≡ r .next) × (after ≡ over (variableRows (r .variables)) before))
+    → (t : System) → verdict m ≡ accepted s t
+    → (place ≡ transitionsPlace t)
+    × (new ≡ over (parametersIn byteLayout (s .nodes) m) old)
+    × (after ≡ over (variableRows (variables t)) before)
+variables-decoded m s ks old new before after place k p d t v =
+    let r = d (variables-read m s ks (take (s .nodes) new) k (parameters-front m (s .nodes) (drop (s .nodes) old) new p) t v) in
+    (r .0, p ∙ ap (λ n. parametersIn byteLayout (s .nodes) m ++ drop n old) (sym (parameters-length m (s .nodes) (6 + s .nodes))), r .1)
+
 -- what the functions leave
 pub record Steps (m : List ℕ) (s : Sizes) (ks : List ℕ) (old new : Arrays) (place assertion : ℕ) : Type 0 where
   pub kinds : ks ≡ kindsIn byteLayout (s .nodes) m
-  pub parameters : new .parameters ≡ parametersAt m (6 + s .nodes) (s .nodes) ++ drop (s .nodes) (old .parameters)
+  pub declared : (t : System) → verdict m ≡ accepted s t
+      → (place ≡ transitionsPlace t)
+      × (new .parameters ≡ over (parametersIn byteLayout (s .nodes) m) (old .parameters))
+      × (new .variables ≡ over (variableRows (variables t)) (old .variables))
   pub sorts : (ps : List ℤ) (r : VariablesRead ks ps (s .states + s .flows)) → new .sorts ≡ over (sortsOf (r .variables)) (old .sorts)
-  pub declarations : (r : VariablesRead ks (take (s .nodes) (new .parameters)) (s .states + s .flows))
-      → (place ≡ r .next) × (new .variables ≡ over (variableRows (r .variables)) (old .variables))
   pub nexts : new .nexts ≡ filled ks (take (s .nodes) (new .parameters)) (length ks) (old .nexts)
   pub long : s .nodes ≤ length (old .nexts)
   pub guards : (ts : List Transition) (rest : List ℕ) → length ts ≡ s .transitions → drop place (new .nexts) ≡ nextsOfTransitions ts place ++ rest
@@ -117,7 +130,7 @@ module _ (m : List ℕ) (s : Sizes) (ks : List ℕ) (old new : Arrays) (place as
   fileParameters = parametersIn byteLayout (s .nodes) m
 
   front : take (s .nodes) (new .parameters) ≡ fileParameters
-  front = parameters-front m (s .nodes) (old .parameters) (new .parameters) (h .parameters)
+  front = parameters-front m (s .nodes) _ (new .parameters) (h .declared t v .1)
 
   table : new .nexts ≡ over (nextsOfSystem t) (old .nexts)
   table =
@@ -140,14 +153,13 @@ module _ (m : List ℕ) (s : Sizes) (ks : List ℕ) (old new : Arrays) (place as
   pub steps-decoded : (assertion ≡ assertionPlace t) × (new ≡ decodedOver m s t old)
   unfolding decodedOver
   steps-decoded =
-      let read = variables-read m s ks (take (s .nodes) (new .parameters)) (h .kinds) front t v in
-      let d = h .declarations read in
+      let read = variables-read m s ks fileParameters (h .kinds) refl t v in
+      let d = h .declared t v in
       let g = subst (λ place. (ts : List Transition) (rest : List ℕ) → length ts ≡ s .transitions → drop place (new .nexts) ≡ nextsOfTransitions ts place ++ rest
       → (assertion ≡ place + sizeOfTransitions ts) × (new .guards ≡ over (guardPlaces ts place) (old .guards))) (d .0) (h .guards)
       (t .transitions) others (file .system .numberOfTransitions) entries in (
         g .0,
-        arrays-same (h .parameters ∙ ap (λ n. fileParameters ++ drop n (old .parameters)) (sym (parameters-length m (s .nodes) (6 + s .nodes))))
-            (h .sorts _ read) (d .1) table (g .1),
+        arrays-same (d .1) (h .sorts _ read) (d .2) table (g .1),
       )
 
 -- ---- the whole

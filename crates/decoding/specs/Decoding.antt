@@ -134,7 +134,14 @@ preparedBy m old (refusal n) = answered (Refused n) old
 preparedBy m old (accepted s t) =
     answered (Ready (record { sizes = s; assertion = assertionPlace t })) (decodedOver m s t old)
 
--- the check's answer, and the sorts of an accepted model's variables at the beginning of the cells lent for them
-unfoldable pub sortsAfter : Verdict → List ℕ → Answered Checked (List ℕ)
-sortsAfter (refusal n) old = answered (checked.Refused n) old
-sortsAfter (accepted s t) old = answered (checked.Accepted s) (over (sortsOf (variables t)) old)
+-- the check's answer, and something of each variable of an accepted model at the beginning of the cells lent for it
+unfoldable pub variablesAfter : {A : Type 0} → (List Variable → List A) → Verdict → List A → Answered Checked (List A)
+variablesAfter f (refusal n) old = answered (checked.Refused n) old
+variablesAfter f (accepted s t) old = answered (checked.Accepted s) (over (f (variables t)) old)
+
+-- the sorts; the rows
+abbrev pub sortsAfter : Verdict → List ℕ → Answered Checked (List ℕ)
+sortsAfter = variablesAfter sortsOf
+
+abbrev pub rowsAfter : Verdict → List (List ℤ) → Answered Checked (List (List ℤ))
+rowsAfter = variablesAfter variableRows

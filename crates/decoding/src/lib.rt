@@ -8,14 +8,15 @@ ghost use lib.ListN.{length, drop};
 ghost use Rattle.results.specs.Results.{answered, over};
 ghost use Rattle.kinds.specs.Kinds.{table};
 ghost use Rattle.model.specs.declared.Checked.the-variants.{Accepted};
+ghost use Rattle.model.specs.Trees as trees;
 ghost use Rattle.model.specs.Trees.{Transition, System, sortsOf};
 ghost use Rattle.model.specs.Sizes.{byteLayout};
-ghost use Rattle.model.specs.Check.{kindsIn, answerOf, sortOf, verdict};
+ghost use Rattle.model.specs.Check.{kindsIn, parametersIn, answerOf, sortOf, verdict};
 ghost use Rattle.model.specs.Check.Verdict.{accepted};
 ghost use Rattle.model.specs.Standing.{sizeOfTransitions};
 ghost use Rattle.variables.specs.Rows.{variableRows};
 ghost use Rattle.decoding.specs.NextPlaces.{childrenBy, following, filled};
-ghost use Rattle.decoding.specs.Decoding.{VariablesRead, arrays, assertionPlace, decodedOver, guardPlaces, nextsOfTransitions, preparedBy, sortsAfter};
+ghost use Rattle.decoding.specs.Decoding.{VariablesRead, arrays, assertionPlace, decodedOver, guardPlaces, nextsOfTransitions, preparedBy, rowsAfter, sortsAfter, transitionsPlace};
 ghost use Rattle.decoding.specs.Outside.{givenAfter};
 use model::Checked;
 use model::Given;
@@ -151,6 +152,26 @@ fn guard_places(nexts: &[u16], count: usize, from: usize, guards: &mut [u16]) ->
     at
 }
 
+// The parameters and the variables of an accepted file; the place of its first transition.
+fn decode_variables(
+    model: &[u8],
+    sizes: Sizes,
+    parameters: &mut [i32; Model::MAX_NODES],
+    variables: &mut [[i32; 3]; Model::MAX_VARIABLES],
+) -> usize
+    requires { ⌜ answerOf (verdict (now model)) ≡ Accepted sizes ⌝ }
+    ensures { λ r. ⌜ ((t : System) → verdict (now (model .entry)) ≡ accepted sizes t →
+        (r ≡ transitionsPlace t)
+        × (now (parameters .exit) ≡ over (parametersIn byteLayout (sizes .nodes) (now (model .entry))) (now (parameters .entry)))
+        × (now (variables .exit) ≡ over (variableRows (trees.variables t)) (now (variables .entry)))) ⌝ }
+{
+    let nodes = sizes.nodes;
+    header::parameters_in(model, Model::HEADER + nodes, nodes, parameters);
+    let kinds = kinds_of(model, nodes);
+    let lent = &parameters[..];
+    read_variables(kinds, &lent[..nodes], sizes.states + sizes.flows, variables)
+}
+
 // The decoding of an accepted file; the place of its assertion.
 fn decode(
     model: &[u8],
@@ -169,14 +190,11 @@ fn decode(
         (arrays (now (parameters .entry)) (now (sorts .entry)) (now (variables .entry)) (now (nexts .entry)) (now (guards .entry))))) ⌝ }
 {
     let nodes = sizes.nodes;
-    header::parameters_in(model, Model::HEADER + nodes, nodes, parameters);
+    let transitions = decode_variables(model, sizes, parameters, variables);
     let kinds = kinds_of(model, nodes);
-    let count = sizes.states + sizes.flows;
-    read_sorts(kinds, count, sorts);
+    read_sorts(kinds, sizes.states + sizes.flows, sorts);
     let lent = &parameters[..];
-    let decoded = &lent[..nodes];
-    let transitions = read_variables(kinds, decoded, count, variables);
-    next_places(kinds, decoded, nexts);
+    next_places(kinds, &lent[..nodes], nexts);
     guard_places(nexts, sizes.transitions, transitions, guards)
 }
 
@@ -229,6 +247,20 @@ pub fn sorts_of(model: &[u8], sorts: &mut [u8; Model::MAX_VARIABLES]) -> Checked
         Checked::Accepted(sizes) => {
             let kinds = kinds_of(model, sizes.nodes);
             read_sorts(kinds, sizes.states + sizes.flows, sorts);
+            Checked::Accepted(sizes)
+        }
+    }
+}
+
+// The check of a model file, and the rows of an accepted one's variables.
+pub fn variables_of(model: &[u8], variables: &mut [[i32; 3]; Model::MAX_VARIABLES]) -> Checked
+    ensures { λ r. ⌜ answered r (now (variables .exit)) ≡ rowsAfter (verdict (now (model .entry))) (now (variables .entry)) ⌝ }
+{
+    match check::check(model) {
+        Checked::Refused(number) => Checked::Refused(number),
+        Checked::Accepted(sizes) => {
+            let mut parameters = [0i32; Model::MAX_NODES];
+            decode_variables(model, sizes, &mut parameters, variables);
             Checked::Accepted(sizes)
         }
     }

@@ -2,5 +2,8 @@
 pub mod QueryTests
 pub mod MarksWritten
 pub mod Picking
+pub mod Ranges
+pub mod First
 pub mod Lowest
+pub mod Outside
 pub mod Firing

@@ -1,4 +1,4 @@
--- Marks, value and pick over the meaning of an accepted model and exactly what each is lent.
+-- Marks, value, pick and the check of the values, over the meaning of an accepted model and exactly what each is lent.
 use mathlib.Core.Bool.{true, cond, not}
 use mathlib.Core.List.{List, [], _∷_, _++_}
 use mathlib.Core.Option.{Option, some, none}
@@ -11,8 +11,8 @@ use Rattle.evaluation.specs.declared.Evaluation.the-variants.{Unknown, Failed, 
 use Rattle.evaluation.specs.Numbers.{eqZ, boolean}
 use Rattle.semantics.specs.Meanings.{Meaning}
 use Rattle.standing.specs.Runs.{Run, Answer, Done, answered}
-use Rattle.standing.specs.Runs.Answer.{refused, done, number, picked}
-use Rattle.standing.specs.Holding.{tooShort, holds}
+use Rattle.standing.specs.Runs.Answer.{refused, done, number, picked, outside}
+use Rattle.standing.specs.Holding.{tooShort, firstOutside, lookedAt, holds}
 use Rattle.inspection.specs.declared.Query.{Query}
 use Rattle.inspection.specs.declared.Query.the-variants as kinds
 
@@ -56,6 +56,14 @@ pick m r =
     cond (tooShort m (r .values)) (refused 9)
     (cond (not (holds m r)) (refused 20)
     (picked (firstFireable (marksOf m (r .values)) 0)))
+
+-- First outside: the check of the values, a variable's ends being its range. A3: "It answers that variable's number, or none exactly if
+-- all are within, and how many values it looked at". After the model's numbers it has 9 alone: history, n and marks are not lent, and a
+-- value outside is its answer, not 20.
+unfoldable pub rangeCheck : Meaning → List ℤ → Answer
+rangeCheck m values =
+    cond (tooShort m values) (refused 9)
+    (outside (firstOutside (m .declarations) values 0) (lookedAt (length (m .declarations)) (firstOutside (m .declarations) values 0)))
 
 -- marks, value or pick, with the marks slice as it is left
 unfoldable pub queryOn : Meaning → Query → Run → List ℕ → Done (List ℕ)

@@ -1,20 +1,23 @@
--- The theorems on pick. Proved in proofs/.
+-- The theorems on pick and on the check of the values. Proved in proofs/.
 use mathlib.Core.Bool.{true, false}
-use mathlib.Core.List.{List}
+use mathlib.Core.List.{List, map}
 use mathlib.Core.Logic.{_↔_, _⊎_}
-use mathlib.Core.Option.{some, none}
+use mathlib.Core.Option.{Option, some, none}
 use mathlib.Core.Path.{_≡_}
-use Prim.Native.Nat.{ℕ, _≤_, _<_}
-use lib.IntN.{ℤ}
+use Prim.Native.Nat.{ℕ, suc, _≤_, _<_}
+use lib.Dec.{T}
+use lib.IntN.{ℤ, pos}
+use lib.Signed.{leZ}
 use lib.ListN.{length, getD, take}
 use Rattle.evaluation.specs.declared.Evaluation.the-variants.{Value}
 use Rattle.evaluation.specs.Numbers.{boolean}
+use Rattle.model.specs.Trees.{Variable}
 use Rattle.semantics.specs.Meanings.{Meaning}
 use Rattle.standing.specs.Runs.{Run}
-use Rattle.standing.specs.Runs.Answer.{refused, picked}
-use Rattle.standing.specs.Holding.{tooShort, holds}
+use Rattle.standing.specs.Runs.Answer.{refused, picked, outside}
+use Rattle.standing.specs.Holding.{tooShort, historyHolds, holds}
 use Rattle.steps.specs.Calls.{fire}
-use Rattle.inspection.specs.Queries.{marksOf, pick}
+use Rattle.inspection.specs.Queries.{marksOf, pick, rangeCheck}
 
 -- 01: fireable is mark 1 ("none exactly if no mark is 1"): the transition is below T and its mark is 1
 abbrev pub Fireable : Meaning → List ℤ → ℕ → Type 0
@@ -41,3 +44,38 @@ abbrev pub PickedFires : Type 0
 PickedFires =
     (m : Meaning) (r : Run) (t : ℕ) → pick m r ≡ picked (some t)
     → (k : ℕ) → fire m t r .answer ≡ refused k → (k ≡ 21) ⊎ ((25 ≤ k) × (k ≤ 30))
+
+-- the value of a variable lies within its ends: not below its low end, not above its high end
+abbrev pub InRangeOver : List Variable → List ℤ → ℕ → Type 0
+InRangeOver vs values x =
+    T (leZ (getD (map (λ v. v .low) vs) x (pos 0)) (getD values x (pos 0)))
+    × T (leZ (getD values x (pos 0)) (getD (map (λ v. v .high) vs) x (pos 0)))
+
+abbrev pub InRange : Meaning → List ℤ → ℕ → Type 0
+InRange m values x = InRangeOver (m .declarations) values x
+
+-- On values that 9 does not refuse. A3: "The first value outside its ends, lowest variable first [..]. It answers that variable's number,
+-- or none exactly if all are within, and how many values it looked at: that number plus one, or S+F."
+abbrev pub FirstOutsideExact : Type 0
+FirstOutsideExact =
+    (m : Meaning) (values : List ℤ) → tooShort m values ≡ false
+    → ((x looked : ℕ) → (rangeCheck m values ≡ outside (some x) looked)
+    ↔ ((looked ≡ suc x) × (x < length (m .declarations)) × (InRange m values x → ⊥) × ((k : ℕ) → k < x → InRange m values k)))
+    × ((looked : ℕ) → (rangeCheck m values ≡ outside none looked)
+    ↔ ((looked ≡ length (m .declarations)) × ((x : ℕ) → x < length (m .declarations) → InRange m values x)))
+
+-- The values that were not looked at change nothing: whatever they are, the answer is the same. A3: the check "should not go on when the
+-- second is already wrong". That the code reads no others is its loop (`check_ranges` of standing): a promise cannot speak of reads.
+abbrev pub LookedOnly : Type 0
+LookedOnly =
+    (m : Meaning) (values other : List ℤ) → tooShort m other ≡ false
+    → (x : Option ℕ) (looked : ℕ) → rangeCheck m values ≡ outside x looked
+    → take looked other ≡ take looked values → rangeCheck m other ≡ outside x looked
+
+-- A3: it is "the check of the values behind number 20". On values that 9 does not refuse, a run holds (20 does not refuse it) exactly if
+-- its history holds and the check answers none.
+abbrev pub HoldsByRangeCheck : Type 0
+HoldsByRangeCheck =
+    (m : Meaning) (r : Run) → tooShort m (r .values) ≡ false
+    → (holds m r ≡ true)
+    ↔ ((historyHolds (m .transitions) (r .count) (r .history) ≡ true) × (rangeCheck m (r .values) ≡ outside none (length (m .declarations))))

@@ -1,15 +1,16 @@
-// Marks, value and pick: on a model file.
+// Marks, value, pick and the check of the values: on a model file.
 
 ghost use mathlib.Core.Path.{_≡_};
 ghost use Rattle.model.specs.Check.{verdict};
 ghost use Rattle.engine.specs.Cells.{Loaded};
 ghost use Rattle.standing.specs.Runs.{run, answered};
-ghost use Rattle.steps.specs.Answers.{seen, onFile, OnLoaded};
+ghost use Rattle.steps.specs.Answers.{seen, onFile, onFileAnswer, OnLoaded};
 ghost use Rattle.inspection.specs.Queries as queries;
 ghost use Rattle.inspection.specs.Queries.{queryOn};
 use decoding::Prepared;
 use engine::transitions;
 use evaluation::Evaluation;
+use model::Checked;
 use model::Model;
 use results::Found;
 use steps::Answer;
@@ -254,6 +255,23 @@ pub fn inspect(
                 marks,
                 query,
             )
+        }
+    }
+}
+
+// The check of the values: 9, then the first variable outside its ends, or none. Of the model its variables alone are decoded.
+pub fn first_outside(model: &[u8], values: &[i32]) -> Answer
+    ensures { λ r. ⌜ seen r ≡ onFileAnswer (verdict (now (model .entry))) (λ m. queries.rangeCheck m (now (values .entry))) ⌝ }
+{
+    let mut variables = [[0i32; 3]; Model::MAX_VARIABLES];
+    match decoding::variables_of(model, &mut variables) {
+        Checked::Refused(number) => Answer::Refused(number),
+        Checked::Accepted(sizes) => {
+            let count = sizes.states + sizes.flows;
+            if values.len() < count {
+                return Answer::Refused(9);
+            }
+            Answer::Outside(standing::check_ranges(&variables[..count], values))
         }
     }
 }

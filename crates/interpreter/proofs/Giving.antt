@@ -1,32 +1,22 @@
--- An active assignment: the ends of its variable, the flags and the cell.
+-- An active assignment: the flags and the cell.
 use mathlib.Core.Path.{_≡_, sym, ap, _∙_}
 use mathlib.Core.Bool.{Bool, true, false, not, _||_}
 use mathlib.Core.List.{List}
 use Prim.Native.Nat.{ℕ, _<_, _^_}
 use lib.Dec.{eqb}
 use lib.IntN.{ℤ, pos}
-use lib.Signed.{mag, ltZ, leZ}
+use lib.Signed.{mag}
 use lib.ListN.{getD, set}
 use mir.Syntax.{w32, w64}
 use mir.Val.{toZ, ofZ, SFits}
 use mir.ValLaws.{toZ-ofZ}
 use Rattle.evaluation.specs.Numbers.{representable, eqZ}
 use Rattle.evaluation.proofs.Laws.{eqZ-comm}
-use Rattle.evaluation.proofs.Signed.{read-one, read-both, wide-fits, same-bits}
-use Rattle.syntax.proofs.Parameters.{compared}
+use Rattle.evaluation.proofs.Signed.{read-one, wide-fits, same-bits}
+use Rattle.variables.specs.Rows.{withinEnds}
 use Rattle.interpreter.specs.declared.Gathered.{Gathered}
 use Rattle.interpreter.specs.Instructions.Effect.{gives}
-use Rattle.interpreter.specs.Gathering.{gathering, withinEnds, gather}
-
--- ---- the ends
-
-module _ (lows highs : List ℤ) (x : ℕ) {v low : ℤ} (f : SFits w32 v) (g : SFits w32 low) (l : low ≡ getD lows x (pos 0)) where
-  pub under-low : ltZ (toZ w32 (ofZ w32 v)) (toZ w32 (ofZ w32 low)) ≡ true → false ≡ withinEnds lows highs x v
-  under-low e = rw (sym l, compared f g e)
-
-  pub from-low : ltZ (toZ w32 (ofZ w32 v)) (toZ w32 (ofZ w32 low)) ≡ false → {high : ℤ} → SFits w32 high → high ≡ getD highs x (pos 0)
-      → leZ (toZ w32 (ofZ w32 v)) (toZ w32 (ofZ w32 high)) ≡ withinEnds lows highs x v
-  from-low e h q = rw (sym l, compared f g e, sym q) (read-both leZ f h)
+use Rattle.interpreter.specs.Gathering.{gathering, gather}
 
 -- ---- a flag that was found, or is found now
 

@@ -1,10 +1,9 @@
 -- How the code goes over an instruction: once, in walk order, folding its effects into flags and cells.
-use mathlib.Core.Bool.{Bool, true, false, cond, not, _&&_, _||_}
+use mathlib.Core.Bool.{true, false, cond, not, _||_}
 use mathlib.Core.List.{List, [], _∷_}
 use mathlib.Core.Option.{Option, some, none}
 use Prim.Native.Nat.{ℕ, _+_, _-_}
 use lib.IntN.{ℤ, pos}
-use lib.Signed.{leZ}
 use lib.ListN.{getD, set}
 use Rattle.evaluation.specs.declared.Evaluation.{Evaluation}
 use Rattle.evaluation.specs.declared.Evaluation.the-variants.{Unknown, Failed, Value}
@@ -13,6 +12,7 @@ use Rattle.model.specs.Trees.{Instruction, Instructions, count}
 use Rattle.model.specs.Trees.Instruction.{skip, assign, ifThen, block}
 use Rattle.model.specs.Trees.Instructions.{none as noBranch, more}
 use Rattle.model.specs.Standing.{sizeOf, sizeOfAll}
+use Rattle.variables.specs.Rows.{withinEnds}
 use Rattle.interpreter.specs.declared.Step.{Step}
 use Rattle.interpreter.specs.declared.Gathered.{Gathered}
 use Rattle.interpreter.specs.declared.Fault.{Fault}
@@ -31,10 +31,6 @@ gathering f g = record { found = f; given = g }
 
 abbrev pub nothingFound : Gathered
 nothingFound = record { failed = false; outside = false; conflict = false; fresh = false }
-
--- the value lies within the ends of the variable
-abbrev pub withinEnds : List ℤ → List ℤ → ℕ → ℤ → Bool
-withinEnds lows highs x v = leZ (getD lows x (pos 0)) v && leZ v (getD highs x (pos 0))
 
 -- a variable that has a value keeps it, and a value that differs is a conflict; one that has none takes the value given
 unfoldable pub gather : List ℤ → List ℤ → Effect → Gathering → Gathering

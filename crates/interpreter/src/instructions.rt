@@ -15,7 +15,7 @@ ghost use Rattle.interpreter.specs.Instructions.Effect.{gives};
 ghost use Rattle.expressions.specs.Cells.{valuationOf};
 ghost use Rattle.interpreter.specs.Cells.{InstructionStands, AssignmentStands, TestStands};
 ghost use Rattle.interpreter.specs.Gathering as specs;
-ghost use Rattle.interpreter.specs.Gathering.{gathering, gatherAll, nothingFound, withinEnds, stepped, steppedBy};
+ghost use Rattle.interpreter.specs.Gathering.{gathering, gatherAll, nothingFound, stepped, steppedBy};
 use super::Gathered;
 use super::Step;
 use evaluation::Evaluation;
@@ -26,17 +26,6 @@ use syntax::nodes;
 const ASSIGNMENT: u8 = 17;
 
 const IF_THEN: u8 = 18;
-
-// Does the value lie within the ends of the variable.
-fn is_within(variables: &[[i32; 3]], variable: usize, value: i32) -> bool
-    requires { ⌜ variable < length (now variables) ⌝ }
-    ensures { λ r. ⌜ r ≡ withinEnds (lowsIn (now (variables .entry))) (highsIn (now (variables .entry))) variable value ⌝ }
-{
-    if value < variables::low(variables, variable) {
-        return false;
-    }
-    value <= variables::high(variables, variable)
-}
 
 // Something failed.
 fn fail(found: Gathered) -> Gathered
@@ -61,7 +50,7 @@ fn give(
     requires { ⌜ (variable < length (now given)) × (variable < length (now variables)) ⌝ }
     ensures { λ r. ⌜ gathering r (now (given .exit)) ≡ specs.gather (lowsIn (now (variables .entry))) (highsIn (now (variables .entry))) (gives variable value) (gathering found (now (given .entry))) ⌝ }
 {
-    let outside = found.outside || !is_within(variables, variable, value);
+    let outside = found.outside || !variables::is_within(variables, variable, value);
     let held = given[variable];
     if expressions::is_number(held) {
         return Gathered {

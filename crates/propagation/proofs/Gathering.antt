@@ -19,7 +19,8 @@ use Rattle.interpreter.specs.Instructions.{Effect, any, isFailure, isWithin, is
 use Rattle.interpreter.specs.Instructions.Effect.{fails, gives}
 use Rattle.semantics.specs.Propagation.{isKnown, isNew, extended}
 use Rattle.expressions.specs.Cells.{cellValue, valuationOf}
-use Rattle.interpreter.specs.Gathering.{Gathering, gathering, nothingFound, withinEnds, gather, gatherAll, faultIn}
+use Rattle.variables.specs.Rows.{withinEnds}
+use Rattle.interpreter.specs.Gathering.{Gathering, gathering, nothingFound, gather, gatherAll, faultIn}
 use Rattle.expressions.proofs.Cells.{known-cell, element-set, element-set-other}
 
 -- a number of 32 bits, to a variable that has a cell and ends

@@ -1,7 +1,7 @@
 -- Lines at the beginning of a slice; answers and commands by cases.
 use mathlib.Core.Path.{_≡_, refl, sym, ap, _∙_}
 use mathlib.Core.Bool.{Bool, true, false, cond, not, _&&_, _||_}
-use mathlib.Core.List.{List, [], _∷_}
+use mathlib.Core.List.{List}
 use types.Run.{OneOf, miss}
 use denote.Enum.Declared.{tagOf}
 use Prim.Native.Nat.{ℕ, _≤_}
@@ -12,8 +12,9 @@ use lib.IntN.{ℤ}
 use lib.ListN.{length}
 use Rattle.results.specs.Results.{answered}
 use Rattle.steps.specs.declared.Answer as answer
-use Rattle.steps.specs.declared.Answer.the-variants.{Refused, Rounds, Done, Number, Sizes, Picked}
+use Rattle.steps.specs.declared.Answer.the-variants.{Refused, Rounds, Done, Number, Sizes, Picked, Outside}
 use Rattle.steps.proofs.Answer.{the-type}
+use Rattle.steps.proofs.Tags.{allButRefused, noneOfMoves, noneOfMarks}
 use Rattle.steps.proofs.Tests.{neither}
 use Rattle.run.specs.declared.Call.the-variants as calls
 use Rattle.standing.specs.Runs.{Store, Answer}
@@ -67,16 +68,17 @@ module _ {a : answer.Answer} {o : Output} (out : List ℕ) (values : List ℤ) (
   unfolding runText seen
   run-done e p = rw e (line-printed (room valueWidth (length values)) (backText values) out h p)
 
--- the other answers are none of start, fire and undo
-pub run-other : (a : answer.Answer) (out : List ℕ) (values : List ℤ) → OneOf (3 ∷ 4 ∷ 5 ∷ []) (tagOf the-type a)
+-- the other answers are none of start, fire and undo, by their tags
+pub run-other : (a : answer.Answer) (out : List ℕ) (values : List ℤ) → OneOf noneOfMoves (tagOf the-type a)
     → writtenInto (Length 0) out ≡ textInto (runText (seen a) values) out
 unfolding runText seen
-run-other (Refused n) out values h = absurd (miss (3 ∷ 4 ∷ 5 ∷ []) 0 tt h)
-run-other (Rounds n) out values h = absurd (miss (3 ∷ 4 ∷ 5 ∷ []) 1 tt h)
-run-other Done out values h = absurd (miss (3 ∷ 4 ∷ 5 ∷ []) 2 tt h)
+run-other (Refused n) out values h = absurd (miss noneOfMoves 0 tt h)
+run-other (Rounds n) out values h = absurd (miss noneOfMoves 1 tt h)
+run-other Done out values h = absurd (miss noneOfMoves 2 tt h)
 run-other (Number v) out values h = refl
 run-other (Sizes z) out values h = refl
 run-other (Picked f) out values h = refl
+run-other (Outside c) out values h = refl
 
 module _ {a : answer.Answer} {o : Output} (out : List ℕ) (marks : List ℕ) (h : room markWidth (length marks) ≤ length out) where
   pub look-refused : {n : ℕ} → a ≡ Refused n → o ≡ lineInto (room markWidth 0) (refusalText n) out
@@ -90,25 +92,27 @@ module _ {a : answer.Answer} {o : Output} (out : List ℕ) (marks : List ℕ) (h
   look-done e p = rw e (line-printed (room markWidth (length marks)) (marksText marks) out h p)
 
 -- the other answers are none of marks
-pub look-other : (a : answer.Answer) (out marks : List ℕ) → OneOf (1 ∷ 3 ∷ 4 ∷ 5 ∷ []) (tagOf the-type a)
+pub look-other : (a : answer.Answer) (out marks : List ℕ) → OneOf noneOfMarks (tagOf the-type a)
     → writtenInto (Length 0) out ≡ textInto (lookText (seen a) marks) out
 unfolding lookText seen
-look-other (Refused n) out marks h = absurd (miss (1 ∷ 3 ∷ 4 ∷ 5 ∷ []) 0 tt h)
+look-other (Refused n) out marks h = absurd (miss noneOfMarks 0 tt h)
 look-other (Rounds n) out marks h = refl
-look-other Done out marks h = absurd (miss (1 ∷ 3 ∷ 4 ∷ 5 ∷ []) 2 tt h)
+look-other Done out marks h = absurd (miss noneOfMarks 2 tt h)
 look-other (Number v) out marks h = refl
 look-other (Sizes z) out marks h = refl
 look-other (Picked f) out marks h = refl
+look-other (Outside c) out marks h = refl
 
 -- what is not refused is accepted
-pub no-refusal : (a : answer.Answer) → OneOf (1 ∷ 2 ∷ 3 ∷ 4 ∷ 5 ∷ []) (tagOf the-type a) → isAccepted (seen a) ≡ true
+pub no-refusal : (a : answer.Answer) → OneOf allButRefused (tagOf the-type a) → isAccepted (seen a) ≡ true
 unfolding isAccepted seen
-no-refusal (Refused n) h = absurd (miss (1 ∷ 2 ∷ 3 ∷ 4 ∷ 5 ∷ []) 0 tt h)
+no-refusal (Refused n) h = absurd (miss allButRefused 0 tt h)
 no-refusal (Rounds n) h = refl
 no-refusal Done h = refl
 no-refusal (Number v) h = refl
 no-refusal (Sizes z) h = refl
 no-refusal (Picked f) h = refl
+no-refusal (Outside c) h = refl
 
 -- ---- a slice that is too short: nothing is done
 

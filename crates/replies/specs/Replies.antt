@@ -7,7 +7,7 @@ use lib.IntN.{ℤ}
 use Rattle.results.specs.Results.{Answered, answered}
 use Rattle.run.specs.declared.Call.the-variants as calls
 use Rattle.standing.specs.Runs.{Store, Answer, Done}
-use Rattle.standing.specs.Runs.Answer.{refused, rounds, done, number, sizes, picked}
+use Rattle.standing.specs.Runs.Answer.{refused, rounds, done, number, sizes, picked, outside}
 use Rattle.run.specs.Lists.{call}
 use Rattle.commands.specs.declared.Command.{Command}
 use Rattle.commands.specs.declared.Command.the-variants.{Fire, Undo, Marks, Unknown}
@@ -19,7 +19,7 @@ Reply = Answered (List ℕ) Store
 
 -- ---- an answer's line
 
--- of start, fire and undo, with the values left; the last three are no answers of theirs
+-- of start, fire and undo, with the values left; the last four are no answers of theirs
 unfoldable pub runText : Answer → List ℤ → List ℕ
 runText (refused n) values = refusalText n
 runText (rounds count) values = okText count values
@@ -27,6 +27,7 @@ runText done values = backText values
 runText (number v) values = []
 runText (sizes z) values = []
 runText (picked t) values = []
+runText (outside x looked) values = []
 
 abbrev pub runReply : Done Store → Reply
 runReply d = answered (runText (d .answer) (d .left .run .values)) (d .left)
@@ -39,6 +40,7 @@ lookText done marks = marksText marks
 lookText (number v) marks = []
 lookText (sizes z) marks = []
 lookText (picked t) marks = []
+lookText (outside x looked) marks = []
 
 abbrev pub lookReply : Done Store → Reply
 lookReply d = answered (lookText (d .answer) (d .left .marks)) (d .left)
@@ -67,6 +69,7 @@ isAccepted done = true
 isAccepted (number v) = true
 isAccepted (sizes z) = true
 isAccepted (picked t) = true
+isAccepted (outside x looked) = true
 
 abbrev pub isStarted : List ℕ → Store → Bool
 isStarted m s = isAccepted (call m calls.Start s .answer)

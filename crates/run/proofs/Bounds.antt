@@ -24,13 +24,13 @@ use Rattle.semantics.proofs.Rounds.{rounds-bounded-tree}
 use Rattle.run.specs.declared.Call.{Call}
 use Rattle.run.specs.declared.Call.the-variants as calls
 use Rattle.standing.specs.Runs.{Store, Answer, Done}
-use Rattle.standing.specs.Runs.Answer.{refused, rounds, done, number, sizes, picked}
+use Rattle.standing.specs.Runs.Answer.{refused, rounds, done, number, sizes, picked, outside}
 use Rattle.steps.specs.Calls.{isFired, initial}
 use Rattle.run.specs.Lists.{callOn, callBy, call, CountWithin, CountBounded, Promise}
 use Rattle.steps.proofs.Tests.{clash}
 use Rattle.steps.proofs.Outcomes.{fired-left, begun-left}
 use Rattle.steps.proofs.StepTests.{count-within}
-use Rattle.run.proofs.Cases.{start-cases, fire-cases, undo-cases, marks-cases, value-cases, pick-cases}
+use Rattle.run.proofs.Cases.{start-cases, fire-cases, undo-cases, marks-cases, value-cases, pick-cases, range-cases}
 
 -- ---- rounds that are answered come of a settled assertion
 
@@ -88,6 +88,8 @@ module _ (t : System) (w : WellFormed t) (count : ℕ) where
       value-cases (meaningOf t) (s .run) x (λ a. a ≡ rounds count → Within) (λ k o e. absurd (no-rounds k count e)) (λ h e. absurd (no-rounds 20 count e)) (λ e. clash cc) e
   call-within z calls.Pick s e =
       pick-cases (meaningOf t) (s .run) (λ a. a ≡ rounds count → Within) (λ k o e. absurd (no-rounds k count e)) (λ h e. absurd (no-rounds 20 count e)) (λ e. clash cc) e
+  call-within z calls.FirstOutside s e =
+      range-cases (meaningOf t) (s .run .values) (λ a. a ≡ rounds count → Within) (λ k o e. absurd (no-rounds k count e)) (λ x looked e. clash cc) e
 
 -- ---- on a file
 
@@ -99,6 +101,7 @@ within-by flows done h = tt
 within-by flows (number v) h = tt
 within-by flows (sizes z) h = tt
 within-by flows (picked t) h = tt
+within-by flows (outside x looked) h = tt
 
 module _ (m : List ℕ) (bytes : Bytes m) where
   bounded-by : (c : Call) (s : Store) (a : Answer) (v : Verdict) → verdict m ≡ v → a ≡ callBy v c s .answer → CountBounded v a

@@ -14,9 +14,9 @@ use Rattle.semantics.specs.declared.Firing.the-variants.{Disabled, GuardFailed,
 use Rattle.semantics.specs.Meanings.{Meaning}
 use Rattle.semantics.specs.Firing.{fired, begun}
 use Rattle.standing.specs.Runs.{Run, Answer, Done, run, answered}
-use Rattle.standing.specs.Runs.Answer.{refused, rounds, done, number, picked}
+use Rattle.standing.specs.Runs.Answer.{refused, rounds, done, number, picked, outside}
 use Rattle.standing.specs.Holding.{tooShort, holds}
-use Rattle.inspection.specs.Queries.{marksOf, marks, value, firstFireable, pick}
+use Rattle.inspection.specs.Queries.{marksOf, marks, value, firstFireable, pick, rangeCheck}
 use Rattle.steps.specs.Calls.{answerOf, isFired, firedInto, initial, start, fire, replay, undoneBy, undo}
 use Rattle.steps.proofs.Tests.{by-test}
 use Rattle.steps.proofs.FaultNumbers.{action-number, assertion-number}
@@ -100,3 +100,8 @@ module _ (m : Meaning) (r : Run) where
   pick-cases P refusal stale f =
       by-test P (tooShort m (r .values)) _ _ (λ e. refusal 9 (omega arith)) (λ long.
       by-test P (not (holds m r)) _ _ (λ e. stale (not-true (holds m r) e)) (λ held. f))
+
+pub range-cases : (m : Meaning) (values : List ℤ) (P : Answer → Type 0) → ((k : ℕ) → Other k → P (refused k))
+    → ((x : Option ℕ) (looked : ℕ) → P (outside x looked)) → P (rangeCheck m values)
+unfolding rangeCheck
+range-cases m values P refusal f = by-test P (tooShort m values) _ _ (λ e. refusal 9 (omega arith)) (λ long. f _ _)

@@ -1,7 +1,7 @@
 -- The history and the count follow the answer: a call as a whole from its answer and the values that it leaves.
 use mathlib.Core.Path.{_≡_, refl, sym, ap, _∙_}
 use mathlib.Core.Bool.{Bool, true, false, cond}
-use mathlib.Core.List.{List, [], _∷_}
+use mathlib.Core.List.{List, []}
 use types.Run.{OneOf, miss}
 use denote.Enum.Declared.{tagOf}
 use Prim.Native.Nat.{ℕ, suc, _+_, _-_}
@@ -15,14 +15,15 @@ use Rattle.model.specs.Check.Verdict.{refusal, accepted}
 use Rattle.steps.specs.declared.Move.the-variants.{Start, Fire, Undo}
 use Rattle.standing.specs.Runs.{Run, Answer, run, answered}
 use Rattle.standing.specs.Runs as runs
-use Rattle.standing.specs.Runs.Answer.{refused, rounds, done, number, sizes, picked}
+use Rattle.standing.specs.Runs.Answer.{refused, rounds, done, number, sizes, picked, outside}
 use Rattle.standing.specs.Holding.{tooShort}
 use Rattle.steps.specs.Calls as calls
 use Rattle.steps.specs.Calls.{answerOf, isFired, initial, stepOn, valuesOf}
 use Rattle.steps.specs.Answers.{onFile, seen}
 use Rattle.steps.specs.declared.Answer as declared
-use Rattle.steps.specs.declared.Answer.the-variants.{Refused, Rounds, Done, Number, Sizes, Picked}
+use Rattle.steps.specs.declared.Answer.the-variants.{Refused, Rounds, Done, Number, Sizes, Picked, Outside}
 use Rattle.steps.proofs.Answer.{the-type}
+use Rattle.steps.proofs.Tags.{allButRounds, allButDone}
 use Rattle.run.proofs.Cases.{start-cases, fire-cases, undo-cases}
 
 -- ---- what is recorded after an answer
@@ -35,6 +36,7 @@ afterRounds done new old = old
 afterRounds (number v) new old = old
 afterRounds (sizes z) new old = old
 afterRounds (picked t) new old = old
+afterRounds (outside x looked) new old = old
 
 unfoldable pub countAfterUndo : Answer → ℕ → ℕ
 countAfterUndo (refused k) n = n
@@ -43,6 +45,7 @@ countAfterUndo done n = n - 1
 countAfterUndo (number v) n = n
 countAfterUndo (sizes z) n = n
 countAfterUndo (picked t) n = n
+countAfterUndo (outside x looked) n = n
 
 module _ (history : List ℕ) (n : ℕ) where
   abbrev afterStart : runs.Done (List ℤ) → runs.Done Run
@@ -128,24 +131,26 @@ module _ (v : Verdict) (values new : List ℤ) (history : List ℕ) (n : ℕ) (a
 
 -- ---- answers of the code that leave the history and the count, by their tags
 
-pub no-rounds : {A : Type 0} (a : declared.Answer) → OneOf (0 ∷ 2 ∷ 3 ∷ 4 ∷ 5 ∷ []) (tagOf the-type a) → (new old : A)
+pub no-rounds : {A : Type 0} (a : declared.Answer) → OneOf allButRounds (tagOf the-type a) → (new old : A)
     → afterRounds (seen a) new old ≡ old
 unfolding seen afterRounds
 no-rounds (Refused k) h new old = refl
-no-rounds (Rounds k) h new old = absurd (miss (0 ∷ 2 ∷ 3 ∷ 4 ∷ 5 ∷ []) 1 tt h)
+no-rounds (Rounds k) h new old = absurd (miss allButRounds 1 tt h)
 no-rounds Done h new old = refl
 no-rounds (Number v) h new old = refl
 no-rounds (Sizes z) h new old = refl
 no-rounds (Picked f) h new old = refl
+no-rounds (Outside c) h new old = refl
 
-pub not-undone : (a : declared.Answer) → OneOf (0 ∷ 1 ∷ 3 ∷ 4 ∷ 5 ∷ []) (tagOf the-type a) → (n : ℕ) → countAfterUndo (seen a) n ≡ n
+pub not-undone : (a : declared.Answer) → OneOf allButDone (tagOf the-type a) → (n : ℕ) → countAfterUndo (seen a) n ≡ n
 unfolding seen countAfterUndo
 not-undone (Refused k) h n = refl
 not-undone (Rounds k) h n = refl
-not-undone Done h n = absurd (miss (0 ∷ 1 ∷ 3 ∷ 4 ∷ 5 ∷ []) 2 tt h)
+not-undone Done h n = absurd (miss allButDone 2 tt h)
 not-undone (Number v) h n = refl
 not-undone (Sizes z) h n = refl
 not-undone (Picked f) h n = refl
+not-undone (Outside c) h n = refl
 
 -- ---- the code's answers on a file
 
@@ -158,7 +163,7 @@ module _ (v : Verdict) (values new : List ℤ) (history : List ℕ) (n : ℕ) (r
         let zero-count : afterRounds (seen r) 0 n ≡ 0 = ap (λ x. afterRounds (seen x) 0 n) q in
         rw zero-count at (start-on-file v values new history n (seen r) e)
 
-    pub start-kept : OneOf (0 ∷ 2 ∷ 3 ∷ 4 ∷ 5 ∷ []) (tagOf the-type r)
+    pub start-kept : OneOf allButRounds (tagOf the-type r)
         → answered (seen r) (run new history n) ≡ onFile v (λ m. calls.start m (run values history n)) (run values history n)
     start-kept h = rw (no-rounds r h 0 n) at (start-on-file v values new history n (seen r) e)
 
@@ -171,7 +176,7 @@ module _ (v : Verdict) (values new : List ℤ) (history : List ℕ) (n : ℕ) (r
         let entered : afterRounds (seen r) (set history n t) history ≡ set history n t = ap (λ x. afterRounds (seen x) (set history n t) history) q in
         rw (one-more, entered) at (fire-on-file v values new history n (seen r) t e)
 
-    pub fire-kept : OneOf (0 ∷ 2 ∷ 3 ∷ 4 ∷ 5 ∷ []) (tagOf the-type r)
+    pub fire-kept : OneOf allButRounds (tagOf the-type r)
         → answered (seen r) (run new history n) ≡ onFile v (λ m. calls.fire m t (run values history n)) (run values history n)
     fire-kept h =
         rw (no-rounds r h (suc n) n, no-rounds r h (set history n t) history) at (fire-on-file v values new history n (seen r) t e)
@@ -184,6 +189,6 @@ module _ (v : Verdict) (values new : List ℤ) (history : List ℕ) (n : ℕ) (r
         let one-less : countAfterUndo (seen r) n ≡ n - 1 = ap (λ x. countAfterUndo (seen x) n) q in
         rw one-less at (undo-on-file v values new history n (seen r) e)
 
-    pub undo-kept : OneOf (0 ∷ 1 ∷ 3 ∷ 4 ∷ 5 ∷ []) (tagOf the-type r)
+    pub undo-kept : OneOf allButDone (tagOf the-type r)
         → answered (seen r) (run new history n) ≡ onFile v (λ m. calls.undo m (run values history n)) (run values history n)
     undo-kept h = rw (not-undone r h n) at (undo-on-file v values new history n (seen r) e)

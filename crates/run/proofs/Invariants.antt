@@ -16,7 +16,7 @@ use Rattle.semantics.specs.declared.Firing.the-variants.{Fired}
 use Rattle.semantics.specs.Meanings.{Meaning, meaningOf}
 use Rattle.semantics.specs.Firing as firing
 use Rattle.run.specs.declared.Call.{Call}
-use Rattle.run.specs.declared.Call.the-variants.{Check, Start, Fire, Undo, Marks, Value, Pick}
+use Rattle.run.specs.declared.Call.the-variants.{Check, Start, Fire, Undo, Marks, Value, Pick, FirstOutside}
 use Rattle.standing.specs.Runs.{Run, Store, Answer, Done, run, answered}
 use Rattle.standing.specs.Runs.Answer.{refused, rounds}
 use Rattle.standing.specs.Holding.{tooShort, holds}
@@ -25,7 +25,7 @@ use Rattle.run.specs.Lists.{callOn, callBy, call, Performed}
 use Rattle.run.specs.Lists.Performed.{nothing, next}
 use Rattle.run.specs.Theorems.{NoneIs, NeverAfterStart}
 use Rattle.steps.proofs.Tests.{clash}
-use Rattle.run.proofs.Cases.{Other, start-cases, fire-cases, undo-cases, marks-cases, value-cases, pick-cases}
+use Rattle.run.proofs.Cases.{Other, start-cases, fire-cases, undo-cases, marks-cases, value-cases, pick-cases, range-cases}
 
 -- what holds of the run after an accepted start and stays with each accepted call; under it number n is not met
 pub record Invariant (n : ℕ) (m : Meaning) : Type 1 where
@@ -82,6 +82,7 @@ module _ (n : ℕ) (other : (k : ℕ) → Other k → k ≡ n → ⊥) where
       pick-cases m (s .run) Not (λ k o. not-refused k (other k o)) (λ e. not-refused 20 (i .stale (s .run) h e)) (λ e. clash cc),
       h,
     )
+    stays z FirstOutside s h = (range-cases m (s .run .values) Not (λ k o. not-refused k (other k o)) (λ x looked e. clash cc), h)
 
     begins : (r : Run) (count : ℕ) → start m r .answer ≡ rounds count → i .Holds (start m r .left)
     begins r count =

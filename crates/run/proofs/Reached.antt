@@ -8,7 +8,7 @@ use Rattle.model.specs.Check.{Verdict, verdict, answerOf}
 use Rattle.model.specs.Check.Verdict.{refusal, accepted}
 use Rattle.semantics.specs.Meanings.{Meaning, meaningOf}
 use Rattle.run.specs.declared.Call.{Call}
-use Rattle.run.specs.declared.Call.the-variants.{Check, Start, Fire, Undo, Marks, Value, Pick}
+use Rattle.run.specs.declared.Call.the-variants.{Check, Start, Fire, Undo, Marks, Value, Pick, FirstOutside}
 use Rattle.standing.specs.Runs.{Run, Store, Answer, Done, run, store, answered}
 use Rattle.steps.specs.Answers.{seen, onFile, onFileAnswer}
 use Rattle.steps.specs.Calls as calls
@@ -61,6 +61,10 @@ module _ (s : Store) where
   unfolding callOn
   pick-reached = answer-reached Pick (λ m. queries.pick m (s .run)) (λ z m. refl)
 
+  pub range-reached : (v : Verdict) (a : Answer) → a ≡ onFileAnswer v (λ m. queries.rangeCheck m (s .run .values)) → answered a s ≡ callBy v FirstOutside s
+  unfolding callOn
+  range-reached = answer-reached FirstOutside (λ m. queries.rangeCheck m (s .run .values)) (λ z m. refl)
+
 -- ---- the calls that are lent the run, on a file
 
 module _ (m : List ℕ) (s : Store) (a : Answer) (left : Run) where
@@ -93,6 +97,7 @@ calls-reached = record {
   marks = λ m values history n held r held′ e. marks-reached (store (run values history n) held) (verdict m) (seen r) held′ e;
   value = λ m values history n x held r e. value-reached (store (run values history n) held) x (verdict m) (seen r) e;
   pick = λ m values history n held r e. pick-reached (store (run values history n) held) (verdict m) (seen r) e;
+  firstOutside = λ m values history n held r e. range-reached (store (run values history n) held) (verdict m) (seen r) e;
 }
 
 pub performances-exist : PerformancesExist

@@ -8,9 +8,9 @@ use Rattle.model.specs.Check.{Verdict, verdict}
 use Rattle.model.specs.Check.Verdict.{refusal, accepted}
 use Rattle.semantics.specs.Meanings.{Meaning, meaningOf}
 use Rattle.run.specs.declared.Call.{Call}
-use Rattle.run.specs.declared.Call.the-variants.{Check, Start, Fire, Undo, Marks, Value, Pick}
+use Rattle.run.specs.declared.Call.the-variants.{Check, Start, Fire, Undo, Marks, Value, Pick, FirstOutside}
 use Rattle.standing.specs.Runs.{Run, Store, Answer, Done, answered, withRun, withMarks}
-use Rattle.standing.specs.Runs.Answer.{refused, rounds, done, number, sizes, picked}
+use Rattle.standing.specs.Runs.Answer.{refused, rounds, done, number, sizes, picked, outside}
 use Rattle.steps.specs.Calls as calls
 use Rattle.inspection.specs.Queries as queries
 
@@ -29,6 +29,7 @@ callOn z m Undo s = onRun s (calls.undo m (s .run))
 callOn z m Marks s = onMarks s (queries.marks m (s .run) (s .marks))
 callOn z m (Value x) s = answered (queries.value m x (s .run)) s
 callOn z m Pick s = answered (queries.pick m (s .run)) s
+callOn z m FirstOutside s = answered (queries.rangeCheck m (s .run .values)) s
 
 unfoldable pub callBy : Verdict → Call → Store → Done Store
 callBy (refusal n) c s = answered (refused n) s
@@ -51,6 +52,7 @@ CountWithin flows done = Unit {0}
 CountWithin flows (number v) = Unit {0}
 CountWithin flows (sizes z) = Unit {0}
 CountWithin flows (picked t) = Unit {0}
+CountWithin flows (outside x looked) = Unit {0}
 
 -- the same on a model file
 unfoldable pub CountBounded : Verdict → Answer → Type 0

@@ -50,6 +50,10 @@ ValuePromise m values history n x r = seen r ≡ onFileAnswer (verdict m) (λ m.
 abbrev pub PickPromise : List ℕ → List ℤ → List ℕ → ℕ → declared.Answer → Type 0
 PickPromise m values history n r = seen r ≡ onFileAnswer (verdict m) (λ m. queries.pick m (run values history n))
 
+-- neither the history nor n is lent
+abbrev pub FirstOutsidePromise : List ℕ → List ℤ → declared.Answer → Type 0
+FirstOutsidePromise m values r = seen r ≡ onFileAnswer (verdict m) (λ m. queries.rangeCheck m values)
+
 -- one call, given by value, over all that is lent
 abbrev pub PerformPromise : List ℕ → Call → Store → declared.Answer → Store → Type 0
 PerformPromise m c s r s′ = Promise m c s (answered (seen r) s′) × CountBounded (verdict m) (seen r)

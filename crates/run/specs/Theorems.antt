@@ -6,13 +6,13 @@ use lib.IntN.{ℤ}
 use Rattle.model.specs.declared.Checked.{Checked}
 use Rattle.model.specs.Theorems.{Bytes, Accepted, ShuffledFile}
 use Rattle.run.specs.declared.Call.{Call}
-use Rattle.run.specs.declared.Call.the-variants.{Check, Start, Fire, Undo, Marks, Value, Pick}
+use Rattle.run.specs.declared.Call.the-variants.{Check, Start, Fire, Undo, Marks, Value, Pick, FirstOutside}
 use Rattle.standing.specs.Runs.{Store, Done, run, store, answered}
 use Rattle.standing.specs.Runs.Answer.{refused, rounds}
 use Rattle.steps.specs.declared.Answer as declared
 use Rattle.run.specs.Lists.{callsOf, Promise, Performed}
 use Rattle.steps.specs.Answers.{seen}
-use Rattle.run.specs.Promises.{seenCheck, CheckPromise, StartPromise, FirePromise, UndoPromise, MarksPromise, ValuePromise, PickPromise}
+use Rattle.run.specs.Promises.{seenCheck, CheckPromise, StartPromise, FirePromise, UndoPromise, MarksPromise, ValuePromise, PickPromise, FirstOutsidePromise}
 
 -- The functions carry out a list: what each promises of its answer and of what it is lent is the promise of its call, the rest of the
 -- store being as it was. 01: "Every call takes what it uses of this as the calls before, refused or not, left it".
@@ -35,6 +35,9 @@ pub record CallsReached : Type 0 where
       → Promise m (Value x) (store (run values history n) held) (answered (seen r) (store (run values history n) held))
   pub pick : (m : List ℕ) (values : List ℤ) (history : List ℕ) (n : ℕ) (held : List ℕ) (r : declared.Answer) → PickPromise m values history n r
       → Promise m Pick (store (run values history n) held) (answered (seen r) (store (run values history n) held))
+  pub firstOutside : (m : List ℕ) (values : List ℤ) (history : List ℕ) (n : ℕ) (held : List ℕ) (r : declared.Answer)
+      → FirstOutsidePromise m values r
+      → Promise m FirstOutside (store (run values history n) held) (answered (seen r) (store (run values history n) held))
 
 -- every list has results that the promises allow
 abbrev pub PerformancesExist : Type 0
@@ -42,7 +45,7 @@ PerformancesExist = (m : List ℕ) (cs : List Call) (s : Store) → Performed m 
 
 -- 01, demand 3: "Each answer, and after each call n and every cell, are equal for both and are what these definitions give along the
 -- list. That is one claim about the whole list, not one for each call." A1: "Pick then joins the calls whose whole answer no
--- reordering changes": it is a Call.
+-- reordering changes": it is a Call, as is first outside (A3).
 abbrev pub OrderIndependent : Type 0
 OrderIndependent =
     (m m′ : List ℕ) → Bytes m → Accepted m → ShuffledFile m m′ → (cs : List Call) (s : Store) (rs rs′ : List (Done Store))

@@ -1,7 +1,7 @@
 // The calls on a run.
 
 ghost use Rattle.standing.specs.Runs.{run, store};
-ghost use Rattle.run.specs.Promises.{CheckPromise, StartPromise, FirePromise, UndoPromise, MarksPromise, ValuePromise, PickPromise, PerformPromise};
+ghost use Rattle.run.specs.Promises.{CheckPromise, StartPromise, FirePromise, UndoPromise, MarksPromise, ValuePromise, PickPromise, FirstOutsidePromise, PerformPromise};
 use inspection::Query;
 use model::Checked;
 use steps::Answer;
@@ -17,6 +17,7 @@ pub enum Call {
     Marks,
     Value(usize),
     Pick,
+    FirstOutside,
 }
 
 // The check of a model: its five sizes.
@@ -97,6 +98,13 @@ pub fn pick(model: &[u8], values: &[i32], history: &[u8], n: usize) -> Answer
     inspection::inspect(model, values, history, n, &mut [0u8; 0], Query::Pick)
 }
 
+// The first variable whose value is outside its ends or none, and how many values were looked at. The values alone are lent.
+pub fn first_outside(model: &[u8], values: &[i32]) -> Answer
+    ensures { λ r. ⌜ FirstOutsidePromise (now (model .entry)) (now (values .entry)) r ⌝ }
+{
+    inspection::first_outside(model, values)
+}
+
 // One call, given by value.
 pub fn perform(
     call: Call,
@@ -130,5 +138,6 @@ pub fn perform(
             let count = *n;
             pick(model, values, history, count)
         }
+        Call::FirstOutside => first_outside(model, values),
     }
 }

@@ -1,51 +1,32 @@
--- Whether a run holds: values within their ends, recorded entries below the number of transitions.
+-- The check of the values, and whether a run holds: values within their ends, recorded entries below the number of transitions.
 use mathlib.Core.Path.{_≡_, refl, sym, ap, _∙_}
 use mathlib.Core.Bool.{Bool, true, false, cond, not, _&&_, true≢false, false≢true}
 use mathlib.Core.List.{List, [], _∷_, map}
-use mathlib.Core.Option.{some, none}
+use mathlib.Core.Option.{Option, some, none}
 use Prim.Native.Nat.{ℕ, zero, suc, _+_, _≤_, _<_, _^_}
 use native.Mathlib.Numerals.{add-one}
 use native.Mathlib.Omega.{arith}
-use borrow.Author.Tests.{lt-ltb, le-ltb, le-leb, lt-leb}
+use borrow.Author.Tests.{lt-ltb, le-ltb, le-leb, lt-leb, not-true, not-false}
 use lib.IntN.{ℤ, pos}
-use lib.Signed.{mag, ltZ, leZ}
+use lib.Signed.{mag, leZ}
 use lib.Dec.{ltb}
 use mir.Syntax.{w32}
-use mir.Val.{SFits, toZ, ofZ}
-use Rattle.syntax.proofs.Parameters.{compared}
+use mir.Val.{toZ, ofZ}
 use lib.ListN.{length, getD, take, drop, length-take}
 use lib.Seq.{getD-take, length-take-le}
+use Rattle.results.specs.declared.Found.{Found}
+use Rattle.results.specs.declared.Found.the-variants.{At, Nothing}
+use Rattle.results.specs.Results.{found}
+use Rattle.evaluation.proofs.Signed.{read-test}
 use Rattle.model.specs.Trees.{Variable}
-use Rattle.variables.specs.Rows.{variableRows, lowsIn, highsIn}
-use Rattle.standing.specs.Holding.{endsOf, firstOutside, isNone, allBelow, historyHolds}
+use Rattle.variables.specs.Rows.{variableRows, lowsIn, highsIn, withinEnds}
+use Rattle.standing.specs.Holding.{endsOf, firstOutside, lookedAt, isNone, allBelow, historyHolds}
 
 -- ---- the values
 
--- the value lies within its ends
+-- the value at a place lies within the ends there
 abbrev isInEnds : List (List ℤ) → List ℤ → ℕ → Bool
-isInEnds rows values i =
-    leZ (getD (lowsIn rows) i (pos 0)) (getD values i (pos 0)) && leZ (getD values i (pos 0)) (getD (highsIn rows) i (pos 0))
-
-fit : (z : ℤ) → mag z < 2 ^ 31 → SFits w32 z
-fit z h = record { sfits = h }
-
--- what the two tests of a value told
-module _ (rows : List (List ℤ)) (values : List ℤ) (i : ℕ) (v : mag (getD values i (pos 0)) < 2 ^ 31)
-    (low : ℤ) (f : mag low < 2 ^ 31) (l : low ≡ getD (lowsIn rows) i (pos 0)) where
-  pub under-low : ltZ (toZ w32 (ofZ w32 (getD values i (pos 0)))) (toZ w32 (ofZ w32 low)) ≡ true → isInEnds rows values i ≡ false
-  under-low e = rw (← l, compared (fit (getD values i (pos 0)) v) (fit low f) e)
-
-  module _ (e : ltZ (toZ w32 (ofZ w32 (getD values i (pos 0)))) (toZ w32 (ofZ w32 low)) ≡ false)
-      (high : ℤ) (g : mag high < 2 ^ 31) (h : high ≡ getD (highsIn rows) i (pos 0)) where
-    tested : {t : Bool} → ltZ (toZ w32 (ofZ w32 high)) (toZ w32 (ofZ w32 (getD values i (pos 0)))) ≡ t → isInEnds rows values i ≡ not t
-    tested e′ =
-        rw (← l, ← h, compared (fit (getD values i (pos 0)) v) (fit low f) e) (compared (fit high g) (fit (getD values i (pos 0)) v) e′)
-
-    pub over-high : ltZ (toZ w32 (ofZ w32 high)) (toZ w32 (ofZ w32 (getD values i (pos 0)))) ≡ true → isInEnds rows values i ≡ false
-    over-high e′ = tested e′
-
-    pub inside : ltZ (toZ w32 (ofZ w32 high)) (toZ w32 (ofZ w32 (getD values i (pos 0)))) ≡ false → isInEnds rows values i ≡ true
-    inside e′ = tested e′
+isInEnds rows values i = withinEnds (lowsIn rows) (highsIn rows) i (getD values i (pos 0))
 
 nil : (i : ℕ) → _≡_ {A = List ℤ} (drop i []) []
 nil zero = refl
@@ -79,33 +60,56 @@ ended (r ∷ rs) [] (suc i) x h = ap (λ k. firstOutside (drop i (map endsOf rs)
 ended (r ∷ rs) (c ∷ cs) (suc i) x h = ended rs cs i x (omega arith)
 
 module _ (rows : List (List ℤ)) (values : List ℤ) where
-  abbrev Holds : Bool → Type 0
-  Holds b = b ≡ isNone (firstOutside (map endsOf rows) values 0)
+  abbrev whole : Option ℕ
+  whole = firstOutside (map endsOf rows) values 0
 
   -- what is left to look at decides
   abbrev pub Left : ℕ → Type 0
-  Left i = firstOutside (map endsOf rows) values 0 ≡ firstOutside (drop i (map endsOf rows)) (drop i values) i
+  Left i = whole ≡ firstOutside (drop i (map endsOf rows)) (drop i values) i
+
+  abbrev Answers : Found → ℕ → Type 0
+  Answers f looked = (found f ≡ whole) × (looked ≡ lookedAt (length rows) whole)
 
   pub begins : Left 0
   begins = refl
 
   module _ (i : ℕ) (left : Left i) where
-    pub all-hold : length rows ≤ i → Holds true
-    unfolding isNone
-    all-hold past = sym (ap isNone (left ∙ ended rows values i i past))
+    pub all-within : i ≤ length rows → length rows ≤ i → Answers Nothing i
+    unfolding found lookedAt
+    all-within below past =
+        let e : whole ≡ none = left ∙ ended rows values i i past in
+        (sym e, omega arith ∙ sym (ap (lookedAt (length rows)) e))
 
     module _ (h : i < length rows) where
-      pub none-there : length values ≤ i → Holds false
-      unfolding isNone
-      none-there m = sym (ap isNone (left ∙ missing rows values i i h m))
+      ends-here : firstOutside (drop i (map endsOf rows)) (drop i values) i ≡ some i → Answers (At i) (i + 1)
+      unfolding found lookedAt
+      ends-here o =
+          let e : whole ≡ some i = left ∙ o in
+          (sym e, add-one i ∙ sym (ap (lookedAt (length rows)) e))
 
-      module _ (k : i < length values) where
-        pub outside : isInEnds rows values i ≡ false → Holds false
-        unfolding isNone
-        outside e = sym (ap isNone (left ∙ rw e at (step rows values i i h k)))
+      pub none-there : length values ≤ i → Answers (At i) (i + 1)
+      none-there m = ends-here (missing rows values i i h m)
 
-        pub goes-on : isInEnds rows values i ≡ true → Left (i + 1)
-        goes-on e = rw (add-one i) (left ∙ rw e at (step rows values i i h k))
+      module _ (k : i < length values) (v : mag (getD values i (pos 0)) < 2 ^ 31)
+          {r : Bool} (test : r ≡ withinEnds (lowsIn rows) (highsIn rows) i (toZ w32 (ofZ w32 (getD values i (pos 0))))) where
+        told : {t : Bool} → r ≡ t → isInEnds rows values i ≡ t
+        told = read-test (withinEnds (lowsIn rows) (highsIn rows) i) (record { sfits = v }) test
+
+        pub outside-there : not r ≡ true → Answers (At i) (i + 1)
+        outside-there e = ends-here (let o : isInEnds rows values i ≡ false = told (not-true r e) in rw o at (step rows values i i h k))
+
+        pub goes-on : not r ≡ false → Left (i + 1)
+        goes-on e = rw (add-one i) (left ∙ let o : isInEnds rows values i ≡ true = told (not-false r e) in rw o at (step rows values i i h k))
+
+-- nothing is outside exactly if the check found nothing
+module _ {o : Option ℕ} {f : Found} (e : found f ≡ o) where
+  pub none-outside : f ≡ Nothing → true ≡ isNone o
+  unfolding found isNone
+  none-outside n = ap isNone (ap found (sym n) ∙ e)
+
+  pub one-outside : (x : ℕ) → f ≡ At x → false ≡ isNone o
+  unfolding found isNone
+  one-outside x a = ap isNone (ap found (sym a) ∙ e)
 
 -- the ends of the rows of a model are those of its variables
 pub outside-rows : (vs : List Variable) (values : List ℤ) (x : ℕ) → firstOutside (map endsOf (variableRows vs)) values x ≡ firstOutside vs values x

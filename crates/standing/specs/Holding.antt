@@ -1,4 +1,4 @@
--- 9 and 20: does a run fit a model. 01: "every other call takes 9 and, start excepted, 20".
+-- 9 and 20: does a run fit a model. 01: "every other call takes 9 and, start excepted, 20". A3's check of the values takes 9 alone.
 use mathlib.Core.Bool.{Bool, true, false, cond, _&&_}
 use mathlib.Core.List.{List, [], _∷_}
 use mathlib.Core.Option.{Option, some, none}
@@ -25,11 +25,16 @@ abbrev pub historyHolds : ℕ → ℕ → List ℕ → Bool
 historyHolds t n history = leb n (length history) && allBelow t (take n history)
 
 -- 20, the part of the values, "a value outside its ends": the first such variable, lowest first, counted from x; a value that is
--- missing is outside
+-- missing is outside. A3: "The first value outside its ends, lowest variable first, finishes it."
 unfoldable pub firstOutside : List Variable → List ℤ → ℕ → Option ℕ
 firstOutside [] values x = none
 firstOutside (v ∷ vs) [] x = some x
 firstOutside (v ∷ vs) (c ∷ cs) x = cond (leZ (v .low) c && leZ c (v .high)) (firstOutside vs cs (suc x)) (some x)
+
+-- A3: "how many values it looked at: that number plus one, or S+F". Where 9 was tried none is missing; a missing one counts too.
+unfoldable pub lookedAt : ℕ → Option ℕ → ℕ
+lookedAt total none = total
+lookedAt total (some x) = suc x
 
 unfoldable pub isNone : Option ℕ → Bool
 isNone none = true

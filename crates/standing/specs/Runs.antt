@@ -39,7 +39,8 @@ withRun r s = store r (s .marks)
 abbrev pub withMarks : List ℕ → Store → Store
 withMarks marks s = store (s .run) marks
 
--- 01's answers: the number of a refusal, the round count, that it was done, a value, the five sizes, the transition picked or none
+-- 01's answers: the number of a refusal, the round count, that it was done, a value, the five sizes, the transition picked or none.
+-- A3's: the first variable outside its ends or none, and how many values were looked at
 pub data Answer : Type 0 where
   refused : ℕ → Answer
   rounds : ℕ → Answer
@@ -47,6 +48,7 @@ pub data Answer : Type 0 where
   number : ℤ → Answer
   sizes : Sizes → Answer
   picked : Option ℕ → Answer
+  outside : Option ℕ → ℕ → Answer
 
 -- an answer with what is left of a thing that was lent
 abbrev pub Done : Type 0 → Type 0

@@ -1,29 +1,41 @@
-// Does a run hold: number 20.
+// Does a run hold: number 20, and the check of the values behind it.
 
 ghost use mathlib.Core.Path.{_≡_};
 ghost use mathlib.Core.List.{map};
+ghost use lib.ListN.{length};
+ghost use Rattle.results.specs.Results.{found};
 ghost use Rattle.standing.specs.Runs.{run};
-ghost use Rattle.standing.specs.Holding.{endsOf, firstOutside, isNone, historyHolds, holdsOver};
+ghost use Rattle.standing.specs.Holding.{endsOf, firstOutside, lookedAt, historyHolds, holdsOver};
+use results::Found;
 
-// Is every variable's value there and within its ends.
-fn values_hold(variables: &[[i32; 3]], values: &[i32]) -> bool
-    ensures { λ r. ⌜ r ≡ isNone (firstOutside (map endsOf (now (variables .entry))) (now (values .entry)) 0) ⌝ }
+// What a check of values found: the first variable outside its ends or none, and how many values it looked at.
+pub struct RangeCheck {
+    pub outside: Found,
+    pub looked: usize,
+}
+
+// The first variable outside its ends finishes the check; no value after that one is looked at. A value that is missing is outside.
+pub fn check_ranges(variables: &[[i32; 3]], values: &[i32]) -> RangeCheck
+    ensures { λ r. ⌜ (found (r .outside) ≡ firstOutside (map endsOf (now (variables .entry))) (now (values .entry)) 0)
+        × (r .looked ≡ lookedAt (length (now (variables .entry))) (firstOutside (map endsOf (now (variables .entry))) (now (values .entry)) 0)) ⌝ }
 {
-    let mut x = 0;
-    while x < variables.len() {
-        if values.len() <= x {
-            return false;
+    let mut looked = 0;
+    while looked < variables.len() {
+        let variable = looked;
+        looked += 1; // this one too, whatever its value is
+        if values.len() <= variable
+            || !variables::is_within(variables, variable, values[variable])
+        {
+            return RangeCheck {
+                outside: Found::At(variable),
+                looked,
+            };
         }
-        let value = values[x];
-        if value < variables::low(variables, x) {
-            return false;
-        }
-        if variables::high(variables, x) < value {
-            return false;
-        }
-        x += 1;
     }
-    true
+    RangeCheck {
+        outside: Found::Nothing,
+        looked,
+    }
 }
 
 // Is the count within the history, and is every recorded entry a transition.
@@ -56,5 +68,10 @@ pub fn holds(
     if !history_holds(transitions, n, history) {
         return false;
     }
-    values_hold(variables, values)
+    let check = check_ranges(variables, values);
+    let outside = check.outside;
+    match outside {
+        Found::At(_) => false,
+        Found::Nothing => true,
+    }
 }

@@ -7,5 +7,6 @@ pub mod Parts
 pub mod Refiring
 pub mod Slices
 pub mod StepTests
+pub mod Tags
 pub mod Tests
 pub mod Written

@@ -10,7 +10,7 @@ use Rattle.engine.specs.Cells.{Loaded}
 use Rattle.results.specs.Results.{found}
 use Rattle.steps.specs.declared.Answer as answer
 use Rattle.standing.specs.Runs.{Answer, Done, answered}
-use Rattle.standing.specs.Runs.Answer.{refused, rounds, done, number, sizes, picked}
+use Rattle.standing.specs.Runs.Answer.{refused, rounds, done, number, sizes, picked, outside}
 
 -- the code's answers, by 01's numbers and values
 unfoldable pub seen : answer.Answer → Answer
@@ -20,6 +20,7 @@ seen answer.the-variants.Done = done
 seen (answer.the-variants.Number v) = number v
 seen (answer.the-variants.Sizes z) = sizes z
 seen (answer.the-variants.Picked f) = picked (found f)
+seen (answer.the-variants.Outside c) = outside (found (c .outside)) (c .looked)
 
 -- a call over the meaning of a file's model and a thing that is lent; a refused file leaves it
 unfoldable pub onFile : {A : Type 0} → Verdict → (Meaning → Done A) → A → Done A

@@ -4,9 +4,10 @@ pub mod moves; // moves.rt: start, fire and undo
 
 use model::Sizes;
 use results::Found;
+use standing::RangeCheck;
 
 // What a call answers: the number of a refusal, the round count, that it was done, a value, the five sizes, the transition
-// picked or none.
+// picked or none, what a check of the values found.
 pub enum Answer {
     Refused(u8),
     Rounds(usize),
@@ -14,6 +15,7 @@ pub enum Answer {
     Number(i32),
     Sizes(Sizes),
     Picked(Found),
+    Outside(RangeCheck),
 }
 
 // What is done with the values of a run.

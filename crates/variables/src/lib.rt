@@ -5,10 +5,10 @@ ghost use Prim.Native.Nat.{_<_, _≤_};
 ghost use lib.IntN.{pos};
 ghost use lib.ListN.{length, getD};
 ghost use Rattle.results.specs.Results.{over};
-ghost use Rattle.variables.specs.Rows.{lowsIn, highsIn, firstsIn};
+ghost use Rattle.variables.specs.Rows.{lowsIn, highsIn, firstsIn, withinEnds};
 
 // The low end of a variable.
-pub fn low(variables: &[[i32; 3]], variable: usize) -> i32
+fn low(variables: &[[i32; 3]], variable: usize) -> i32
     requires { ⌜ variable < length (now variables) ⌝ }
     ensures { λ r. ⌜ r ≡ getD (lowsIn (now (variables .entry))) variable (pos 0) ⌝ }
 {
@@ -16,14 +16,25 @@ pub fn low(variables: &[[i32; 3]], variable: usize) -> i32
 }
 
 // Its high end.
-pub fn high(variables: &[[i32; 3]], variable: usize) -> i32
+fn high(variables: &[[i32; 3]], variable: usize) -> i32
     requires { ⌜ variable < length (now variables) ⌝ }
     ensures { λ r. ⌜ r ≡ getD (highsIn (now (variables .entry))) variable (pos 0) ⌝ }
 {
     variables[variable][1]
 }
 
-// Its first value: a state's initial value, a flow's reset value.
+// Does the value lie within the ends of the variable.
+pub fn is_within(variables: &[[i32; 3]], variable: usize, value: i32) -> bool
+    requires { ⌜ variable < length (now variables) ⌝ }
+    ensures { λ r. ⌜ r ≡ withinEnds (lowsIn (now (variables .entry))) (highsIn (now (variables .entry))) variable value ⌝ }
+{
+    if value < low(variables, variable) {
+        return false;
+    }
+    value <= high(variables, variable)
+}
+
+// The first value of a variable: a state's initial value, a flow's reset value.
 pub fn first(variables: &[[i32; 3]], variable: usize) -> i32
     requires { ⌜ variable < length (now variables) ⌝ }
     ensures { λ r. ⌜ r ≡ getD (firstsIn (now (variables .entry))) variable (pos 0) ⌝ }

@@ -1,4 +1,4 @@
--- The turns fall, and the buffers keep their lengths.
+-- The turns fall, and the buffer keeps its length.
 use borrow.Author.Needs.{needs}
 use mathlib.Core.Path.{_≡_}
 use lib.ListN.{length}
@@ -6,10 +6,10 @@ use Rattle.call_cases.proofs.all_lists.Statement.{statement}
 use Rattle.call_cases.proofs.all_lists.Tie as tie
 
 abbrev Inv-loop : tie.InvT-loop
-Inv-loop fd of-twin model₀ twin₀ tally₀ turns₀ model twin tally turns = (length model ≡ length model₀) × (length twin ≡ length twin₀)
+Inv-loop fd of-twin files₀ tally₀ turns₀ files tally turns = length files ≡ length files₀
 
 abbrev μ-loop : tie.MeasureT-loop
-μ-loop fd of-twin model₀ twin₀ tally₀ turns₀ model twin tally turns = turns
+μ-loop fd of-twin files₀ tally₀ turns₀ files tally turns = turns
 
 loop-holds : tie.Need-loop-holds Inv-loop μ-loop
 loop-holds c = search needs
@@ -26,9 +26,6 @@ enum-told c = search needs
 same-length : tie.Need-same-length Inv-loop μ-loop
 same-length c = search needs
 
-same-length-2 : tie.Need-same-length-2 Inv-loop μ-loop
-same-length-2 c = search needs
-
 returns : tie.Need-returns Inv-loop μ-loop
 returns c = search needs
 
@@ -41,11 +38,8 @@ loop-less c = search needs
 loop-again : tie.Need-loop-again Inv-loop μ-loop
 loop-again c = search needs
 
-same-length-3 : tie.Need-same-length-3 Inv-loop μ-loop
-same-length-3 c = search needs
-
-same-length-4 : tie.Need-same-length-4 Inv-loop μ-loop
-same-length-4 c = search needs
+same-length-2 : tie.Need-same-length-2 Inv-loop μ-loop
+same-length-2 c = search needs
 
 returns-2 : tie.Need-returns-2 Inv-loop μ-loop
 returns-2 c = search needs
@@ -61,11 +55,9 @@ all-lists-spec =
     next-list-requires
     enum-told
     same-length
-    same-length-2
     returns
     enum-known-next
     loop-less
     loop-again
-    same-length-3
-    same-length-4
+    same-length-2
     returns-2)

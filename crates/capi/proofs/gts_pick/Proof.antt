@@ -1,6 +1,6 @@
 -- `gts_pick` meets its contract.
 use borrow.Author.Needs.{needs}
-use Rattle.capi.proofs.Coding.{pick-refused, pick-found, pick-none, pick-other}
+use Rattle.capi.proofs.Coding.{pick-refused, pick-handed, pick-other}
 use Rattle.capi.proofs.gts_pick.Statement.{statement}
 use Rattle.capi.proofs.gts_pick.Tie as tie
 
@@ -13,11 +13,8 @@ enum-known-number c = search needs
 enum-known-picked : tie.Need-enum-known-picked
 enum-known-picked c = search needs
 
-enum-known-picked-2 : tie.Need-enum-known-picked-2
-enum-known-picked-2 c = search needs
-
-enum-told : tie.Need-enum-told
-enum-told c = search needs
+hand-out-requires : tie.Need-hand-out-requires
+hand-out-requires c κs = search needs
 
 returns : tie.Need-returns
 returns c =
@@ -30,18 +27,12 @@ returns-2 : tie.Need-returns-2
 returns-2 c =
     let start = c .before .before .before .before .before .before .before .before .before .args in
     let called = c .before .before .before .before .before .before .pick in
-    pick-found (start .model .now) (start .values .now) (start .history .now) (start .n) (start .transition .now) (start .found .now) (called .result) (called .ensures)
-    (c .before .before .before .before .picked .given .0 .0) (c .before .picked2 .given .0 .0) (c .before .before .before .before .picked .given .1) (c .before .picked2 .given .1)
+    let picked = c .before .before .before .before .picked in
+    pick-handed (start .model .now) (start .values .now) (start .history .now) (start .n) (start .transition .now) (start .found .now) (called .result) (called .ensures)
+    (picked .given .0 .0) _ _ (picked .given .1) (c .hand-out .ensures)
 
 returns-3 : tie.Need-returns-3
 returns-3 c =
-    let start = c .before .before .before .before .before .before .before .before .args in
-    let called = c .before .before .before .before .before .pick in
-    pick-none (start .model .now) (start .values .now) (start .history .now) (start .n) (start .transition .now) (start .found .now) (called .result) (called .ensures)
-    (c .before .before .before .picked .given .0 .0) (c .before .before .before .picked .given .1) (c .enum-told .given .1)
-
-returns-4 : tie.Need-returns-4
-returns-4 c =
     let start = c .before .before .before .before .args in
     let called = c .before .pick in
     pick-other (start .model .now) (start .values .now) (start .history .now) (start .n) (start .transition .now) (start .found .now) (called .result) (called .ensures)
@@ -54,9 +45,7 @@ gts-pick-spec =
     pick-requires
     enum-known-number
     enum-known-picked
-    enum-known-picked-2
-    enum-told
+    hand-out-requires
     returns
     returns-2
-    returns-3
-    returns-4)
+    returns-3)

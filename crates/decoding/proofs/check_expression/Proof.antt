@@ -4,7 +4,7 @@ use native.Mathlib.Omega.{arith}
 use Rattle.model.specs.declared.Sizes.{Sizes}
 use Rattle.model.specs.Check.{sortOf}
 use Rattle.decoding.proofs.InUse.{part-within}
-use Rattle.decoding.proofs.SortsRead.{SortsInUse, sorts-in-use}
+use Rattle.decoding.proofs.VariablesInUse.{SortsInUse, sorts-in-use}
 use Rattle.decoding.proofs.Handed.{refused-given, ready-given}
 use Rattle.decoding.proofs.check_expression.Statement.{statement}
 use Rattle.decoding.proofs.check_expression.Tie as tie

@@ -4,11 +4,12 @@ use mathlib.Core.Path.{_≡_, sym, _∙_}
 use native.Mathlib.Omega.{arith}
 use Rattle.model.specs.declared.Sizes.{Sizes}
 use Rattle.model.specs.declared.Checked.the-variants.{Accepted}
+use Rattle.model.specs.Trees.{sortsOf}
 use Rattle.model.specs.Check.{answerOf, verdict}
 use Rattle.model.proofs.Encoding.{Fits}
 use Rattle.model.proofs.CheckExact.{sized-fits}
 use Rattle.decoding.proofs.Preparing.{answer-sizes, sorts-asked}
-use Rattle.decoding.proofs.SortsRead.{sorts-kept, sorts-read}
+use Rattle.decoding.proofs.VariablesInUse.{kept, sorts-read}
 use Rattle.decoding.proofs.sorts_of.Statement.{statement}
 use Rattle.decoding.proofs.sorts_of.Tie as tie
 
@@ -50,7 +51,7 @@ returns : tie.Need-returns
 returns c =
     let checked = c .before .before .before in
     let given = checked .before .before .args in
-    sorts-kept (given .model .now) (given .sorts .now) _ (sym (checked .check .ensures) ∙ c .before .number .given .1)
+    kept sortsOf (given .model .now) (given .sorts .now) _ (sym (checked .check .ensures) ∙ c .before .number .given .1)
 
 returns-2 : tie.Need-returns-2
 returns-2 c =

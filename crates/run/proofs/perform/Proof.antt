@@ -5,7 +5,7 @@ use Rattle.standing.specs.Runs.{run, store}
 use Rattle.steps.specs.Answers.{seen}
 use Rattle.steps.specs.declared.Answer.the-variants.{Refused, Sizes}
 use Rattle.run.specs.Promises.{seenCheck}
-use Rattle.run.specs.declared.Call.the-variants.{Start, Fire, Undo, Marks, Value, Pick}
+use Rattle.run.specs.declared.Call.the-variants.{Start, Fire, Undo, Marks, Value, Pick, FirstOutside}
 use Rattle.run.proofs.Reached.{calls-reached}
 use Rattle.run.proofs.Promised.{performed, checked}
 use Rattle.run.proofs.perform.Statement.{statement}
@@ -58,6 +58,12 @@ enum-told-5 c = search needs
 
 pick-requires : tie.Need-pick-requires
 pick-requires c κs = search needs
+
+enum-told-6 : tie.Need-enum-told-6
+enum-told-6 c = search needs
+
+first-outside-requires : tie.Need-first-outside-requires
+first-outside-requires c κs = search needs
 
 returns : tie.Need-returns
 unfolding seen seenCheck
@@ -183,6 +189,19 @@ returns-8 c =
     performed m bytes (start .call) Pick lent (called .result) lent (c .before .before .before .before .enum-told5 .given .1)
     (calls-reached .pick m (start .values .now) (start .history .now) (start .n .now) (start .held .now) (called .result) (called .ensures))
 
+same-length-13 : tie.Need-same-length-13
+same-length-13 c = search needs
+
+returns-9 : tie.Need-returns-9
+returns-9 c =
+    let start = c .before .before .before .before .before .before .before .args in
+    let m = start .model .now in
+    let bytes = c .before .before .before .before .before .before .shared-slice-known .given in
+    let lent = store (run (start .values .now) (start .history .now) (start .n .now)) (start .held .now) in
+    let called = c .first-outside in
+    performed m bytes (start .call) FirstOutside lent (called .result) lent (c .before .before .enum-told6 .given .1)
+    (calls-reached .firstOutside m (start .values .now) (start .history .now) (start .n .now) (start .held .now) (called .result) (called .ensures))
+
 pub perform-spec : {M : Type 1} → statement M
 perform-spec =
     tie.close
@@ -203,6 +222,8 @@ perform-spec =
     value-requires
     enum-told-5
     pick-requires
+    enum-told-6
+    first-outside-requires
     returns
     returns-2
     same-length
@@ -222,4 +243,6 @@ perform-spec =
     returns-7
     same-length-11
     same-length-12
-    returns-8)
+    returns-8
+    same-length-13
+    returns-9)

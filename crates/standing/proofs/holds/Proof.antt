@@ -1,7 +1,7 @@
 -- The history first, then the values.
 use mathlib.Core.Path.{_∙_}
 use borrow.Author.Needs.{needs}
-use Rattle.standing.proofs.Holding.{not-both, both}
+use Rattle.standing.proofs.Holding.{not-both, both, none-outside, one-outside}
 use Rattle.standing.proofs.holds.Statement.{statement}
 use Rattle.standing.proofs.holds.Tie as tie
 
@@ -11,11 +11,33 @@ history-holds-requires c κs = search needs
 returns : tie.Need-returns
 returns c = not-both _ _ _ (c .before .history-holds .ensures) (c .if1 .taken)
 
-values-hold-requires : tie.Need-values-hold-requires
-values-hold-requires c κs = search needs
+check-ranges-requires : tie.Need-check-ranges-requires
+check-ranges-requires c κs = search needs
+
+enum-told : tie.Need-enum-told
+enum-told c = search needs
+
+enum-told-2 : tie.Need-enum-told-2
+enum-told-2 c = search needs
 
 returns-2 : tie.Need-returns-2
-returns-2 c = c .values-hold .ensures ∙ both _ _ _ (c .before .before .history-holds .ensures) (c .before .if1 .left)
+returns-2 c =
+    one-outside (c .before .before .check-ranges .ensures .0) _ (c .enum-told .given .1)
+    ∙ both _ _ _ (c .before .before .before .before .history-holds .ensures) (c .before .before .before .if1 .left)
+
+returns-3 : tie.Need-returns-3
+returns-3 c =
+    none-outside (c .before .before .check-ranges .ensures .0) (c .enum-told2 .given .1)
+    ∙ both _ _ _ (c .before .before .before .before .history-holds .ensures) (c .before .before .before .if1 .left)
 
 pub holds-spec : {M : Type 1} → statement M
-holds-spec = tie.close (tie.spec history-holds-requires returns values-hold-requires returns-2)
+holds-spec =
+    tie.close
+    (tie.spec
+    history-holds-requires
+    returns
+    check-ranges-requires
+    enum-told
+    enum-told-2
+    returns-2
+    returns-3)

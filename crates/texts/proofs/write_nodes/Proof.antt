@@ -3,7 +3,7 @@ use borrow.Author.Needs.{needs}
 use native.Mathlib.Omega.{arith}
 use Rattle.model.specs.declared.Sizes.{Sizes}
 use Rattle.decoding.proofs.InUse.{part-within}
-use Rattle.decoding.proofs.SortsRead.{SortsInUse, sorts-in-use}
+use Rattle.decoding.proofs.VariablesInUse.{SortsInUse, sorts-in-use}
 use Rattle.texts.specs.Texts.{slices}
 use Rattle.texts.proofs.Models.{model-refused, model-accepted}
 use Rattle.texts.proofs.write_nodes.Statement.{statement}

@@ -3,16 +3,15 @@ use mathlib.Core.Path.{_≡_, refl, ap, _∙_}
 use mathlib.Core.Bool.{_||_, not}
 use mathlib.Core.Logic.{inl, inr}
 use borrow.Author.Needs.{needs}
-use Rattle.variables.specs.Rows.{lowsIn, highsIn}
+use Rattle.variables.specs.Rows.{lowsIn, highsIn, withinEnds}
 use Rattle.evaluation.proofs.Signed.{wide-fits, read-one}
-use Rattle.interpreter.specs.Gathering.{withinEnds}
 use Rattle.interpreter.proofs.Giving.{found-before, found-now, differing, keeps, takes}
 use Rattle.interpreter.proofs.instructions.give.Statement.{statement}
 use Rattle.interpreter.proofs.instructions.give.Tie as tie
 use Rattle.interpreter.proofs.instructions.give.Reads as reads
 use Rattle.interpreter.proofs.instructions.give.Lts as lts
 use Rattle.expressions.proofs.is_number.Reads as is-number-reads
-use Rattle.interpreter.proofs.instructions.is_within.Reads as is-within-reads
+use Rattle.variables.proofs.is_within.Reads as is-within-reads
 
 abbrev claims : lts.Claims
 claims = (is-within-reads.Asked, is-within-reads.Learnt, is-number-reads.Asked, is-number-reads.Learnt)

@@ -1,9 +1,9 @@
 -- A value is within its variable's ends, by two tests.
 use borrow.Author.Needs.{needs}
 use Rattle.variables.specs.Rows.{lowsIn, highsIn}
-use Rattle.interpreter.proofs.Giving.{under-low, from-low}
-use Rattle.interpreter.proofs.instructions.is_within.Statement.{statement}
-use Rattle.interpreter.proofs.instructions.is_within.Tie as tie
+use Rattle.variables.proofs.Ends.{under-low, from-low}
+use Rattle.variables.proofs.is_within.Statement.{statement}
+use Rattle.variables.proofs.is_within.Tie as tie
 
 low-requires : tie.Need-low-requires
 low-requires c κs = search needs

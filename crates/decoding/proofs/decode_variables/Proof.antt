@@ -1,0 +1,72 @@
+-- `decode_variables` meets its contract, put together from what its functions leave.
+use borrow.Author.Needs.{needs}
+use mathlib.Core.Path.{sym}
+use native.Mathlib.Omega.{arith}
+use lib.Seq.{length-take-le}
+use Rattle.model.proofs.Encoding.{Fits, SizedAs}
+use Rattle.model.proofs.CheckExact.{sized-fits}
+use Rattle.decoding.proofs.Preparing.{answer-sizes, lent-parameters, parameters-front, variables-asked, variables-decoded}
+use Rattle.decoding.proofs.decode_variables.Statement.{statement}
+use Rattle.decoding.proofs.decode_variables.Tie as tie
+
+-- the sizes, and those that stand in one byte
+sizes : (c : tie.Start) → SizedAs (c .args .model .now) (c .args .sizes)
+sizes c = answer-sizes (c .args .model .now) (c .args .sizes) (c .pre)
+
+fits : (c : tie.After-shared-slice-known) → Fits (c .before .args .sizes)
+fits c =
+    sized-fits (c .before .args .model .now) (λ i. omega (arith, c .shared-slice-known .given i)) (c .before .args .sizes) (sizes (c .before))
+
+add-parameters-in : tie.Need-add-parameters-in
+add-parameters-in c = omega (arith, sizes (c .before))
+
+parameters-in-requires : tie.Need-parameters-in-requires
+parameters-in-requires c κs = omega (arith, sizes (c .before .before), c .parameters-in-arg .given .0 .1)
+
+kinds-of-requires : tie.Need-kinds-of-requires
+kinds-of-requires c κs = search needs
+
+slice-aggregate-read-variables : tie.Need-slice-aggregate-read-variables
+slice-aggregate-read-variables c =
+    let read = c .before .before .before .before in
+    let start = read .before .before .before in
+    sym (length-take-le (start .args .sizes .nodes) (read .parameters-in .last .1 .1 .1 .0) (omega (arith, sizes start, c .before .lent2 .given .0)))
+
+add-read-variables : tie.Need-add-read-variables
+add-read-variables c = omega (arith, fits (c .before .before .before .before .before .before .before))
+
+read-variables-requires : tie.Need-read-variables-requires
+read-variables-requires c κs =
+    let listed = c .before .before .before .before .before in
+    let kinds = listed .kinds-of .ensures in
+    let read = listed .before in
+    let start = read .before .before .before in
+    let m = start .args .model .now in
+    let s = start .args .sizes in
+    let parameters = read .parameters-in .last .1 .1 .1 .0 in
+    let f = fits (read .before .before) in (
+      lent-parameters m s _ kinds parameters (sizes start) (c .before .before .before .lent2 .given .0),
+      variables-asked m s _ _ kinds (parameters-front m (s .nodes) _ parameters (read .parameters-in .ensures)) (start .pre),
+      omega (arith, c .read-variables-arg2 .given .0 .1),
+    )
+
+returns : tie.Need-returns
+returns c =
+    let listed = c .before .before .before .before .before .before in
+    let read = listed .before in
+    let start = read .before .before .before in
+    variables-decoded (start .args .model .now) (start .args .sizes) _ (start .args .parameters .now) (read .parameters-in .last .1 .1 .1 .0)
+    (start .args .variables .now) (c .read-variables .last .1 .1 .1 .0) (c .read-variables .result)
+    (listed .kinds-of .ensures) (read .parameters-in .ensures) (c .read-variables .ensures)
+
+pub decode-variables-spec : {M : Type 1} → statement M
+decode-variables-spec =
+    tie.close
+    (tie.spec
+    add-parameters-in
+    parameters-in-requires
+    kinds-of-requires
+    slice-aggregate-read-variables
+    add-read-variables
+    read-variables-requires
+    returns)
