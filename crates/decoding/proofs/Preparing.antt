@@ -4,9 +4,11 @@ use mathlib.Core.Bool.{Bool, true, false, cond}
 use mathlib.Core.List.{List, [], _∷_, _++_, append-assoc}
 use Prim.Native.Nat.{ℕ, _+_, _≤_}
 use native.Mathlib.Omega.{arith}
+use mir.Syntax.{w8}
+use mir.Val.{Fits as Byte}
 use lib.Dec.{eqb}
 use lib.IntN.{ℤ}
-use lib.ListN.{length, take, drop, length-append}
+use lib.ListN.{length, getD, take, drop, length-append}
 use lib.Seq.{take-at, drop-at, length-take-le}
 use Rattle.model.specs.declared.Sizes.{Sizes}
 use Rattle.model.specs.declared.Checked.the-variants as checked
@@ -22,8 +24,8 @@ use Rattle.variables.specs.Rows.{variableRows}
 use Rattle.decoding.specs.Decoding.{VariablesRead, Arrays, arrays, decodedOver, preparedBy, guardPlaces, nextsOf, nextsOfVariables, nextsOfTransitions, nextsOfSystem, sizeOfVariable, sizeOfVariables, transitionsPlace, assertionPlace}
 use Rattle.decoding.proofs.Accepted.{FileRead, accepted-file}
 use Rattle.model.proofs.LittleBytes.{parameters-length}
-use Rattle.model.proofs.Encoding.{SizedAs}
-use Rattle.model.proofs.CheckExact.{kinds-length}
+use Rattle.model.proofs.Encoding.{Fits, SizedAs}
+use Rattle.model.proofs.CheckExact.{kinds-length, sized-fits}
 use Rattle.decoding.proofs.Places.{filled-nexts}
 
 -- ---- the answer of the check
@@ -44,6 +46,10 @@ module _ (m : List ℕ) (s : Sizes) where
 
   pub answer-sizes : answerOf (verdict m) ≡ checked.Accepted s → SizedAs m s
   answer-sizes e = let a = answer-accepted e in accepted-file m s (a .0) (a .1) .sizes
+
+  -- the sizes that stand in one byte
+  pub answer-fits : ((i : ℕ) → Byte w8 (getD m i 0)) → answerOf (verdict m) ≡ checked.Accepted s → Fits s
+  answer-fits bytes e = sized-fits m (λ i. omega (arith, bytes i)) s (answer-sizes e)
 
 -- ---- the slices that are lent
 

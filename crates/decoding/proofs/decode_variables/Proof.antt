@@ -4,18 +4,16 @@ use mathlib.Core.Path.{sym}
 use native.Mathlib.Omega.{arith}
 use lib.Seq.{length-take-le}
 use Rattle.model.proofs.Encoding.{Fits, SizedAs}
-use Rattle.model.proofs.CheckExact.{sized-fits}
-use Rattle.decoding.proofs.Preparing.{answer-sizes, lent-parameters, parameters-front, variables-asked, variables-decoded}
+use Rattle.decoding.proofs.Preparing.{answer-sizes, answer-fits, lent-parameters, parameters-front, variables-asked, variables-decoded}
 use Rattle.decoding.proofs.decode_variables.Statement.{statement}
 use Rattle.decoding.proofs.decode_variables.Tie as tie
 
 -- the sizes, and those that stand in one byte
 sizes : (c : tie.Start) → SizedAs (c .args .model .now) (c .args .sizes)
-sizes c = answer-sizes (c .args .model .now) (c .args .sizes) (c .pre)
+sizes c = answer-sizes _ _ (c .pre)
 
 fits : (c : tie.After-shared-slice-known) → Fits (c .before .args .sizes)
-fits c =
-    sized-fits (c .before .args .model .now) (λ i. omega (arith, c .shared-slice-known .given i)) (c .before .args .sizes) (sizes (c .before))
+fits c = answer-fits _ _ (c .shared-slice-known .given) (c .before .pre)
 
 add-parameters-in : tie.Need-add-parameters-in
 add-parameters-in c = omega (arith, sizes (c .before))

@@ -7,8 +7,7 @@ use Rattle.model.specs.declared.Checked.the-variants.{Accepted}
 use Rattle.model.specs.Trees.{sortsOf}
 use Rattle.model.specs.Check.{answerOf, verdict}
 use Rattle.model.proofs.Encoding.{Fits}
-use Rattle.model.proofs.CheckExact.{sized-fits}
-use Rattle.decoding.proofs.Preparing.{answer-sizes, sorts-asked}
+use Rattle.decoding.proofs.Preparing.{answer-fits, sorts-asked}
 use Rattle.decoding.proofs.VariablesInUse.{kept, sorts-read}
 use Rattle.decoding.proofs.sorts_of.Statement.{statement}
 use Rattle.decoding.proofs.sorts_of.Tie as tie
@@ -33,9 +32,7 @@ answer : (c : tie.After-kinds-of) → answerOf (verdict (c .before .before .befo
 answer c = sym (c .before .before .before .before .check .ensures) ∙ c .before .before .sizes .given .1
 
 fits : (c : tie.After-kinds-of) → Fits (sizes c)
-fits c =
-    let known = c .before .before .before .before .before in
-    sized-fits (known .before .args .model .now) (λ i. omega (arith, known .shared-slice-known .given i)) (sizes c) (answer-sizes _ _ (answer c))
+fits c = answer-fits _ _ (c .before .before .before .before .before .shared-slice-known .given) (answer c)
 
 add-read-sorts : tie.Need-add-read-sorts
 add-read-sorts c = omega (arith, fits (c .before))
