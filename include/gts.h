@@ -2,9 +2,14 @@
  *
  * A model is a file of S states, F flows, E events, T transitions and N nodes, lent as bytes to every call. A run is
  *   values   int32_t, at least S + F of them: states, then flows; a Boolean is 0 or 1
+ *   marks    uint8_t, at least T of them: for each transition 1 if its guard is true, 0 false, 2 failed
  *   history  uint8_t, a place for each recorded transition; its length is how many steps can be recorded
  *   n        how many are recorded
- * A caller keeps them from one call to the next. Any content will do: a call that cannot go on from it refuses.
+ * A caller keeps them from one call to the next. Any content will do: a call that cannot go on from it refuses. gts_start
+ * fills values and marks and sets n, so they need no initial content; nor does the history.
+ *
+ * gts_start, gts_fire and gts_undo leave the marks of the guards over the new values. Marks from 0 to 2 that a caller made
+ * up are copied by gts_marks as they are, and stay until one of these three is done; gts_fire and gts_pick go by the guards.
  *
  * gts_text is no call on a run: beside the model it takes a text, bytes of any content, and two slices for its nodes
  *   kinds       uint8_t, at least GTS_TEXT_NODES of them
@@ -29,29 +34,32 @@ extern "C" {
 #endif
 
 /* The version of this header: the first number rises when a caller must change, the second when a call is added or
- * promises more. 1.1: gts_pick answers the lowest. 1.2: gts_text. 1.3: gts_first_outside. */
-#define GTS_VERSION_MAJOR 1
-#define GTS_VERSION_MINOR 3
+ * promises more. 1.1: gts_pick answers the lowest. 1.2: gts_text. 1.3: gts_first_outside. 2.0: a run holds its marks, so
+ * that showing them works no guard out. gts_start, gts_fire, gts_undo, gts_marks, gts_value and gts_pick are lent them after
+ * the values. Each refuses by 10 where they are too short, and each but gts_start by 20 where one of the first T is above 2.
+ * gts_marks copies them to `buffer`. */
+#define GTS_VERSION_MAJOR 2
+#define GTS_VERSION_MINOR 0
 
 /* The largest model. */
 #define GTS_MAX_NODES 4000
 #define GTS_MAX_DEPTH 32
 #define GTS_MAX_VARIABLES 510   /* S + F: values of this length are long enough for every model */
-#define GTS_MAX_TRANSITIONS 255 /* T: marks of this length are long enough for every model */
+#define GTS_MAX_TRANSITIONS 255 /* T: marks and a buffer of this length are long enough for every model */
 #define GTS_MAX_BYTES 20006     /* 6 + 5 N: no longer file is accepted */
 
 /* The longest text, in bytes. */
 #define GTS_MAX_TEXT 200
 
 /* Least lengths. */
-#define GTS_SIZES 5        /* of `sizes`; of `values` it is S + F, of `marks` T, of `history` none */
+#define GTS_SIZES 5        /* of `sizes`; of `values` it is S + F, of `marks` and `buffer` T, of `history` none */
 #define GTS_TEXT_NODES 400 /* of `kinds` and of `parameters`: no text has more nodes */
 
-/* The stack that a call on a run needs, in bytes: the most that was measured is 59,576 (README), rounded up. It does not
+/* The stack that a call on a run needs, in bytes: the most that was measured is 61,704 (README), rounded up. It does not
  * grow with the model: recursion goes by depth, at most GTS_MAX_DEPTH. */
 #define GTS_STACK_BYTES 65536
 
-/* The stack that gts_text needs: the most that was measured is 110,760 (README), rounded up. Recursion goes by parts of a
+/* The stack that gts_text needs: the most that was measured is 110,776 (README), rounded up. Recursion goes by parts of a
  * text that stand in one another, in at most GTS_MAX_TEXT bytes. */
 #define GTS_TEXT_STACK_BYTES 122880
 
@@ -69,12 +77,12 @@ enum gts_refusal {
     GTS_NODES_LEFT_OVER = 8,
     /* what is lent */
     GTS_VALUES_TOO_SHORT = 9,    /* under S + F */
-    GTS_SLICE_TOO_SHORT = 10,    /* marks under T, sizes under GTS_SIZES, kinds or parameters under GTS_TEXT_NODES */
+    GTS_SLICE_TOO_SHORT = 10,    /* marks or buffer under T, sizes under GTS_SIZES, kinds or parameters under GTS_TEXT_NODES */
     GTS_NO_SUCH_TRANSITION = 11, /* T or above */
     GTS_NO_SUCH_VARIABLE = 12,   /* S + F or above; also one in a text */
     /* the run */
-    GTS_RUN_NOT_VALID = 20,      /* n above the history's length, one of the first n entries T or above, or a value outside its
-                                    ends (gts_first_outside tells the first such variable) */
+    GTS_RUN_NOT_VALID = 20,      /* n above the history's length, one of the first n entries T or above, one of the first T marks
+                                    above 2, or a value outside its ends (gts_first_outside tells the first such variable) */
     GTS_HISTORY_FULL = 21,       /* n is the history's length */
     GTS_NOTHING_TO_UNDO = 22,    /* n is 0 */
     /* the step */
@@ -96,28 +104,28 @@ enum gts_refusal {
 /* The sizes S F E T N into the first five cells of `sizes`. Refuses by 1 to 8, 10. */
 uint8_t gts_check(const uint8_t *model, size_t len, uint32_t *sizes, size_t sizes_len);
 
-/* The states take their initial values, then the assertion gives the flows theirs; n becomes 0. `rounds` is how many
- * rounds the assertion took, at most F + 1. Refuses by 1 to 8, 9, 28 to 30. */
-uint8_t gts_start(const uint8_t *model, size_t len, int32_t *values, size_t values_len, size_t *n, size_t *rounds);
+/* The states take their initial values, then the assertion gives the flows theirs; the marks become those of the guards, n
+ * becomes 0. `rounds` is how many rounds the assertion took, at most F + 1. Refuses by 1 to 8, 9, 10, 28 to 30. */
+uint8_t gts_start(const uint8_t *model, size_t len, int32_t *values, size_t values_len, uint8_t *marks, size_t marks_len, size_t *n, size_t *rounds);
 
-/* Guard, action, assertion, then the transition at place n of the history, n one higher.
- * Refuses by 1 to 8, 9, 11, 20, 21, 23 to 30. */
-uint8_t gts_fire(const uint8_t *model, size_t len, int32_t *values, size_t values_len, uint8_t *history, size_t history_len, size_t *n, size_t transition, size_t *rounds);
+/* Guard, action, assertion, then the transition at place n of the history, n one higher; the marks become those of the
+ * guards over the new values. Refuses by 1 to 8, 9, 10, 11, 20, 21, 23 to 30. */
+uint8_t gts_fire(const uint8_t *model, size_t len, int32_t *values, size_t values_len, uint8_t *marks, size_t marks_len, uint8_t *history, size_t history_len, size_t *n, size_t transition, size_t *rounds);
 
-/* The values become those of a start and of the first n - 1 entries of the history fired again; n one lower. The values
- * that were there are replaced, not compared. Refuses by 1 to 8, 9, 20, 22, 31. */
-uint8_t gts_undo(const uint8_t *model, size_t len, int32_t *values, size_t values_len, const uint8_t *history, size_t history_len, size_t *n);
+/* The values become those of a start and of the first n - 1 entries of the history fired again, the marks those of the
+ * guards over them; n one lower. The values and marks that were there are replaced, not compared.
+ * Refuses by 1 to 8, 9, 10, 20, 22, 31. */
+uint8_t gts_undo(const uint8_t *model, size_t len, int32_t *values, size_t values_len, uint8_t *marks, size_t marks_len, const uint8_t *history, size_t history_len, size_t *n);
 
-/* For each transition 1 if its guard is true, 0 false, 2 failed, into the first T cells of `marks`.
- * Refuses by 1 to 8, 9, 10, 20. */
-uint8_t gts_marks(const uint8_t *model, size_t len, const int32_t *values, size_t values_len, const uint8_t *history, size_t history_len, size_t n, uint8_t *marks, size_t marks_len);
+/* The first T of the run's marks into the first T cells of `buffer`. Refuses by 1 to 8, 9, 10 (marks or buffer), 20. */
+uint8_t gts_marks(const uint8_t *model, size_t len, const int32_t *values, size_t values_len, const uint8_t *marks, size_t marks_len, const uint8_t *history, size_t history_len, size_t n, uint8_t *buffer, size_t buffer_len);
 
-/* The value of a variable. Refuses by 1 to 8, 9, 12, 20. */
-uint8_t gts_value(const uint8_t *model, size_t len, const int32_t *values, size_t values_len, const uint8_t *history, size_t history_len, size_t n, size_t variable, int32_t *value);
+/* The value of a variable. Refuses by 1 to 8, 9, 10, 12, 20. */
+uint8_t gts_value(const uint8_t *model, size_t len, const int32_t *values, size_t values_len, const uint8_t *marks, size_t marks_len, const uint8_t *history, size_t history_len, size_t n, size_t variable, int32_t *value);
 
-/* The lowest transition whose mark is 1: `found` is 1. Where there is none, `found` is 0 and `transition` keeps its content.
- * Refuses by 1 to 8, 9, 20. */
-uint8_t gts_pick(const uint8_t *model, size_t len, const int32_t *values, size_t values_len, const uint8_t *history, size_t history_len, size_t n, size_t *transition, uint8_t *found);
+/* The lowest transition whose guard is true: `found` is 1. Where there is none, `found` is 0 and `transition` keeps its
+ * content. Refuses by 1 to 8, 9, 10, 20. */
+uint8_t gts_pick(const uint8_t *model, size_t len, const int32_t *values, size_t values_len, const uint8_t *marks, size_t marks_len, const uint8_t *history, size_t history_len, size_t n, size_t *transition, uint8_t *found);
 
 /* The check of the values behind 20: the first variable whose value is outside its ends, lowest first, goes to `variable`,
  * and `found` is 1. Where all are within, `found` is 0 and `variable` keeps its content. `looked` is how many values were

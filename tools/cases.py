@@ -1,11 +1,12 @@
 #!/usr/bin/env python3
 """cases.py: writes the stored cases of the test programs, from the files of bench/cases.
 
-check_cases: checks.txt and the edges below; call_cases: calls.txt, values.txt, the extremes, the picks and the ranges below;
-program_cases: programs.txt; text_cases: texts.txt. The cases of NAME go to crates/NAME/data/cases and the expected output to
-crates/NAME/stdout. The byte format is described in crates/NAME/src/main.rt.
+check_cases: checks.txt and the edges below; call_cases: calls.txt, values.txt, the extremes, the picks, the ranges and the held
+marks below; program_cases: programs.txt; text_cases: texts.txt. The cases of NAME go to crates/NAME/data/cases and the expected
+output to crates/NAME/stdout. The byte format is described in crates/NAME/src/main.rt.
 """
 import os
+from collections import namedtuple
 
 ROOT = os.path.dirname(os.path.dirname(os.path.abspath(__file__)))
 BOOLEAN, NUMBER = 1, 2
@@ -256,9 +257,12 @@ CALLS = {'check': 0, 'start': 1, 'fire': 2, 'back': 3, 'marks': 4, 'value': 5, '
 FORMS = {'no': 0, 'ok': 1, 'done': 2, 'value': 3, 'sizes': 4, 'pick': 5, 'none': 6, 'outside': 7, 'within': 8}
 
 
+# All that is lent: the run's values, marks, history and n, and the buffer of the marks call.
+Store = namedtuple('Store', 'values marks history n buffer')
+
+
 def store_bytes(store):
-    values, history, _, marks = store
-    return b''.join(little(v, 4) for v in values) + bytes(history) + bytes(marks)
+    return b''.join(little(v, 4) for v in store.values) + bytes(store.marks) + bytes(store.history) + bytes(store.buffer)
 
 
 def call_bytes(call, wanted, store):
@@ -272,14 +276,29 @@ def call_bytes(call, wanted, store):
         number = little(wanted[1], 8)
     argument = call[1] if len(call) == 2 else 0
     header = bytes([CALLS[call[0]], FORMS[wanted[0]]]) + little(looked, 2) + bytes(4)
-    return header + little(argument, 8) + number + little(store[2], 8) + store_bytes(store)
+    return header + little(argument, 8) + number + little(store.n, 8) + store_bytes(store)
 
 
 def list_bytes(file, twin, store, calls):
-    """A list of calls on a model, its shuffled twin, from a store (values, history, n, marks)."""
-    lengths = [len(store[0]), len(store[1]), len(store[3]), len(calls)]
-    header = little(len(file), 4) + little(len(twin), 4) + b''.join(little(x, 2) for x in lengths) + bytes(8)
-    return header + little(store[2], 8) + file + twin + store_bytes(store) + b''.join(call_bytes(*c) for c in calls)
+    """A list of calls on a model, its shuffled twin, from a store."""
+    lengths = [len(store.values), len(store.history), len(store.buffer), len(calls), len(store.marks)]
+    header = little(len(file), 4) + little(len(twin), 4) + b''.join(little(x, 2) for x in lengths) + bytes(6)
+    return header + little(store.n, 8) + file + twin + store_bytes(store) + b''.join(call_bytes(*c) for c in calls)
+
+
+def listed(files, store, calls):
+    """A list of calls on a model and its twin, with its number of calls."""
+    return (list_bytes(*files, store, calls), len(calls))
+
+
+def kept(store, answers):
+    """Calls that leave the store as it is, each with its answer."""
+    return [(call, wanted, store) for call, wanted in answers]
+
+
+def stored_store(part):
+    """The store of some lines, which call the buffer `marks` and the run's marks `held`."""
+    return Store(part['values'], part['held'], part['record'], part['n'], part['marks'])
 
 
 def stored_calls(path):
@@ -288,29 +307,29 @@ def stored_calls(path):
     for words in words_of(path):
         if words[0] == 'call':
             if not calls:
-                begin = (part['values'], part['record'], part['n'], part['marks'])
+                begin = stored_store(part)
             calls.append([(words[1], *map(int, words[2:]))])
         elif words[0] == 'want':
             rest = numbers(words[1:]) if words[1] == 'pick' else [int(w) for w in words[2:]]
             assert words[1] != 'pick' or len(rest) == 1
             calls[-1].append((words[1], *rest))
         elif words[0] == 'end':
-            lists.append((bytes(part['model']), bytes(part['twin']), begin, calls))
+            lists.append(listed((bytes(part['model']), bytes(part['twin'])), begin, calls))
             part, calls = {}, []
         elif words[0] != 'same':
             part[words[0]] = int(words[1]) if words[0] == 'n' else numbers(words)
-        if calls and words[0] in ('same', 'marks'):
-            calls[-1].append((part['values'], part['record'], part['n'], part['marks']))
-    return [(list_bytes(*each), len(each[3])) for each in lists]
+        if calls and words[0] in ('same', 'held'):
+            calls[-1].append(stored_store(part))
+    return lists
 
 
-def range_check(file, twin, store, wanted):
+def range_check(files, store, wanted):
     """A list of one call, first outside."""
-    return (list_bytes(file, twin, store, [(('first_outside',), wanted, store)]), 1)
+    return listed(files, store, kept(store, [(('first_outside',), wanted)]))
 
 
 def stored_values(path):
-    """The cases of values.txt, each a list of one call; no history is lent to it."""
+    """The cases of values.txt, each a list of one call; nothing but the values is lent to it."""
     lists = []
     for words in words_of(path):
         if words[0] == 'model':
@@ -318,7 +337,7 @@ def stored_values(path):
         elif words[0] == 'values':
             values = numbers(words)
         else:
-            lists.append(range_check(file, file, (values, [], 0, []), (words[1], *map(int, words[2:]))))
+            lists.append(range_check((file, file), Store(values, [], [], 0, []), (words[1], *map(int, words[2:]))))
     return lists
 
 
@@ -334,61 +353,67 @@ def stepped(action, twin, rounds=1, assertion=[SKIP], other=[SKIP], flows=0):
     """A pick that is refused, start, marks, a step, take back twice: the action and its twin give the state 1; every flow becomes 1."""
     head, transition = (1 + flows) * [FLAG], [(5, 0), TRUE]
     files = [model(1, flows, 1, 1, head + transition + a + b) for a, b in ((action, assertion), (twin, other))]
-    before, after, ones = [0], [1], flows * [1]
-    store = (3 * [7] if flows == 0 else (1 + flows) * [7], [9, 9], 77, [5, 6])
-    rest = store[0][1 + flows:]
+    store = Store(3 * [7] if flows == 0 else (1 + flows) * [7], [9, 8], [9, 9], 77, [5, 6])
+    rest = flows * [1] + store.values[1 + flows:]
+    begun = store._replace(values=[0] + rest, marks=[1, 8], n=0)
+    copied = begun._replace(buffer=[1, 6])
+    after = copied._replace(values=[1] + rest, history=[0, 9], n=1)
+    back = after._replace(values=[0] + rest, n=0)
     calls = [
         (('pick',), ('no', 20), store),
-        (('start',), ('ok', rounds), (before + ones + rest, [9, 9], 0, [5, 6])),
-        (('marks',), ('done',), (before + ones + rest, [9, 9], 0, [1, 6])),
-        (('fire', 0), ('ok', rounds), (after + ones + rest, [0, 9], 1, [1, 6])),
-        (('back',), ('done',), (before + ones + rest, [0, 9], 0, [1, 6])),
-        (('back',), ('no', 22), (before + ones + rest, [0, 9], 0, [1, 6])),
+        (('start',), ('ok', rounds), begun),
+        (('marks',), ('done',), copied),
+        (('fire', 0), ('ok', rounds), after),
+        (('back',), ('done',), back),
+        (('back',), ('no', 22), back),
     ]
-    return (list_bytes(files[0], files[1], store, calls), len(calls))
+    return listed(files, store, calls)
 
 
 def refused_step(number, action, twin):
-    """A step whose action is refused."""
+    """A step whose action is refused; the mark held is made up."""
     nodes = [FLAG, (5, 0), TRUE]
     files = [model(1, 0, 1, 1, nodes + each + [SKIP]) for each in (action, twin)]
-    store = ([0], [3], 0, [])
-    calls = [(('fire', 0), ('no', number), store), (('marks',), ('no', 10), store), (('pick',), ('pick', 0), store)]
-    return (list_bytes(files[0], files[1], store, calls), len(calls))
+    store = Store([0], [2], [3], 0, [])
+    return listed(files, store, kept(store, [(('fire', 0), ('no', number)), (('marks',), ('no', 10)), (('pick',), ('pick', 0))]))
 
 
 def refused_start(number, assertion, twin):
     """A start whose assertion over one flow is refused."""
     files = [model(0, 1, 0, 0, [FLAG] + each) for each in (assertion, twin)]
-    store = ([5], [], 3, [])
-    calls = [(('start',), ('no', number), store), (('value', 0), ('no', 20), store)]
-    return (list_bytes(files[0], files[1], store, calls), len(calls))
+    store = Store([5], [], [], 3, [])
+    return listed(files, store, kept(store, [(('start',), ('no', number)), (('value', 0), ('no', 20))]))
 
 
-def guard_nest(guard, twin, mark):
-    """Marks, pick and a step of a transition with this guard; the state is toggled."""
-    files = [model(1, 0, 1, 1, [FLAG, (5, 0)] + each + TOGGLE + [SKIP]) for each in (guard, twin)]
-    store = ([1], [0], 0, [9])
-    marked = ([1], [0], 0, [mark])
-    answers = {0: ('no', 23), 1: ('ok', 1), 2: ('no', 24)}
-    after = ([0], [0], 1, [mark]) if mark == 1 else marked
+def guard_nest(guard, twin, mark, toggled=None):
+    """Start, marks, pick and a step with a guard that has this mark over a state of 1, and the mark `toggled` over 0."""
+    files = [model(1, 0, 1, 1, [(1, 1), (5, 0)] + each + TOGGLE + [SKIP]) for each in (guard, twin)]
+    store = Store([0], [7], [0], 0, [9])
+    begun = store._replace(values=[1], marks=[mark])
+    copied = begun._replace(buffer=[mark])
     calls = [
-        (('marks',), ('done',), marked),
-        (('pick',), ('pick', 0) if mark == 1 else ('none',), marked),
-        (('fire', 0), answers[mark], after),
+        (('start',), ('ok', 1), begun),
+        (('marks',), ('done',), copied),
+        (('pick',), ('pick', 0) if mark == 1 else ('none',), copied),
     ]
-    return (list_bytes(files[0], files[1], store, calls), len(calls))
+    if mark == 1:
+        calls.append((('fire', 0), ('ok', 1), copied._replace(values=[0], marks=[toggled], n=1)))
+        calls.append((('back',), ('done',), copied))
+    else:
+        calls.append((('fire', 0), ('no', 23 if mark == 0 else 24), copied))
+    return listed(files, store, calls)
 
 
 def long_history(places):
-    """Take back at the end of a history of so many steps, each of which toggles the state; and at two places before."""
+    """Take back at the end of a history of so many steps, two of three of which toggle the state; and at two places before."""
     file = model(1, 0, 1, 2, [FLAG] + [(5, 0), TRUE] + TOGGLE + [(5, 0), TRUE, SKIP] + [SKIP])
     history = [0 if i % 3 else 1 for i in range(places)]
     value = [sum(1 for t in history[:n] if t == 0) % 2 for n in range(places + 1)]
-    calls = [(('fire', 0), ('no', 21), ([1], history, places, [1, 0])), (('fire', 2), ('no', 11), ([1], history, places, [1, 0]))]
+    store = Store([1], [0, 2], history, places, [])
+    calls = kept(store, [(('fire', 0), ('no', 21)), (('fire', 2), ('no', 11))])
     for n in (places - 1, places - 2, places - 3):
-        calls.append((('back',), ('done',), ([value[n]], history, n, [1, 0])))
-    return (list_bytes(file, file, ([1], history, places, [1, 0]), calls), len(calls))
+        calls.append((('back',), ('done',), store._replace(values=[value[n]], marks=[1, 1], n=n)))
+    return listed((file, file), store, calls)
 
 
 def largest_sizes():
@@ -397,30 +422,32 @@ def largest_sizes():
     actions = []
     for t in range(255):
         actions += [(5, 254), (34, t - 1) if t else TRUE, (17, t), TRUE]
-    nodes = states + flows + actions + block([[(17, 255 + i), (34, i)] for i in range(255)])
-    twin = states + flows + actions + block([[(17, 255 + i), (34, i)] for i in reversed(range(255))])
-    values, history, marks = 510 * [0] + [-7, 8], 300 * [254], [1] + 254 * [0] + [3, 4]
-    raised = lambda k: k * [1] + (255 - k) * [0]
-    after = lambda k: raised(k) + raised(k) + [-7, 8]
-    store = (510 * [-1] + [-7, 8], history, 2 ** 64 - 1, 255 * [9] + [3, 4])
+    assigned = [[(17, 255 + i), (34, i)] for i in range(255)]
+    files = [model(255, 255, 255, 255, states + flows + actions + block(order)) for order in (assigned, assigned[::-1])]
+    ones = lambda k: k * [1] + (255 - k) * [0]
+    values = lambda k: ones(k) + ones(k) + [-7, 8]
+    marks = lambda k: ones(k + 1) + [3, 4]
+    store = Store(510 * [-1] + [-7, 8], 255 * [9] + [3, 4], 300 * [254], 2 ** 64 - 1, 255 * [9] + [5, 6])
+    left = store._replace(values=values(0), marks=marks(0), n=0)
     calls = [
         (('first_outside',), ('outside', 0, 1), store),
-        (('start',), ('ok', 2), (values, history, 0, store[3])),
-        (('first_outside',), ('within', 510), (values, history, 0, store[3])),
-        (('marks',), ('done',), (values, history, 0, marks)),
+        (('start',), ('ok', 2), left),
+        (('first_outside',), ('within', 510), left),
     ]
+    left = left._replace(buffer=ones(1) + [5, 6])
+    calls.append((('marks',), ('done',), left))
     for k in range(3):
-        history = history[:k] + [k] + history[k + 1:]
-        calls.append((('fire', k), ('ok', 2), (after(k + 1), history, k + 1, marks)))
-    calls.append((('fire', 254), ('no', 23), (after(3), history, 3, marks)))
-    marks = 4 * [1] + 251 * [0] + [3, 4]
-    calls.append((('marks',), ('done',), (after(3), history, 3, marks)))
-    calls.append((('pick',), ('pick', 0), (after(3), history, 3, marks)))
-    calls.append((('value', 257), ('value', 1), (after(3), history, 3, marks)))
-    calls.append((('value', 510), ('no', 12), (after(3), history, 3, marks)))
-    calls.append((('back',), ('done',), (after(2), history, 2, marks)))
-    calls.append((('check',), ('sizes', 255, 255, 255, 255, len(nodes)), (after(2), history, 2, marks)))
-    return (list_bytes(model(255, 255, 255, 255, nodes), model(255, 255, 255, 255, twin), store, calls), len(calls))
+        history = left.history[:k] + [k] + left.history[k + 1:]
+        left = left._replace(values=values(k + 1), marks=marks(k + 1), history=history, n=k + 1)
+        calls.append((('fire', k), ('ok', 2), left))
+    calls.append((('fire', 254), ('no', 23), left))
+    left = left._replace(buffer=ones(4) + [5, 6])
+    calls.append((('marks',), ('done',), left))
+    calls += kept(left, [(('pick',), ('pick', 0)), (('value', 257), ('value', 1)), (('value', 510), ('no', 12))])
+    left = left._replace(values=values(2), marks=marks(2), n=2)
+    calls.append((('back',), ('done',), left))
+    calls.append((('check',), ('sizes', 255, 255, 255, 255, 2041), left))
+    return listed(files, store, calls)
 
 
 def extremes():
@@ -447,10 +474,10 @@ def extremes():
         stepped(ASSIGN, ASSIGN, 2, blocks + [(17, 1), TRUE], blocks + [(17, 1), TRUE], 1),
         stepped(ASSIGN, ASSIGN, 2, conditions + [(17, 1), TRUE], conditions + [(17, 1), TRUE], 1),
         stepped([(17, 0)] + 29 * [(35, 0)] + [(34, 0)], [(17, 0)] + 29 * [(35, 0)] + [(34, 0)]),
-        guard_nest([(38, 0)] + minus + [(32, 1)], [(38, 0), (32, 1)] + minus, 1),
+        guard_nest([(38, 0)] + minus + [(32, 1)], [(38, 0), (32, 1)] + minus, 1, 1),
         guard_nest([(38, 0)] + minus + [(32, 0)], [(38, 0), (32, 0)] + minus, 0),
-        guard_nest(choice, choice, 1),
-        guard_nest(both, crossed, 1),
+        guard_nest(choice, choice, 1, 0),
+        guard_nest(both, crossed, 1, 0),
         guard_nest(29 * [(37, 0), (33, 0)] + failed, 29 * [(37, 0)] + failed + 29 * [(33, 0)], 2),
         long_history(512),
         largest_sizes(),
@@ -470,25 +497,30 @@ def lowest():
     guards = [[(38, 0)] + quotient + three, [(39, 0), x, (32, 2)], [(35, 0), (38, 0), x] + three]
     twin = [[(38, 0)] + three + quotient, guards[1], [(35, 0), (38, 0)] + three + [x]]
     files = [guarded_by(head, guards, [(17, 0), (41, 0), x, (32, 1)]), guarded_by(head, twin, [(17, 0), (41, 0), (32, 1), x])]
-    stores = [([0, 7], [9, 9, 9], 0, []), ([1, 7], [1, 9, 9], 1, []), ([2, 7], [1, 2, 9], 2, []), ([3, 7], [1, 2, 0], 3, [])]
+    stores = [
+        Store([0, 7], [1, 0, 0], [9, 9, 9], 0, []),  # before any start; the guards give 2 1 1
+        Store([1, 7], [0, 1, 1], [1, 9, 9], 1, []),
+        Store([2, 7], [1, 0, 1], [1, 2, 9], 2, []),
+        Store([3, 7], [0, 0, 0], [1, 2, 0], 3, []),
+    ]
     calls = [
-        (('pick',), ('pick', 1), stores[0]),  # marks 2 1 1, before any start
+        (('pick',), ('pick', 1), stores[0]),
         (('fire', 1), ('ok', 1), stores[1]),
-        (('pick',), ('pick', 1), stores[1]),  # marks 0 1 1
+        (('pick',), ('pick', 1), stores[1]),
         (('fire', 2), ('ok', 1), stores[2]),
-        (('pick',), ('pick', 0), stores[2]),  # marks 1 0 1
+        (('pick',), ('pick', 0), stores[2]),
         (('fire', 0), ('ok', 1), stores[3]),
         (('pick',), ('none',), stores[3]),
     ]
-    return (list_bytes(files[0], files[1], stores[0], calls), len(calls))
+    return listed(files, stores[0], calls)
 
 
-def last_of_all(values, history, n, wanted):
+def last_of_all(values, history, n, wanted, marks=255 * [0]):
     """Pick alone, on a model of 255 transitions of which only the last can be fireable."""
     both = [[(36, 0), (34, 0), TRUE], [(36, 0), TRUE, (34, 0)]]
     files = [guarded_by([FLAG], 254 * [[(33, 0)]] + [last], [SKIP]) for last in both]
-    store = (values, history, n, [])
-    return (list_bytes(files[0], files[1], store, [(('pick',), wanted, store)]), 1)
+    store = Store(values, marks, history, n, [])
+    return listed(files, store, kept(store, [(('pick',), wanted)]))
 
 
 def picks():
@@ -513,10 +545,10 @@ def range_models():
 
 def checked_along():
     """First outside before a start, and after steps that are accepted or refused."""
-    stale = ([4, 2, 9], [5], 3, [7])
-    begun = ([0, 1, 9], [5], 0, [7])
-    raised = ([1, 1, 9], [0], 1, [7])
-    back = ([0, 1, 9], [0], 0, [7])
+    stale = Store([4, 2, 9], [3], [5], 3, [7])
+    begun = stale._replace(values=[0, 1, 9], marks=[1], n=0)
+    raised = begun._replace(values=[1, 1, 9], history=[0], n=1)
+    back = raised._replace(values=[0, 1, 9], n=0)
     check, within = ('first_outside',), ('within', 2)
     calls = [
         (check, ('outside', 0, 1), stale),
@@ -529,18 +561,237 @@ def checked_along():
         (('back',), ('done',), back),
         (check, within, back),
     ]
-    return (list_bytes(*range_models(), stale, calls), len(calls))
+    return listed(range_models(), stale, calls)
 
 
 def ranges():
-    """Lists for first outside: along a run, both sides of each end, and a history and an n that it does not look at."""
+    """Lists for first outside: along a run, both sides of each end, and marks, a history and an n that it does not look at."""
     within, first, second = ('within', 2), ('outside', 0, 1), ('outside', 1, 2)
     answers = [
         ([-1, 0], within), ([3, 1], within), ([-2, 0], first), ([4, 0], first), ([0, -1], second), ([0, 2], second), ([4, 2], first),
         ([0, 1, -7], within), ([0], ('no', 9)), ([], ('no', 9)),
     ]
-    lists = [range_check(*range_models(), (values, [], 0, []), wanted) for values, wanted in answers]
-    return [checked_along()] + lists + [range_check(*range_models(), ([0, 1], [9], 2 ** 64 - 1, []), within)]
+    lists = [range_check(range_models(), Store(values, [], [], 0, []), wanted) for values, wanted in answers]
+    return [checked_along()] + lists + [range_check(range_models(), Store([0, 1], [3], [9], 2 ** 64 - 1, []), within)]
+
+
+def both_ways(write):
+    """A model and its twin: `write` gets a function that joins two parts, as they come or exchanged."""
+    return write(lambda a, b: a + b), write(lambda a, b: b + a)
+
+
+def stairs(join):
+    """A number x from 0 to 3, at first 1, and a flow: whether x is below 2. The guards are 6 div x = 3, the flow, and x not 3; the
+    first two transitions raise x by 1, the third sets it to 0."""
+    x, three, head = [(34, 0)], [(32, 3)], [(2, 0), (3, 3), (4, 1), FLAG]
+    raising = [(17, 0), (41, 0)] + join(x, [(32, 1)])
+    first = [(5, 0), (38, 0)] + join([(44, 0), (32, 6)] + x, three) + raising
+    second = [(5, 0), (34, 1)] + raising
+    third = [(5, 0), (35, 0), (38, 0)] + join(x, three) + [(17, 0), (32, 0)]
+    return model(1, 1, 1, 3, head + first + second + third + [(19, 2)] + join([(17, 1), (39, 0)] + x + [(32, 2)], [SKIP]))
+
+
+STAIRS = both_ways(stairs)
+STAIRS_SIZES = ('sizes', 1, 1, 1, 3, 33)
+
+
+def at(x, store, **others):
+    """The store with the stairs' values and marks at x."""
+    marks = [[2, 1, 1], [0, 1, 1], [1, 0, 1], [0, 0, 0]][x]
+    return store._replace(values=[x, int(x < 2)] + store.values[2:], marks=marks + store.marks[3:], **others)
+
+
+def made_up():
+    """Made-up marks are copied, fire and pick go by the guards; a step sets the marks right; a guard fails and is taken back."""
+    store = Store([2, 0, -7], [0, 1, 2, 9], [9, 9], 0, [7, 7, 7, 8])
+    copied = store._replace(buffer=[0, 1, 2, 8])
+    top = at(3, copied, history=[0, 9], n=1)
+    back = at(1, top, n=0)
+    low = at(0, back, history=[2, 9], n=1)
+    seen = low._replace(buffer=[2, 1, 1, 8])
+    calls = [
+        (('marks',), ('done',), copied),
+        *kept(copied, [(('fire', 1), ('no', 23)), (('pick',), ('pick', 0)), (('value', 0), ('value', 2)), (('back',), ('no', 22))]),
+        (('fire', 0), ('ok', 2), top),
+        (('pick',), ('none',), top),
+        (('back',), ('done',), back),
+        (('fire', 2), ('ok', 2), low),
+        (('marks',), ('done',), seen),
+        *kept(seen, [(('fire', 0), ('no', 24)), (('pick',), ('pick', 1))]),
+        (('back',), ('done',), at(1, seen, n=0)),
+        (('marks',), ('done',), at(1, seen, n=0, buffer=[0, 1, 1, 8])),
+    ]
+    return listed(STAIRS, store, calls)
+
+
+def taken_back():
+    """Take back on made-up marks, and start."""
+    store = Store([3, 0], [2, 2, 2], [1, 0], 2, [])
+    once, twice = at(2, store, n=1), at(1, store, n=0)
+    calls = [(('back',), ('done',), once), (('back',), ('done',), twice)]
+    again = Store([9, 9], [255, 254, 253], [], 7, [])
+    return [listed(STAIRS, store, calls), listed(STAIRS, again, [(('start',), ('ok', 2), at(1, again, n=0))])]
+
+
+def above_two(place, mark):
+    """A held mark above 2: every call on a run but start refuses it."""
+    marks = [0, 1, 1, 9]
+    marks[place] = mark
+    store = Store([1, 1], marks, [1, 9], 1, [7, 7, 7])
+    refusals = [('fire', 1), ('fire', 0), ('back',), ('marks',), ('value', 0), ('pick',)]
+    calls = kept(store, [(call, ('no', 20)) for call in refusals])
+    calls += kept(store, [(('first_outside',), ('within', 2)), (('check',), STAIRS_SIZES)])
+    begun = at(1, store, n=0)
+    return listed(STAIRS, store, calls + [(('start',), ('ok', 2), begun), (('fire', 1), ('ok', 2), at(2, begun, n=1))])
+
+
+def above_two_past_the_last(mark):
+    """Marks above 2 from place T on are neither looked at nor written."""
+    store = Store([1, 1], [0, 1, 1, mark], [9], 0, [7, 7, 7, mark])
+    copied = store._replace(buffer=[0, 1, 1, mark])
+    fired = at(2, copied, history=[1], n=1)
+    back = at(1, fired, n=0)
+    calls = [
+        (('marks',), ('done',), copied),
+        *kept(copied, [(('value', 1), ('value', 1)), (('pick',), ('pick', 1))]),
+        (('fire', 1), ('ok', 2), fired),
+        (('back',), ('done',), back),
+        (('start',), ('ok', 2), back),
+    ]
+    return listed(STAIRS, store, calls)
+
+
+def mark_lengths(marks, buffer):
+    """Every call with so many cells for the run's marks, made up, and for the buffer; T is 3."""
+    store = Store([2, 0], marks * [2], [1, 9], 1, buffer * [7])
+    calls = kept(store, [(('check',), STAIRS_SIZES), (('first_outside',), ('within', 2))])
+    if marks < 3:
+        refusals = [('value', 1), ('pick',), ('marks',), ('fire', 0), ('back',), ('start',)]
+        return listed(STAIRS, store, calls + kept(store, [(call, ('no', 10)) for call in refusals]))
+    calls += kept(store, [(('value', 1), ('value', 0)), (('pick',), ('pick', 0))])
+    left = store if buffer < 3 else store._replace(buffer=[2, 2, 2] + store.buffer[3:])
+    calls.append((('marks',), ('no', 10) if buffer < 3 else ('done',), left))
+    fired = at(3, left, history=[1, 0], n=2)
+    calls.append((('fire', 0), ('ok', 2), fired))
+    calls.append((('back',), ('done',), at(2, fired, n=1)))
+    calls.append((('start',), ('ok', 2), at(1, fired, n=0)))
+    return listed(STAIRS, store, calls)
+
+
+def mark_orders():
+    """9 with 10; 10 with 11, 12 and 20; 11, 12 and the buffer's 10 with 20; 20 with 21 to 23."""
+    every = [('start',), ('fire', 3), ('fire', 0), ('back',), ('marks',), ('value', 2), ('value', 0), ('pick',)]
+    lists = []
+    for store in (Store([1], [0, 1], [], 0, [7, 7]), Store([1], [3, 3, 3], [], 5, [])):
+        lists.append(listed(STAIRS, store, kept(store, [(call, ('no', 9)) for call in every + [('first_outside',)]])))
+    for store in (Store([9, 9], [3, 3], [9], 2, [7, 7, 7]), Store([9, 9], [], [], 1, [])):
+        answers = [(call, ('no', 10)) for call in every] + [(('first_outside',), ('outside', 0, 1))]
+        lists.append(listed(STAIRS, store, kept(store, answers)))
+    store = Store([1, 1], [3, 0, 0], [], 0, [7, 7])
+    answers = [(('fire', 3), ('no', 11)), (('value', 2), ('no', 12)), (('marks',), ('no', 10))]
+    answers += [(call, ('no', 20)) for call in [('fire', 0), ('back',), ('value', 0), ('pick',)]]
+    lists.append(listed(STAIRS, store, kept(store, answers)))
+    return lists
+
+
+def refusing(first, join):
+    """A number x from 0 to 5 and a flow. Transitions 0 to 7 are refused by 23 to 30, transition 8 sets x to 4; a start with x at
+    1, 2, 3 is refused by 28, 29, 30."""
+    number = lambda first: [(2, 0), (3, 5), (4, first)]
+    failed, one = [(44, 0), (32, 1), (32, 0)], [(32, 1)]
+    state, flow = lambda k: [(17, 0), (32, k)], lambda k: [(17, 1), (32, k)]
+    both = lambda a, b: [(19, 2)] + join(a, b)
+    where = lambda k, body: [(18, 0), (38, 0)] + join([(34, 0)], [(32, k)]) + body
+    guards = [[(33, 0)], [(38, 0)] + join(failed, one)] + 7 * [[TRUE]]
+    actions = [[SKIP], [SKIP], [(17, 0)] + failed, state(9), both(state(1), state(2)), state(1), state(2), state(3), state(4)]
+    transitions = [node for guard, action in zip(guards, actions) for node in [(5, 0)] + guard + action]
+    faults = where(2, flow(9)), where(3, both(flow(1), flow(2)))
+    return model(1, 1, 1, 9, number(first) + number(0) + transitions + both(where(1, [(17, 1)] + failed), both(*faults)))
+
+
+def refused_on_made_up():
+    """Refusals by 21 to 31 leave made-up marks as they are."""
+    marks = [2, 1, 0, 1, 2, 0, 0, 2, 0, 77]
+    files = lambda first: both_ways(lambda join: refusing(first, join))
+    store = Store([0, 0], marks, [0, 8, 9], 2, 9 * [7])
+    copied = store._replace(buffer=marks[:9])
+    fired = copied._replace(values=[4, 0], marks=[0, 2, 1, 1, 1, 1, 1, 1, 1, 77], history=[0, 8, 8], n=3)
+    calls = kept(store, [(('fire', t), ('no', 23 + t)) for t in range(8)] + [(('back',), ('no', 31))])
+    calls += [(('marks',), ('done',), copied), (('fire', 8), ('ok', 1), fired), (('fire', 8), ('no', 21), fired)]
+    lists = [listed(files(0), store, calls)]
+    store = Store([0, 0], marks, [], 0, [])
+    answers = [(('fire', 8), ('no', 21)), (('back',), ('no', 22)), (('marks',), ('no', 10)), (('pick',), ('pick', 2))]
+    lists.append(listed(files(0), store, kept(store, answers)))
+    store = Store([0, 0], marks, [8], 1, [])
+    for first in (1, 2, 3):
+        lists.append(listed(files(first), store, kept(store, [(('start',), ('no', 27 + first)), (('back',), ('no', 31))])))
+    short = store._replace(marks=marks[:8])
+    return lists + [listed(files(1), short, kept(short, [(('start',), ('no', 10))]))]
+
+
+def no_transitions(cells):
+    """Every call on a model without transitions; the marks and the buffer have these cells."""
+    file, store = model(1, 0, 0, 0, [FLAG, SKIP]), Store([0], cells, [], 0, cells)
+    answers = [
+        (('check',), ('sizes', 1, 0, 0, 0, 2)), (('start',), ('ok', 1)), (('fire', 0), ('no', 11)), (('back',), ('no', 22)),
+        (('marks',), ('done',)), (('value', 0), ('value', 0)), (('pick',), ('none',)), (('first_outside',), ('within', 1)),
+    ]
+    return listed((file, file), store, kept(store, answers))
+
+
+def counting(join):
+    """A number x from 0 to 255, at first 0, and 255 transitions: each is fireable where x is its number, and raises x by 1."""
+    x, transitions = [(34, 0)], []
+    for t in range(255):
+        transitions += [(5, 0), (38, 0)] + join(x, [(32, t)]) + [(17, 0), (41, 0)] + join(x, [(32, 1)])
+    return model(1, 0, 1, 255, [(2, 0), (3, 255), (4, 0)] + transitions + [SKIP])
+
+
+def most_transitions():
+    """Made-up marks of 255 transitions are copied and set right, at the first of them and at the last."""
+    files, only = both_ways(counting), lambda t: [int(i == t) for i in range(255)]
+    store = Store([0], 255 * [2] + [3, 255, 9], [9, 9], 0, 258 * [7])
+    copied = store._replace(buffer=255 * [2] + [7, 7, 7])
+    fired = copied._replace(values=[1], marks=only(1) + [3, 255, 9], history=[0, 9], n=1)
+    seen = fired._replace(buffer=only(1) + [7, 7, 7])
+    back = seen._replace(values=[0], marks=only(0) + [3, 255, 9], n=0)
+    calls = [
+        (('marks',), ('done',), copied),
+        *kept(copied, [(('pick',), ('pick', 0)), (('fire', 254), ('no', 23))]),
+        (('fire', 0), ('ok', 1), fired),
+        (('marks',), ('done',), seen),
+        (('back',), ('done',), back),
+    ]
+    last = Store([254], 255 * [1], [9], 0, 255 * [7])
+    ended = last._replace(values=[255], marks=255 * [0], history=[254], n=1)
+    shown = ended._replace(buffer=255 * [0])
+    more = [
+        *kept(last, [(('pick',), ('pick', 254)), (('fire', 0), ('no', 23))]),
+        (('fire', 254), ('ok', 1), ended),
+        (('marks',), ('done',), shown),
+        (('pick',), ('none',), shown),
+    ]
+    return [listed(files, store, calls), listed(files, last, more)]
+
+
+def held_marks():
+    """Lists for the marks that a run holds: made up, above 2, of every length, and the order of the refusals."""
+    lengths = (2, 3, 6)
+    return [
+        made_up(),
+        *taken_back(),
+        *[above_two(place, mark) for place in range(3) for mark in (3, 255)],
+        *[above_two_past_the_last(mark) for mark in (3, 255)],
+        *[mark_lengths(marks, buffer) for marks in lengths for buffer in lengths],
+        *mark_orders(),
+        *refused_on_made_up(),
+        no_transitions([]),
+        no_transitions([9, 255]),
+        *most_transitions(),
+        last_of_all([1], [], 0, ('no', 10), 254 * [0]),
+        last_of_all([1], [], 0, ('no', 20), 254 * [0] + [3]),
+        last_of_all([1], [], 0, ('pick', 254), 255 * [2] + [3]),
+    ]
 
 
 def stored_programs(path):
@@ -599,7 +850,8 @@ def main():
     vectors = lambda name: os.path.join(ROOT, 'bench', 'cases', name)
     checks = stored_checks(vectors('checks.txt')) + edges()
     write('check_cases', checks, f'{len(checks)} cases, 0 differ')
-    lists = stored_calls(vectors('calls.txt')) + stored_values(vectors('values.txt')) + extremes() + picks() + ranges()
+    lists = stored_calls(vectors('calls.txt')) + stored_values(vectors('values.txt'))
+    lists += extremes() + picks() + ranges() + held_marks()
     calls = sum(number for _, number in lists)
     write('call_cases', [each for each, _ in lists], f'{len(lists)} lists, {2 * calls} calls, 0 differ')
     programs = stored_programs(vectors('programs.txt'))

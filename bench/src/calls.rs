@@ -9,9 +9,9 @@ use crate::guarded::{Cell, Guarded};
 pub struct Engine {
     pub name: &'static str,
     pub check: fn(model: &[u8], sizes: &mut [u32]) -> u8,
-    pub start: fn(model: &[u8], values: &mut [i32], n: &mut usize, rounds: &mut usize) -> u8,
+    pub start: Start,
     pub fire: Fire,
-    pub undo: fn(model: &[u8], values: &mut [i32], history: &[u8], n: &mut usize) -> u8,
+    pub undo: Undo,
     pub marks: Marks,
     pub value: Value,
     pub pick: Pick,
@@ -19,20 +19,35 @@ pub struct Engine {
     pub text: Text,
 }
 
+pub type Start =
+    fn(model: &[u8], values: &mut [i32], marks: &mut [u8], n: &mut usize, rounds: &mut usize) -> u8;
+
 pub type Fire = fn(
     model: &[u8],
     values: &mut [i32],
+    marks: &mut [u8],
     history: &mut [u8],
     n: &mut usize,
     transition: usize,
     rounds: &mut usize,
 ) -> u8;
 
-pub type Marks = fn(model: &[u8], values: &[i32], history: &[u8], n: usize, marks: &mut [u8]) -> u8;
+pub type Undo =
+    fn(model: &[u8], values: &mut [i32], marks: &mut [u8], history: &[u8], n: &mut usize) -> u8;
+
+pub type Marks = fn(
+    model: &[u8],
+    values: &[i32],
+    marks: &[u8],
+    history: &[u8],
+    n: usize,
+    buffer: &mut [u8],
+) -> u8;
 
 pub type Value = fn(
     model: &[u8],
     values: &[i32],
+    marks: &[u8],
     history: &[u8],
     n: usize,
     variable: usize,
@@ -42,6 +57,7 @@ pub type Value = fn(
 pub type Pick = fn(
     model: &[u8],
     values: &[i32],
+    marks: &[u8],
     history: &[u8],
     n: usize,
     transition: &mut usize,
@@ -68,9 +84,12 @@ pub type Text = fn(
 #[derive(Clone, PartialEq)]
 pub struct Store {
     pub values: Guarded<i32>,
+    /// Those that the run holds.
+    pub marks: Guarded<u8>,
     pub history: Guarded<u8>,
     pub n: Guarded<usize>,
-    pub marks: Guarded<u8>,
+    /// What the marks call copies them to.
+    pub buffer: Guarded<u8>,
     pub sizes: Guarded<u32>,
     pub rounds: Guarded<usize>,
     pub value: Guarded<i32>,
@@ -83,12 +102,13 @@ pub struct Store {
 
 impl Store {
     /// A store whose results are still as given here.
-    pub fn new(values: &[i32], history: &[u8], n: usize, marks: &[u8]) -> Self {
+    pub fn new(values: &[i32], marks: &[u8], history: &[u8], n: usize, buffer: &[u8]) -> Self {
         Store {
             values: Guarded::new(values),
+            marks: Guarded::new(marks),
             history: Guarded::new(history),
             n: Guarded::new(&[n]),
-            marks: Guarded::new(marks),
+            buffer: Guarded::new(buffer),
             sizes: Guarded::new(&[0; 5]),
             rounds: Guarded::new(&[0]),
             value: Guarded::new(&[0]),
@@ -101,9 +121,10 @@ impl Store {
 
     pub fn intact(&self) -> bool {
         self.values.intact()
+            && self.marks.intact()
             && self.history.intact()
             && self.n.intact()
-            && self.marks.intact()
+            && self.buffer.intact()
             && self.sizes.intact()
             && self.rounds.intact()
             && self.value.intact()
@@ -117,9 +138,10 @@ impl Store {
     pub fn differences(&self, other: &Store) -> Vec<String> {
         [
             part("values", &self.values, &other.values),
+            part("marks", &self.marks, &other.marks),
             part("history", &self.history, &other.history),
             part("n", &self.n, &other.n),
-            part("marks", &self.marks, &other.marks),
+            part("buffer", &self.buffer, &other.buffer),
             part("sizes", &self.sizes, &other.sizes),
             part("rounds", &self.rounds, &other.rounds),
             part("value", &self.value, &other.value),
@@ -224,6 +246,7 @@ pub const TABLE: [Row; 8] = [
             (engine.start)(
                 model,
                 s.values.cells_mut(),
+                s.marks.cells_mut(),
                 s.n.get_mut(),
                 s.rounds.get_mut(),
             )
@@ -236,6 +259,7 @@ pub const TABLE: [Row; 8] = [
             (engine.fire)(
                 model,
                 s.values.cells_mut(),
+                s.marks.cells_mut(),
                 s.history.cells_mut(),
                 s.n.get_mut(),
                 transition,
@@ -250,6 +274,7 @@ pub const TABLE: [Row; 8] = [
             (engine.undo)(
                 model,
                 s.values.cells_mut(),
+                s.marks.cells_mut(),
                 s.history.cells(),
                 s.n.get_mut(),
             )
@@ -262,9 +287,10 @@ pub const TABLE: [Row; 8] = [
             (engine.marks)(
                 model,
                 s.values.cells(),
+                s.marks.cells(),
                 s.history.cells(),
                 s.n.get(),
-                s.marks.cells_mut(),
+                s.buffer.cells_mut(),
             )
         },
     },
@@ -275,6 +301,7 @@ pub const TABLE: [Row; 8] = [
             (engine.value)(
                 model,
                 s.values.cells(),
+                s.marks.cells(),
                 s.history.cells(),
                 s.n.get(),
                 variable,
@@ -289,6 +316,7 @@ pub const TABLE: [Row; 8] = [
             (engine.pick)(
                 model,
                 s.values.cells(),
+                s.marks.cells(),
                 s.history.cells(),
                 s.n.get(),
                 s.transition.get_mut(),

@@ -9,6 +9,8 @@ extern "C" {
         len: usize,
         values: *mut i32,
         values_len: usize,
+        marks: *mut u8,
+        marks_len: usize,
         n: *mut usize,
         rounds: *mut usize,
     ) -> u8;
@@ -17,6 +19,8 @@ extern "C" {
         len: usize,
         values: *mut i32,
         values_len: usize,
+        marks: *mut u8,
+        marks_len: usize,
         history: *mut u8,
         history_len: usize,
         n: *mut usize,
@@ -28,6 +32,8 @@ extern "C" {
         len: usize,
         values: *mut i32,
         values_len: usize,
+        marks: *mut u8,
+        marks_len: usize,
         history: *const u8,
         history_len: usize,
         n: *mut usize,
@@ -37,17 +43,21 @@ extern "C" {
         len: usize,
         values: *const i32,
         values_len: usize,
+        marks: *const u8,
+        marks_len: usize,
         history: *const u8,
         history_len: usize,
         n: usize,
-        marks: *mut u8,
-        marks_len: usize,
+        buffer: *mut u8,
+        buffer_len: usize,
     ) -> u8;
     fn gts_value(
         model: *const u8,
         len: usize,
         values: *const i32,
         values_len: usize,
+        marks: *const u8,
+        marks_len: usize,
         history: *const u8,
         history_len: usize,
         n: usize,
@@ -59,6 +69,8 @@ extern "C" {
         len: usize,
         values: *const i32,
         values_len: usize,
+        marks: *const u8,
+        marks_len: usize,
         history: *const u8,
         history_len: usize,
         n: usize,
@@ -107,13 +119,21 @@ pub fn check(model: &[u8], sizes: &mut [u32]) -> u8 {
     unsafe { gts_check(model.as_ptr(), model.len(), sizes.as_mut_ptr(), sizes.len()) }
 }
 
-pub fn start(model: &[u8], values: &mut [i32], n: &mut usize, rounds: &mut usize) -> u8 {
+pub fn start(
+    model: &[u8],
+    values: &mut [i32],
+    marks: &mut [u8],
+    n: &mut usize,
+    rounds: &mut usize,
+) -> u8 {
     unsafe {
         gts_start(
             model.as_ptr(),
             model.len(),
             values.as_mut_ptr(),
             values.len(),
+            marks.as_mut_ptr(),
+            marks.len(),
             n,
             rounds,
         )
@@ -123,6 +143,7 @@ pub fn start(model: &[u8], values: &mut [i32], n: &mut usize, rounds: &mut usize
 pub fn fire(
     model: &[u8],
     values: &mut [i32],
+    marks: &mut [u8],
     history: &mut [u8],
     n: &mut usize,
     transition: usize,
@@ -134,6 +155,8 @@ pub fn fire(
             model.len(),
             values.as_mut_ptr(),
             values.len(),
+            marks.as_mut_ptr(),
+            marks.len(),
             history.as_mut_ptr(),
             history.len(),
             n,
@@ -143,13 +166,21 @@ pub fn fire(
     }
 }
 
-pub fn undo(model: &[u8], values: &mut [i32], history: &[u8], n: &mut usize) -> u8 {
+pub fn undo(
+    model: &[u8],
+    values: &mut [i32],
+    marks: &mut [u8],
+    history: &[u8],
+    n: &mut usize,
+) -> u8 {
     unsafe {
         gts_undo(
             model.as_ptr(),
             model.len(),
             values.as_mut_ptr(),
             values.len(),
+            marks.as_mut_ptr(),
+            marks.len(),
             history.as_ptr(),
             history.len(),
             n,
@@ -157,18 +188,27 @@ pub fn undo(model: &[u8], values: &mut [i32], history: &[u8], n: &mut usize) -> 
     }
 }
 
-pub fn marks(model: &[u8], values: &[i32], history: &[u8], n: usize, marks: &mut [u8]) -> u8 {
+pub fn marks(
+    model: &[u8],
+    values: &[i32],
+    marks: &[u8],
+    history: &[u8],
+    n: usize,
+    buffer: &mut [u8],
+) -> u8 {
     unsafe {
         gts_marks(
             model.as_ptr(),
             model.len(),
             values.as_ptr(),
             values.len(),
+            marks.as_ptr(),
+            marks.len(),
             history.as_ptr(),
             history.len(),
             n,
-            marks.as_mut_ptr(),
-            marks.len(),
+            buffer.as_mut_ptr(),
+            buffer.len(),
         )
     }
 }
@@ -176,6 +216,7 @@ pub fn marks(model: &[u8], values: &[i32], history: &[u8], n: usize, marks: &mut
 pub fn value(
     model: &[u8],
     values: &[i32],
+    marks: &[u8],
     history: &[u8],
     n: usize,
     variable: usize,
@@ -187,6 +228,8 @@ pub fn value(
             model.len(),
             values.as_ptr(),
             values.len(),
+            marks.as_ptr(),
+            marks.len(),
             history.as_ptr(),
             history.len(),
             n,
@@ -199,6 +242,7 @@ pub fn value(
 pub fn pick(
     model: &[u8],
     values: &[i32],
+    marks: &[u8],
     history: &[u8],
     n: usize,
     transition: &mut usize,
@@ -210,6 +254,8 @@ pub fn pick(
             model.len(),
             values.as_ptr(),
             values.len(),
+            marks.as_ptr(),
+            marks.len(),
             history.as_ptr(),
             history.len(),
             n,

@@ -33,7 +33,7 @@ fn command(line: &[u8]) -> Option<Command> {
 /// What gtsrun prints for a model file and a standard input. All goes through the table of calls.
 pub fn gtsrun(engine: &Engine, model: &[u8], input: &[u8]) -> String {
     let mut output = String::new();
-    let mut store = Store::new(&[], &[], 0, &[]);
+    let mut store = Store::new(&[], &[], &[], 0, &[]);
     let perform = |row, number, store: &mut Store| {
         let answer = Call { row, number }.perform(engine, model, store);
         assert!(store.intact(), "guard cells were written");
@@ -45,9 +45,9 @@ pub fn gtsrun(engine: &Engine, model: &[u8], input: &[u8]) -> String {
         let [states, flows, _, transitions, _] = store.sizes.cells() else {
             unreachable!("a store has five sizes");
         };
-        let variables = (states + flows) as usize;
+        let values = vec![0; (states + flows) as usize];
         let marks = vec![0; *transitions as usize];
-        store = Store::new(&vec![0; variables], &[0; PLACES], 0, &marks);
+        store = Store::new(&values, &marks, &[0; PLACES], 0, &marks);
         answer = perform(START, 0, &mut store);
     }
     if answer != 0 {
@@ -67,7 +67,7 @@ pub fn gtsrun(engine: &Engine, model: &[u8], input: &[u8]) -> String {
         match command {
             Some(Command::Fire(_)) if answer == 0 => print_ok(&mut output, &store),
             Some(Command::Undo) if answer == 0 => print(&mut output, "back", store.values.cells()),
-            Some(Command::Marks) if answer == 0 => print(&mut output, "m", store.marks.cells()),
+            Some(Command::Marks) if answer == 0 => print(&mut output, "m", store.buffer.cells()),
             _ => print(&mut output, "no", [answer]),
         }
     }

@@ -25,28 +25,32 @@ pub const ENGINE: Engine = Engine {
             Ok(())
         })
     },
-    start: |model, values, n, rounds| {
-        answer(start(model, values, n), |count| {
+    start: |model, values, marks, n, rounds| {
+        answer(start(model, values, marks, n), |count| {
             *rounds = count;
             Ok(())
         })
     },
-    fire: |model, values, history, n, transition, rounds| {
-        answer(fire(model, values, history, n, transition), |count| {
+    fire: |model, values, marks, history, n, transition, rounds| {
+        let fired = fire(model, values, marks, history, n, transition);
+        answer(fired, |count| {
             *rounds = count;
             Ok(())
         })
     },
-    undo: |model, values, history, n| answer(undo(model, values, history, n), Ok),
-    marks: |model, values, history, n, cells| answer(marks(model, values, history, n, cells), Ok),
-    value: |model, values, history, n, variable, cell| {
-        answer(value(model, values, history, n, variable), |found| {
+    undo: |model, values, marks, history, n| answer(undo(model, values, marks, history, n), Ok),
+    marks: |model, values, held, history, n, buffer| {
+        answer(marks(model, values, held, history, n, buffer), Ok)
+    },
+    value: |model, values, marks, history, n, variable, cell| {
+        let read = value(model, values, marks, history, n, variable);
+        answer(read, |found| {
             *cell = found;
             Ok(())
         })
     },
-    pick: |model, values, history, n, transition, found| {
-        answer(pick(model, values, history, n), |picked| {
+    pick: |model, values, marks, history, n, transition, found| {
+        answer(pick(model, values, marks, history, n), |picked| {
             *found = u8::from(picked.is_some());
             if let Some(lowest) = picked {
                 *transition = lowest;

@@ -35,22 +35,30 @@ pub struct ListCase {
 #[derive(Clone, PartialEq, Debug)]
 pub struct Lent {
     pub values: Vec<i32>,
+    pub marks: Vec<u8>,
     pub history: Vec<u8>,
     pub n: usize,
-    pub marks: Vec<u8>,
+    pub buffer: Vec<u8>,
 }
 
 impl Lent {
     pub fn store(&self) -> Store {
-        Store::new(&self.values, &self.history, self.n, &self.marks)
+        Store::new(
+            &self.values,
+            &self.marks,
+            &self.history,
+            self.n,
+            &self.buffer,
+        )
     }
 
     pub fn of(store: &Store) -> Self {
         Lent {
             values: store.values.cells().to_vec(),
+            marks: store.marks.cells().to_vec(),
             history: store.history.cells().to_vec(),
             n: store.n.get(),
-            marks: store.marks.cells().to_vec(),
+            buffer: store.buffer.cells().to_vec(),
         }
     }
 }
@@ -164,12 +172,14 @@ impl<'a> Source<'a> {
         vec![number(words.next()); length]
     }
 
+    /// In the files the buffer is called marks, and the run's marks are called held.
     fn lent(&mut self) -> Lent {
         Lent {
             values: self.list("values"),
             history: self.list("record"),
             n: number(self.words("n").next()),
-            marks: self.list("marks"),
+            buffer: self.list("marks"),
+            marks: self.list("held"),
         }
     }
 }
@@ -370,7 +380,7 @@ fn values_case(source: &mut Source, model: &[u8]) -> ValuesCase {
         variable: Guarded::new(&[9_999]),
         found: Guarded::new(&[99]),
         looked: Guarded::new(&[9_999]),
-        ..Store::new(&values, &[], 0, &[])
+        ..Store::new(&values, &[], &[], 0, &[])
     };
     let mut after = lent.clone();
     let mut words = source.words("want");

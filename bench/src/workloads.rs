@@ -58,22 +58,31 @@ pub struct Prepared<'w> {
 #[derive(Clone)]
 struct Run {
     values: Vec<i32>,
+    marks: Vec<u8>,
     history: Vec<u8>,
     n: usize,
-    marks: Vec<u8>,
+    /// What the marks call copies the marks to.
+    buffer: Vec<u8>,
 }
 
 impl Run {
     /// Start and fires; gives the sum of the round counts.
     fn perform(&mut self, engine: &Engine, model: &[u8], steps: &[usize], count: usize) -> usize {
         let mut rounds = 0;
-        let answer = (engine.start)(model, &mut self.values, &mut self.n, &mut rounds);
+        let answer = (engine.start)(
+            model,
+            &mut self.values,
+            &mut self.marks,
+            &mut self.n,
+            &mut rounds,
+        );
         assert_eq!(answer, 0, "{} refuses a start", engine.name);
         let mut sum = rounds;
         for &step in steps.iter().cycle().take(count) {
             let answer = (engine.fire)(
                 model,
                 &mut self.values,
+                &mut self.marks,
                 &mut self.history,
                 &mut self.n,
                 step,
@@ -88,7 +97,13 @@ impl Run {
     /// Takes the last step back; gives the sum of the values.
     fn undo(&mut self, engine: &Engine, model: &[u8]) -> u64 {
         let n = self.n;
-        let answer = (engine.undo)(model, &mut self.values, &self.history, &mut self.n);
+        let answer = (engine.undo)(
+            model,
+            &mut self.values,
+            &mut self.marks,
+            &self.history,
+            &mut self.n,
+        );
         assert_eq!((answer, self.n), (0, n - 1));
         // The history still holds the step: the run's length is all that must be put back.
         self.n = n;
@@ -97,10 +112,17 @@ impl Run {
 
     /// The sum of the marks.
     fn marks(&mut self, engine: &Engine, model: &[u8]) -> u64 {
-        let marks = &mut self.marks;
-        let answer = (engine.marks)(model, &self.values, &self.history, self.n, marks);
+        let buffer = &mut self.buffer;
+        let answer = (engine.marks)(
+            model,
+            &self.values,
+            &self.marks,
+            &self.history,
+            self.n,
+            buffer,
+        );
         assert_eq!(answer, 0);
-        marks.iter().map(|&mark| u64::from(mark)).sum()
+        buffer.iter().map(|&mark| u64::from(mark)).sum()
     }
 
     /// The transition picked.
@@ -109,6 +131,7 @@ impl Run {
         let answer = (engine.pick)(
             model,
             &self.values,
+            &self.marks,
             &self.history,
             self.n,
             &mut transition,
@@ -142,9 +165,10 @@ impl Workload {
         let sizes = reference::check(&self.model).expect("a well-formed model");
         let mut run = Run {
             values: vec![0; sizes.variables()],
+            marks: vec![0; sizes.transitions],
             history: vec![0; STEPS],
             n: 0,
-            marks: vec![0; sizes.transitions],
+            buffer: vec![0; sizes.transitions],
         };
         let (steps, count) = match &self.work {
             Work::Undo(steps, count) => (&steps[..], *count),

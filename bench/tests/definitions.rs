@@ -317,9 +317,10 @@ fn expressions_outside() {
 fn orders_of_refusal() {
     let model = example();
     let mut n = 0;
-    // fire: 9, 11, 20, 21, 23.
+    // fire: 9, 11, 20, 21, 23; 10 is in held_marks.rs.
     let fire = |values: &mut [i32], history: &mut [u8], n: &mut usize, transition| {
-        reference::fire(&model, values, history, n, transition).map_err(Refusal::number)
+        reference::fire(&model, values, &mut [0; 2], history, n, transition)
+            .map_err(Refusal::number)
     };
     assert_eq!(fire(&mut [9, 9], &mut [], &mut 1, 9), Err(9));
     assert_eq!(fire(&mut [9, 9, 9], &mut [], &mut 1, 2), Err(11));
@@ -332,7 +333,7 @@ fn orders_of_refusal() {
     assert_eq!(fire(&mut [1, 1, 1], &mut [2], &mut 0, 256), Err(11));
     // undo: 20, 22, 31; entries from n on are not looked at.
     let undo = |values: &mut [i32], history: &[u8], n: &mut usize| {
-        reference::undo(&model, values, history, n).map_err(Refusal::number)
+        reference::undo(&model, values, &mut [0; 2], history, n).map_err(Refusal::number)
     };
     assert_eq!(undo(&mut [2, 1, 1], &[], &mut n), Err(20));
     assert_eq!(undo(&mut [1, 1, 1, 7], &[9], &mut n), Err(22));
@@ -342,8 +343,8 @@ fn orders_of_refusal() {
     assert_eq!(undo(&mut values, &[1, 9], &mut n), Ok(()));
     assert_eq!((values, n), ([1, 1, 1, 7], 0));
     // marks: 10 before 20; value: 12 before 20.
-    let marks = |values: &[i32], n, marks: &mut [u8]| {
-        reference::marks(&model, values, &[], n, marks).map_err(Refusal::number)
+    let marks = |values: &[i32], n, buffer: &mut [u8]| {
+        reference::marks(&model, values, &[1, 0], &[], n, buffer).map_err(Refusal::number)
     };
     assert_eq!(marks(&[9, 9, 9], 1, &mut [7]), Err(10));
     assert_eq!(marks(&[1, 1, 1], 1, &mut [7, 7]), Err(20));
@@ -351,12 +352,15 @@ fn orders_of_refusal() {
     assert_eq!(marks(&[1, 1, 1], 0, &mut cells), Ok(()));
     assert_eq!(cells, [1, 0, 7]);
     let value = |n, variable| {
-        reference::value(&model, &[1, 1, 0], &[], n, variable).map_err(Refusal::number)
+        reference::value(&model, &[1, 1, 0], &[1, 0], &[], n, variable).map_err(Refusal::number)
     };
     assert_eq!(value(1, 3), Err(12));
     assert_eq!(value(1, 2), Err(20));
     assert_eq!(value(0, 2), Ok(0));
-    assert_eq!(reference::pick(&model, &[0, 0, 0], &[], 0), Ok(Some(1)));
+    assert_eq!(
+        reference::pick(&model, &[0, 0, 0], &[0, 1], &[], 0),
+        Ok(Some(1))
+    );
 }
 
 /// A model with one Boolean state and a transition for each guard.
@@ -375,7 +379,7 @@ fn guarded(guards: &[&[(u8, i32)]]) -> Vec<u8> {
 fn pick_answers_the_lowest() {
     const NO: &[(u8, i32)] = &[(33, 0)];
     const YES: &[(u8, i32)] = &[(33, 1)];
-    let pick = |guards: &[&[(u8, i32)]]| reference::pick(&guarded(guards), &[0], &[], 0);
+    let pick = |guards: &[&[(u8, i32)]]| reference::pick(&guarded(guards), &[0], &[0; 255], &[], 0);
     // The lowest of several; a state of 0 is a guard that is false.
     assert_eq!(pick(&[YES, YES, YES]), Ok(Some(0)));
     assert_eq!(pick(&[&[(34, 0)], YES, YES]), Ok(Some(1)));
@@ -394,10 +398,18 @@ fn refusals_and_results_of_pick() {
     let file = guarded(&[&[(34, 0)], &[(34, 0)]]);
     let pick = |values: &[i32], history: &[u8], n| {
         let (mut transition, mut found) = (77, 9);
-        let answer = (ENGINE.pick)(&file, values, history, n, &mut transition, &mut found);
+        let answer = (ENGINE.pick)(
+            &file,
+            values,
+            &[0; 2],
+            history,
+            n,
+            &mut transition,
+            &mut found,
+        );
         (answer, transition, found)
     };
-    // 9, then 20: a value, an entry, n; entries from n on are not looked at.
+    // 9, then 20: a value, an entry, n; entries from n on are not looked at. 10 is in held_marks.rs.
     assert_eq!(pick(&[], &[], 1), (9, 77, 9));
     assert_eq!(pick(&[2], &[], 0), (20, 77, 9));
     assert_eq!(pick(&[1], &[1, 2], 2), (20, 77, 9));
@@ -480,7 +492,7 @@ fn refusals_and_results_of_first_outside() {
     assert_eq!(first(&file, &[0, 5, 6, i32::MIN]), (0, 77, 0, 2));
 }
 
-/// With n and history right, the calls on a run answer 20 exactly where there is a value outside.
+/// With n, history and marks right, the calls on a run answer 20 exactly where there is a value outside.
 #[test]
 fn first_outside_and_20() {
     const NUMBERS: [i32; 4] = [-1, 0, 1, 2];
@@ -490,7 +502,7 @@ fn first_outside_and_20() {
         let (outside, _) = reference::first_outside(&model, &values).expect("accepted");
         for row in [FIRE, UNDO, MARKS, VALUE, PICK] {
             let call = Call { row, number: 0 };
-            let mut store = Store::new(&values, &[0, 9], 1, &[7; 2]);
+            let mut store = Store::new(&values, &[0; 2], &[0, 9], 1, &[7; 2]);
             let answer = call.perform(&ENGINE, &model, &mut store);
             let name = call.name();
             assert_eq!(answer == 20, outside.is_some(), "{name}, {values:?}");

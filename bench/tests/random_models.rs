@@ -26,8 +26,9 @@ fn models_of_every_shape_are_accepted() {
             ];
             let sizes = reference::check(&file).map(|sizes| sizes.to_array());
             assert_eq!(sizes, Ok(wanted), "{shape:?}");
-            let (mut values, mut n) = ([0; 510], 0);
-            started += usize::from(reference::start(&file, &mut values, &mut n).is_ok());
+            let (mut values, mut marks, mut n) = ([0; 510], [0; 255], 0);
+            let start = reference::start(&file, &mut values, &mut marks, &mut n);
+            started += usize::from(start.is_ok());
             largest = largest.max(nodes);
             deepest = deepest.max(model.depth());
         }
@@ -35,6 +36,21 @@ fn models_of_every_shape_are_accepted() {
         assert!(started >= 20, "{shape:?}: {started} of 60 start");
     }
 }
+
+/// Each call's answers to models that are accepted.
+const ANSWERS: [(&str, &[u8]); 8] = [
+    ("check", &[0, 10]),
+    ("start", &[0, 9, 10, 28, 29, 30]),
+    (
+        "fire",
+        &[0, 9, 10, 11, 20, 21, 23, 24, 25, 26, 27, 28, 29, 30],
+    ),
+    ("undo", &[0, 9, 10, 20, 22, 31]),
+    ("marks", &[0, 9, 10, 20]),
+    ("value", &[0, 9, 10, 12, 20]),
+    ("pick", &[0, 9, 10, 20]),
+    ("first_outside", &[0, 9]),
+];
 
 #[test]
 fn shuffled_models_and_refusals() {
@@ -59,37 +75,29 @@ fn shuffled_models_and_refusals() {
         }
     }
     println!("{answers:?}");
-    for (call, refusals) in [
-        ("start", &[0, 9, 28, 29, 30][..]),
-        ("fire", &[0, 9, 11, 20, 21, 23, 24, 25, 26, 27, 28, 29, 30]),
-        ("undo", &[0, 9, 20, 22, 31]),
-        ("marks", &[0, 9, 10, 20]),
-        ("value", &[0, 9, 12, 20]),
-        ("pick", &[0, 9, 20]),
-        ("first_outside", &[0, 9]),
-        ("check", &[0, 10]),
-    ] {
+    for (call, wanted) in ANSWERS {
         let met: Vec<u8> = answers
             .keys()
             .filter(|(name, _)| *name == call)
             .map(|&(_, answer)| answer)
             .collect();
-        assert_eq!(met, refusals, "the answers of {call}");
+        assert_eq!(met, wanted, "the answers of {call}");
     }
 }
 
-/// After an accepted start neither 20 nor 31 occurs, and an undo gives the values back.
+/// After an accepted start neither 20 nor 31 occurs, and an undo gives the values and the marks back.
 #[test]
 fn runs_stay_consistent() {
     let mut random = Random::new(3);
     let mut undone = 0;
-    for _ in 0..1_500 {
+    for _ in 0..2_000 {
         let shape = model_gen::shape(&mut random);
         let model = model_gen::model(&mut random, shape);
         let file = model.encode();
         let places = random.between(0, 12);
         let mut store = Store::new(
             &vec![7; model.variables().count()],
+            &vec![8; model.transitions.len() + random.below(3)],
             &vec![255; places],
             99,
             &vec![9; model.transitions.len()],
@@ -108,27 +116,33 @@ fn runs_stay_consistent() {
 
 /// Calls on a run that was started; gives how many steps were undone.
 fn consistent_calls(model: &Model, file: &[u8], store: &mut Store, calls: &[Call]) -> usize {
+    let held = |store: &Store| (store.values.cells().to_vec(), store.marks.cells().to_vec());
     let mut undone = 0;
-    let mut values = vec![store.values.cells().to_vec()];
+    // The values and the marks at the start and after each step.
+    let mut moments = vec![held(store)];
     for call in calls {
         let answer = call.perform(&ENGINE, file, store);
         assert!(!matches!(answer, 20 | 31), "{call:?} answers {answer}");
         match (answer, TABLE[call.row].name) {
-            (0, "start") => values.truncate(1),
+            (0, "start") => moments.truncate(1),
             (0, "fire") => {
                 let flows = model.flows.len();
                 assert!((1..=flows + 1).contains(&store.rounds.get()));
-                values.push(store.values.cells().to_vec());
+                moments.push(held(store));
             }
             (0, "undo") => {
-                values.pop();
+                moments.pop();
                 undone += 1;
+            }
+            (0, "marks") => {
+                let transitions = model.transitions.len();
+                assert_eq!(store.buffer.cells(), &store.marks.cells()[..transitions]);
             }
             (0, "first_outside") => assert_eq!(store.found.get(), 0),
             _ => {}
         }
-        assert_eq!(store.n.get(), values.len() - 1);
-        assert_eq!(store.values.cells(), values[values.len() - 1]);
+        assert_eq!(store.n.get(), moments.len() - 1);
+        assert_eq!(held(store), moments[moments.len() - 1]);
     }
     undone
 }
@@ -172,8 +186,8 @@ fn values_outside() {
         for place in places_outside(&model, values, found) {
             *met.entry(place).or_default() += 1;
         }
-        // With n = 0 no other part of 20 can be the reason.
-        let mut store = Store::new(values, &[], 0, &[]);
+        // With n = 0 and marks of 0 no other part of 20 can be the reason.
+        let mut store = Store::new(values, &[0; 255], &[], 0, &[]);
         let call = Call {
             row: PICK,
             number: 0,
@@ -220,4 +234,52 @@ fn places_outside(
     ];
     let met = places.into_iter().filter(|&(met, _)| met);
     met.map(|(_, place)| place).collect()
+}
+
+/// What the marks and the buffer that are lent to lists of calls are like: each of these is met.
+#[test]
+fn marks_lent() {
+    let mut random = Random::new(6);
+    let mut met: BTreeMap<&str, usize> = BTreeMap::new();
+    for _ in 0..6_000 {
+        let shape = model_gen::shape(&mut random);
+        let model = model_gen::model(&mut random, shape);
+        let store = model_gen::store(&mut random, &model);
+        for sort in sorts_of_marks(&model, &store) {
+            *met.entry(sort).or_default() += 1;
+        }
+    }
+    println!("{met:?}");
+    assert_eq!(met.len(), 9);
+    assert!(met.values().all(|&times| times >= 100), "{met:?}");
+}
+
+/// What these marks and this buffer are examples of.
+fn sorts_of_marks(model: &Model, store: &Store) -> Vec<&'static str> {
+    let (marks, buffer) = (store.marks.cells(), store.buffer.cells());
+    let transitions = model.transitions.len();
+    let (used, rest) = marks.split_at(transitions.min(marks.len()));
+    let above = |marks: &[u8]| marks.iter().any(|&mark| mark > 2);
+    let history = store.history.cells();
+    let picked = reference::pick(
+        &model.encode(),
+        store.values.cells(),
+        marks,
+        history,
+        store.n.get(),
+    );
+    let marked = used.iter().position(|&mark| mark == 1);
+    let sorts = [
+        (marks.len() + 1 == transitions, "marks one short"),
+        (marks.len() == transitions, "marks"),
+        (marks.len() == transitions + 3, "marks three longer"),
+        (buffer.len() + 1 == transitions, "buffer one short"),
+        (buffer.len() == transitions, "buffer"),
+        (buffer.len() == transitions + 3, "buffer three longer"),
+        (above(used), "one above 2"),
+        (!above(used) && above(rest), "one above 2 from T on"),
+        (picked.is_ok_and(|picked| picked != marked), "made up"),
+    ];
+    let met = sorts.into_iter().filter(|&(met, _)| met);
+    met.map(|(_, sort)| sort).collect()
 }

@@ -1,10 +1,12 @@
 //! The definitions written once more, as plainly as can be, over the trees of random models: an action, the
-//! assertion carried out by single assignments in any order, and pick. All must end as the reference implementation does.
+//! assertion carried out by single assignments in any order, marks and pick. All must end as the reference
+//! implementation does.
 
+use bench::calls::{FIRE, MARKS, START, UNDO};
 use bench::model_gen::{self, Shape};
 use bench::random::Random;
-use bench::reference;
-use bench::tree::{Expr, Instr, Model, Operator, Variable};
+use bench::reference::{self, ENGINE};
+use bench::tree::{Expr, Instr, Model, Operator, Transition, Variable};
 
 #[derive(Clone, Copy, PartialEq, Debug)]
 enum Evaluation {
@@ -163,13 +165,18 @@ fn one_by_one(model: &Model, states: &[i32], random: &mut Random) -> Option<Vec<
     reset(model, &variables, known).ok()
 }
 
+/// A state's initial value, a flow's reset value.
+fn first(variable: &Variable) -> i32 {
+    match *variable {
+        Variable::Boolean { first } => i32::from(first),
+        Variable::Number { first, .. } => first,
+    }
+}
+
 /// The flows still unknown take their reset values, and one more reading must find no fault.
 fn reset(model: &Model, variables: &[Variable], mut known: Valuation) -> Result<Vec<i32>, u8> {
     for (cell, variable) in known.iter_mut().zip(variables) {
-        cell.get_or_insert(match *variable {
-            Variable::Boolean { first } => i32::from(first),
-            Variable::Number { first, .. } => first,
-        });
+        cell.get_or_insert(first(variable));
     }
     faultless(&model.assertion, variables, &known, true).map_err(|fault| 28 + fault)?;
     Ok(known.into_iter().flatten().collect())
@@ -207,17 +214,22 @@ fn small_model(random: &mut Random) -> Model {
     model_gen::model(random, shape)
 }
 
+/// Any values within their ends.
+fn any_values<'v>(
+    random: &mut Random,
+    variables: impl IntoIterator<Item = &'v Variable>,
+) -> Vec<i32> {
+    let any = |variable: &Variable| random.within(variable.ends().0, variable.ends().1);
+    variables.into_iter().map(any).collect()
+}
+
 #[test]
 fn single_assignments_end_as_rounds_do() {
     let mut random = Random::new(11);
     let (mut settled, mut refused) = (0, 0);
     for _ in 0..4_000 {
         let model = small_model(&mut random);
-        let states: Vec<i32> = model
-            .states
-            .iter()
-            .map(|state| random.within(state.ends().0, state.ends().1))
-            .collect();
+        let states = any_values(&mut random, &model.states);
         let rounds = by_rounds(&model, &states);
         for _ in 0..3 {
             let sequence = one_by_one(&model, &states, &mut random);
@@ -244,17 +256,11 @@ fn starts_and_fires_are_as_defined() {
     for _ in 0..4_000 {
         let model = small_model(&mut random);
         let file = model.encode();
-        let initial: Vec<i32> = model
-            .states
-            .iter()
-            .map(|state| match *state {
-                Variable::Boolean { first } => i32::from(first),
-                Variable::Number { first, .. } => first,
-            })
-            .collect();
+        let initial: Vec<i32> = model.states.iter().map(first).collect();
         let mut values = vec![0; model.states.len() + model.flows.len()];
+        let mut marks = vec![0; model.transitions.len()];
         let mut n = 5;
-        let started = reference::start(&file, &mut values, &mut n)
+        let started = reference::start(&file, &mut values, &mut marks, &mut n)
             .map(|rounds| (values.clone(), rounds))
             .map_err(|refusal| refusal.number());
         assert_eq!(started, by_rounds(&model, &initial));
@@ -264,9 +270,7 @@ fn starts_and_fires_are_as_defined() {
             }
             // From values of any run, or from any values within their ends.
             if random.chance(1, 3) {
-                for (value, variable) in values.iter_mut().zip(model.variables()) {
-                    *value = random.within(variable.ends().0, variable.ends().1);
-                }
+                values = any_values(&mut random, model.variables());
             }
             let inside = values
                 .iter()
@@ -278,9 +282,16 @@ fn starts_and_fires_are_as_defined() {
             let transition = random.below(model.transitions.len());
             let (mut history, mut n) = ([0; 1], 0);
             let wanted = fired(&model, &values, transition);
-            let found = reference::fire(&file, &mut values, &mut history, &mut n, transition)
-                .map(|rounds| (values.clone(), rounds))
-                .map_err(|refusal| refusal.number());
+            let found = reference::fire(
+                &file,
+                &mut values,
+                &mut marks,
+                &mut history,
+                &mut n,
+                transition,
+            )
+            .map(|rounds| (values.clone(), rounds))
+            .map_err(|refusal| refusal.number());
             assert_eq!(found, wanted);
             match found {
                 Ok(_) => fires += 1,
@@ -292,21 +303,61 @@ fn starts_and_fires_are_as_defined() {
     assert!(fires > 10_000 && refused > 3_000);
 }
 
+/// The mark of each guard over these values.
+fn guard_marks(model: &Model, values: &[i32]) -> Vec<u8> {
+    let over: Valuation = values.iter().copied().map(Some).collect();
+    let mark = |transition: &Transition| match evaluate(&transition.guard, &over) {
+        Value(value) => value as u8,
+        _ => 2,
+    };
+    model.transitions.iter().map(mark).collect()
+}
+
+/// An accepted start, fire or undo leaves the marks of the guards; every other call leaves the marks as they were.
+#[test]
+fn held_marks_are_those_of_the_guards() {
+    let mut random = Random::new(14);
+    let (mut settled, mut copied) = (0, 0);
+    for _ in 0..4_000 {
+        let model = small_model(&mut random);
+        let (variables, transitions) = (model.variables().count(), model.transitions.len());
+        let file = model.encode();
+        let mut store = model_gen::store(&mut random, &model);
+        for call in model_gen::calls(&mut random, &model) {
+            let mut wanted = store.marks.cells().to_vec();
+            let accepted = call.perform(&ENGINE, &file, &mut store) == 0;
+            if accepted && [START, FIRE, UNDO].contains(&call.row) {
+                let values = &store.values.cells()[..variables];
+                wanted[..transitions].copy_from_slice(&guard_marks(&model, values));
+                settled += 1;
+            }
+            assert_eq!(store.marks.cells(), wanted, "{call:?}");
+            if accepted && call.row == MARKS {
+                assert_eq!(store.buffer.cells()[..transitions], wanted[..transitions]);
+                copied += 1;
+            }
+        }
+    }
+    println!("{settled} times settled, {copied} times copied");
+    assert!(settled > 5_000 && copied > 1_000);
+}
+
 #[test]
 fn picks_are_the_lowest_true_guards() {
     let mut random = Random::new(13);
     let (mut first, mut later, mut none) = (0, 0, 0);
     for _ in 0..4_000 {
         let model = small_model(&mut random);
-        let values: Vec<i32> = model
-            .variables()
-            .map(|variable| random.within(variable.ends().0, variable.ends().1))
+        let values = any_values(&mut random, model.variables());
+        let lowest = guard_marks(&model, &values)
+            .iter()
+            .position(|&mark| mark == 1);
+        // Whatever marks the run holds.
+        let marks: Vec<u8> = (0..model.transitions.len())
+            .map(|_| random.below(3) as u8)
             .collect();
-        let over: Valuation = values.iter().copied().map(Some).collect();
-        let mut guards = model.transitions.iter().map(|each| &each.guard);
-        let lowest = guards.position(|guard| evaluate(guard, &over) == Value(1));
         for file in [model.encode(), model.shuffled(&mut random).encode()] {
-            assert_eq!(reference::pick(&file, &values, &[], 0), Ok(lowest));
+            assert_eq!(reference::pick(&file, &values, &marks, &[], 0), Ok(lowest));
         }
         match lowest {
             Some(0) => first += 1,

@@ -58,7 +58,7 @@ fn lists_of_calls() {
             }
         }
     }
-    assert_eq!((cases.len(), calls), (200, 2 * 2929));
+    assert_eq!((cases.len(), calls), (250, 2 * 3644));
 }
 
 #[test]

@@ -7,8 +7,8 @@ use bench::reference::{self, ENGINE};
 use bench::workloads::{self, Work};
 
 fn rounds(model: &[u8]) -> usize {
-    let (mut values, mut n) = ([0; 510], 0);
-    reference::start(model, &mut values, &mut n).expect("accepted")
+    let (mut values, mut marks, mut n) = ([0; 510], [0; 255], 0);
+    reference::start(model, &mut values, &mut marks, &mut n).expect("accepted")
 }
 
 #[test]

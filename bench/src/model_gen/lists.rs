@@ -11,29 +11,10 @@ use crate::tree::{Model, Variable};
 pub fn store(random: &mut Random, model: &Model) -> Store {
     let transitions = model.transitions.len();
     let values = values(random, model);
-
-    let places = match random.below(12) {
-        0 => 0,
-        1 => random.between(256, 300),
-        _ => random.between(1, 12),
-    };
-    let mut history: Vec<u8> = (0..places)
-        .map(|_| random.below(transitions.max(1)) as u8)
-        .collect();
-    if random.chance(1, 8) && places > 0 {
-        let place = random.below(places);
-        history[place] = random.byte();
-    }
-    let n = match random.below(12) {
-        0 => places,
-        1 => places + random.between(1, 300),
-        2 => random.between(0, places) + *random.one(&CUT),
-        3 => 0,
-        _ => random.between(0, places.min(6)),
-    };
-
+    let marks = marks(random, transitions);
+    let (history, n) = history(random, transitions);
     let length = fitting_length(random, transitions);
-    let marks: Vec<u8> = (0..length).map(|_| random.byte()).collect();
+    let buffer: Vec<u8> = (0..length).map(|_| random.byte()).collect();
     let length = fitting_length(random, 5);
     let sizes: Vec<u32> = (0..length).map(|_| random.bits() as u32).collect();
 
@@ -45,7 +26,7 @@ pub fn store(random: &mut Random, model: &Model) -> Store {
         variable: Guarded::new(&[random.bits() as usize]),
         found: Guarded::new(&[random.byte()]),
         looked: Guarded::new(&[random.bits() as usize]),
-        ..Store::new(&values, &history, n, &marks)
+        ..Store::new(&values, &marks, &history, n, &buffer)
     }
 }
 
@@ -102,6 +83,54 @@ fn put_outside(random: &mut Random, model: &Model, values: &mut [i32]) {
     *value = near
         .filter(|_| random.chance(2, 3))
         .unwrap_or_else(|| random.number());
+}
+
+/// Marks of a run, made up: mostly from 0 to 2, at times one of them above, or all any bytes; the cells after them are
+/// any bytes.
+fn marks(random: &mut Random, transitions: usize) -> Vec<u8> {
+    let length = fitting_length(random, transitions);
+    let mut marks: Vec<u8> = (0..length)
+        .map(|place| match place < transitions {
+            true => random.below(3) as u8,
+            false => random.byte(),
+        })
+        .collect();
+    match random.below(24) {
+        0 => marks.fill_with(|| random.byte()),
+        1..=3 if transitions > 0 => {
+            let any = random.below(transitions);
+            let place = *random.one(&[0, transitions - 1, any]);
+            if let Some(mark) = marks.get_mut(place) {
+                *mark = *random.one(&[3, 4, 128, 255]);
+            }
+        }
+        _ => {}
+    }
+    marks
+}
+
+/// Entries mostly of the model's transitions, and how many of them count.
+fn history(random: &mut Random, transitions: usize) -> (Vec<u8>, usize) {
+    let places = match random.below(12) {
+        0 => 0,
+        1 => random.between(256, 300),
+        _ => random.between(1, 12),
+    };
+    let mut history: Vec<u8> = (0..places)
+        .map(|_| random.below(transitions.max(1)) as u8)
+        .collect();
+    if random.chance(1, 8) && places > 0 {
+        let place = random.below(places);
+        history[place] = random.byte();
+    }
+    let n = match random.below(12) {
+        0 => places,
+        1 => places + random.between(1, 300),
+        2 => random.between(0, places) + *random.one(&CUT),
+        3 => 0,
+        _ => random.between(0, places.min(6)),
+    };
+    (history, n)
 }
 
 /// What cutting a number to 8, 16 or 32 bits takes away; and nearly the largest number.

@@ -11,7 +11,7 @@ pub enum Refusal {
     ParameterNotAllowed = 7,
     NodesLeftOver = 8,
     ShortValues = 9,
-    /// Also any other slice for results that is too short.
+    /// The run's marks, or a slice that is lent for results.
     ShortMarks = 10,
     NoSuchTransition = 11,
     NoSuchVariable = 12,

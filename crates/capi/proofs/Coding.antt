@@ -39,7 +39,7 @@ Counts a = (old : ℕ) → codeOf a ≡ 0 → a ≡ rounds (roundsOr old a)
 module _ (m : Meaning) (r : Run) where
   start-counts : Counts (calls.start m r .answer)
   unfolding codeOf roundsOr
-  start-counts = start-cases m r (λ d. Counts (d .answer)) (λ k o old e. absurd (omega (arith, o .2))) (λ n long e old z. refl)
+  start-counts = start-cases m r (λ d. Counts (d .answer)) (λ k o old e. absurd (omega (arith, o .2))) (λ n e old z. refl)
 
   fire-counts : (t : ℕ) → Counts (calls.fire m t r .answer)
   unfolding codeOf roundsOr
@@ -66,59 +66,61 @@ module _ (f : Meaning → Done Run) (counts : (m : Meaning) → Counts (f m .ans
   rounds-coded v e = ap₂ (λ c k. answered c (left, k)) coded counted ∙ ap (codedRounds old) e
 
 module _ (m : List ℕ) (old code count : ℕ) (r : declared.Answer) (coded : code ≡ codeOf (seen r)) (counted : count ≡ roundsOr old (seen r)) where
-  pub start-coded : (values : List ℤ) (n : ℕ) (values′ : List ℤ) (n′ : ℕ) → StartPromise m values n r values′ n′
-      → StartCoded m values n old code values′ n′ count
-  start-coded values n values′ n′ p = (
+  pub start-coded : (values : List ℤ) (marks : List ℕ) (n : ℕ) (values′ : List ℤ) (marks′ : List ℕ) (n′ : ℕ)
+      → StartPromise m values marks n r values′ marks′ n′ → StartCoded m values marks n old code values′ marks′ n′ count
+  start-coded values marks n values′ marks′ n′ p = (
     λ history.
-        rounds-coded (λ m. calls.start m (run values history n)) (λ m. start-counts m (run values history n)) (run values history n)
-        (run values′ history n′) (seen r) old code count coded counted (verdict m) (p .0 history),
-    rounds-bounded (λ m. calls.start m (run values [] n)) (λ m. start-counts m (run values [] n)) (run values [] n)
-        (run values′ [] n′) (seen r) old code count coded counted (verdict m) (p .0 []) (p .1),
+        rounds-coded (λ m. calls.start m (run values marks history n)) (λ m. start-counts m (run values marks history n)) (run values marks history n)
+        (run values′ marks′ history n′) (seen r) old code count coded counted (verdict m) (p .0 history),
+    rounds-bounded (λ m. calls.start m (run values marks [] n)) (λ m. start-counts m (run values marks [] n)) (run values marks [] n)
+        (run values′ marks′ [] n′) (seen r) old code count coded counted (verdict m) (p .0 []) (p .1),
   )
 
-  pub fire-coded : (values : List ℤ) (history : List ℕ) (n t : ℕ) (values′ : List ℤ) (history′ : List ℕ) (n′ : ℕ)
-      → FirePromise m values history n t r values′ history′ n′ → FireCoded m values history n t old code values′ history′ n′ count
-  fire-coded values history n t values′ history′ n′ p = (
-    rounds-coded (λ m. calls.fire m t (run values history n)) (λ m. fire-counts m (run values history n) t) (run values history n)
-        (run values′ history′ n′) (seen r) old code count coded counted (verdict m) (p .0),
-    rounds-bounded (λ m. calls.fire m t (run values history n)) (λ m. fire-counts m (run values history n) t) (run values history n)
-        (run values′ history′ n′) (seen r) old code count coded counted (verdict m) (p .0) (p .1),
+  pub fire-coded : (values : List ℤ) (marks history : List ℕ) (n t : ℕ) (values′ : List ℤ) (marks′ history′ : List ℕ) (n′ : ℕ)
+      → FirePromise m values marks history n t r values′ marks′ history′ n′
+      → FireCoded m values marks history n t old code values′ marks′ history′ n′ count
+  fire-coded values marks history n t values′ marks′ history′ n′ p = (
+    rounds-coded (λ m. calls.fire m t (run values marks history n)) (λ m. fire-counts m (run values marks history n) t) (run values marks history n)
+        (run values′ marks′ history′ n′) (seen r) old code count coded counted (verdict m) (p .0),
+    rounds-bounded (λ m. calls.fire m t (run values marks history n)) (λ m. fire-counts m (run values marks history n) t) (run values marks history n)
+        (run values′ marks′ history′ n′) (seen r) old code count coded counted (verdict m) (p .0) (p .1),
   )
 
 -- a call without results
 module _ (m : List ℕ) (code : ℕ) (r : declared.Answer) (coded : code ≡ codeOf (seen r)) where
-  pub undo-coded : (values : List ℤ) (history : List ℕ) (n : ℕ) (values′ : List ℤ) (n′ : ℕ) → UndoPromise m values history n r values′ n′
-      → UndoCoded m values history n code values′ n′
-  undo-coded values history n values′ n′ p = ap (λ k. answered k (run values′ history n′)) coded ∙ ap codedBy p
+  pub undo-coded : (values : List ℤ) (marks history : List ℕ) (n : ℕ) (values′ : List ℤ) (marks′ : List ℕ) (n′ : ℕ)
+      → UndoPromise m values marks history n r values′ marks′ n′ → UndoCoded m values marks history n code values′ marks′ n′
+  undo-coded values marks history n values′ marks′ n′ p = ap (λ k. answered k (run values′ marks′ history n′)) coded ∙ ap codedBy p
 
-  pub marks-coded : (values : List ℤ) (history : List ℕ) (n : ℕ) (marks marks′ : List ℕ) → MarksPromise m values history n marks r marks′
-      → MarksCoded m values history n marks code marks′
-  marks-coded values history n marks marks′ p = ap (λ k. answered k marks′) coded ∙ ap codedBy p
+  pub marks-coded : (values : List ℤ) (marks history : List ℕ) (n : ℕ) (buffer buffer′ : List ℕ)
+      → MarksPromise m values marks history n buffer r buffer′ → MarksCoded m values marks history n buffer code buffer′
+  marks-coded values marks history n buffer buffer′ p = ap (λ k. answered k buffer′) coded ∙ ap codedBy p
 
 -- a call whose result is a number; signed numbers are handed on as their bits
-pub value-coded : (m : List ℕ) (values : List ℤ) (history : List ℕ) (n x : ℕ) (old new : ℤ) (code : ℕ) (r : declared.Answer) → SFits w32 old
-    → SFits w32 new → code ≡ codeOf (seen r) → new ≡ numberOr (toZ w32 (ofZ w32 old)) (seen r) → ValuePromise m values history n x r
-    → ValueCoded m values history n x old code (toZ w32 (ofZ w32 new))
-value-coded m values history n x old new code r old-fits new-fits coded stored p =
+pub value-coded : (m : List ℕ) (values : List ℤ) (marks history : List ℕ) (n x : ℕ) (old new : ℤ) (code : ℕ) (r : declared.Answer) → SFits w32 old
+    → SFits w32 new → code ≡ codeOf (seen r) → new ≡ numberOr (toZ w32 (ofZ w32 old)) (seen r) → ValuePromise m values marks history n x r
+    → ValueCoded m values marks history n x old code (toZ w32 (ofZ w32 new))
+value-coded m values marks history n x old new code r old-fits new-fits coded stored p =
     ap₂ (λ c v. answered c v) coded (toZ-ofZ w32 new new-fits ∙ stored ∙ ap (λ v. numberOr v (seen r)) (toZ-ofZ w32 old old-fits))
     ∙ ap (codedNumber old) p
 
 -- pick, by its answer
-module _ (m : List ℕ) (values : List ℤ) (history : List ℕ) (n transition found-there : ℕ) (r : declared.Answer) (p : PickPromise m values history n r) where
+module _ (m : List ℕ) (values : List ℤ) (marks history : List ℕ) (n transition found-there : ℕ) (r : declared.Answer)
+    (p : PickPromise m values marks history n r) where
   coded : (code transition′ found′ : ℕ) → codedPick (transition, found-there) (seen r) ≡ answered code (transition′, found′)
-      → PickCoded m values history n transition found-there code transition′ found′
+      → PickCoded m values marks history n transition found-there code transition′ found′
   coded code transition′ found′ e = sym e ∙ ap (codedPick (transition, found-there)) p
 
-  pub pick-refused : (k : ℕ) → r ≡ Refused k → PickCoded m values history n transition found-there k transition found-there
+  pub pick-refused : (k : ℕ) → r ≡ Refused k → PickCoded m values marks history n transition found-there k transition found-there
   unfolding seen codeOf pickedOr
   pick-refused k e = coded k transition found-there (rw e)
 
   pub pick-handed : (f : Found) (transition′ found′ : ℕ) → r ≡ Picked f → foundOver transition (found f) ≡ (transition′, found′)
-      → PickCoded m values history n transition found-there 0 transition′ found′
+      → PickCoded m values marks history n transition found-there 0 transition′ found′
   unfolding seen codeOf pickedOr
   pick-handed f transition′ found′ e q = coded 0 transition′ found′ (rw e (ap (answered 0) q))
 
-  pub pick-other : OneOf noneOfPick (tagOf the-type r) → PickCoded m values history n transition found-there 0 transition found-there
+  pub pick-other : OneOf noneOfPick (tagOf the-type r) → PickCoded m values marks history n transition found-there 0 transition found-there
   pick-other h = coded 0 transition found-there (no-pick (transition, found-there) r h)
 
 -- first outside, by its answer

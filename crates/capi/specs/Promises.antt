@@ -24,37 +24,37 @@ abbrev pub CheckCoded : List ℕ → List ℕ → ℕ → List ℕ → Type 0
 CheckCoded m sizes code sizes′ = answered code sizes′ ≡ codedSizes sizes (seenCheck (answerOf (verdict m)))
 
 -- the history is not lent to start
-abbrev pub StartCoded : List ℕ → List ℤ → ℕ → ℕ → ℕ → List ℤ → ℕ → ℕ → Type 0
-StartCoded m values n rounds code values′ n′ rounds′ =
-    ((history : List ℕ) → answered code (run values′ history n′, rounds′)
-    ≡ codedRounds rounds (onFile (verdict m) (λ m. calls.start m (run values history n)) (run values history n)))
+abbrev pub StartCoded : List ℕ → List ℤ → List ℕ → ℕ → ℕ → ℕ → List ℤ → List ℕ → ℕ → ℕ → Type 0
+StartCoded m values marks n rounds code values′ marks′ n′ rounds′ =
+    ((history : List ℕ) → answered code (run values′ marks′ history n′, rounds′)
+    ≡ codedRounds rounds (onFile (verdict m) (λ m. calls.start m (run values marks history n)) (run values marks history n)))
     × CellBounded (verdict m) code rounds′
 
-abbrev pub FireCoded : List ℕ → List ℤ → List ℕ → ℕ → ℕ → ℕ → ℕ → List ℤ → List ℕ → ℕ → ℕ → Type 0
-FireCoded m values history n t rounds code values′ history′ n′ rounds′ =
-    (answered code (run values′ history′ n′, rounds′)
-    ≡ codedRounds rounds (onFile (verdict m) (λ m. calls.fire m t (run values history n)) (run values history n)))
+abbrev pub FireCoded : List ℕ → List ℤ → List ℕ → List ℕ → ℕ → ℕ → ℕ → ℕ → List ℤ → List ℕ → List ℕ → ℕ → ℕ → Type 0
+FireCoded m values marks history n t rounds code values′ marks′ history′ n′ rounds′ =
+    (answered code (run values′ marks′ history′ n′, rounds′)
+    ≡ codedRounds rounds (onFile (verdict m) (λ m. calls.fire m t (run values marks history n)) (run values marks history n)))
     × CellBounded (verdict m) code rounds′
 
-abbrev pub UndoCoded : List ℕ → List ℤ → List ℕ → ℕ → ℕ → List ℤ → ℕ → Type 0
-UndoCoded m values history n code values′ n′ =
-    answered code (run values′ history n′)
-    ≡ codedBy (onFile (verdict m) (λ m. calls.undo m (run values history n)) (run values history n))
+abbrev pub UndoCoded : List ℕ → List ℤ → List ℕ → List ℕ → ℕ → ℕ → List ℤ → List ℕ → ℕ → Type 0
+UndoCoded m values marks history n code values′ marks′ n′ =
+    answered code (run values′ marks′ history n′)
+    ≡ codedBy (onFile (verdict m) (λ m. calls.undo m (run values marks history n)) (run values marks history n))
 
-abbrev pub MarksCoded : List ℕ → List ℤ → List ℕ → ℕ → List ℕ → ℕ → List ℕ → Type 0
-MarksCoded m values history n marks code marks′ =
-    answered code marks′ ≡ codedBy (onFile (verdict m) (λ m. queries.marks m (run values history n) marks) marks)
+abbrev pub MarksCoded : List ℕ → List ℤ → List ℕ → List ℕ → ℕ → List ℕ → ℕ → List ℕ → Type 0
+MarksCoded m values marks history n buffer code buffer′ =
+    answered code buffer′ ≡ codedBy (onFile (verdict m) (λ m. queries.marks m (run values marks history n) buffer) buffer)
 
-abbrev pub ValueCoded : List ℕ → List ℤ → List ℕ → ℕ → ℕ → ℤ → ℕ → ℤ → Type 0
-ValueCoded m values history n x value code value′ =
-    answered code value′ ≡ codedNumber value (onFileAnswer (verdict m) (λ m. queries.value m x (run values history n)))
+abbrev pub ValueCoded : List ℕ → List ℤ → List ℕ → List ℕ → ℕ → ℕ → ℤ → ℕ → ℤ → Type 0
+ValueCoded m values marks history n x value code value′ =
+    answered code value′ ≡ codedNumber value (onFileAnswer (verdict m) (λ m. queries.value m x (run values marks history n)))
 
-abbrev pub PickCoded : List ℕ → List ℤ → List ℕ → ℕ → ℕ → ℕ → ℕ → ℕ → ℕ → Type 0
-PickCoded m values history n transition found code transition′ found′ =
+abbrev pub PickCoded : List ℕ → List ℤ → List ℕ → List ℕ → ℕ → ℕ → ℕ → ℕ → ℕ → ℕ → Type 0
+PickCoded m values marks history n transition found code transition′ found′ =
     answered code (transition′, found′)
-    ≡ codedPick (transition, found) (onFileAnswer (verdict m) (λ m. queries.pick m (run values history n)))
+    ≡ codedPick (transition, found) (onFileAnswer (verdict m) (λ m. queries.pick m (run values marks history n)))
 
--- neither the history nor n is lent
+-- neither the marks nor the history nor n is lent
 abbrev pub FirstOutsideCoded : List ℕ → List ℤ → ℕ → ℕ → ℕ → ℕ → ℕ → ℕ → ℕ → Type 0
 FirstOutsideCoded m values variable found looked code variable′ found′ looked′ =
     answered code ((variable′, found′), looked′)

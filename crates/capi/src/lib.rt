@@ -95,14 +95,15 @@ pub extern "C" fn gts_check(model: &[u8], sizes: &mut [u32]) -> u8
 pub extern "C" fn gts_start(
     model: &[u8],
     values: &mut [i32],
+    marks: &mut [u8],
     n: &mut usize,
     rounds: &mut usize,
 ) -> u8
-    ensures { λ r. ⌜ StartCoded (now (model .entry)) (now (values .entry)) (now (n .entry)) (now (rounds .entry)) r
-        (now (values .exit)) (now (n .exit)) (now (rounds .exit)) ⌝ }
+    ensures { λ r. ⌜ StartCoded (now (model .entry)) (now (values .entry)) (now (marks .entry)) (now (n .entry)) (now (rounds .entry)) r
+        (now (values .exit)) (now (marks .exit)) (now (n .exit)) (now (rounds .exit)) ⌝ }
 {
     let old = *rounds;
-    let answer = run::start(model, values, n);
+    let answer = run::start(model, values, marks, n);
     *rounds = rounds_or(old, answer);
     code_of(answer)
 }
@@ -112,40 +113,49 @@ pub extern "C" fn gts_start(
 pub extern "C" fn gts_fire(
     model: &[u8],
     values: &mut [i32],
+    marks: &mut [u8],
     history: &mut [u8],
     n: &mut usize,
     transition: usize,
     rounds: &mut usize,
 ) -> u8
-    ensures { λ r. ⌜ FireCoded (now (model .entry)) (now (values .entry)) (now (history .entry)) (now (n .entry)) transition (now (rounds .entry)) r
-        (now (values .exit)) (now (history .exit)) (now (n .exit)) (now (rounds .exit)) ⌝ }
+    ensures { λ r. ⌜ FireCoded (now (model .entry)) (now (values .entry)) (now (marks .entry)) (now (history .entry)) (now (n .entry)) transition (now (rounds .entry)) r
+        (now (values .exit)) (now (marks .exit)) (now (history .exit)) (now (n .exit)) (now (rounds .exit)) ⌝ }
 {
     let old = *rounds;
-    let answer = run::fire(model, values, history, n, transition);
+    let answer = run::fire(model, values, marks, history, n, transition);
     *rounds = rounds_or(old, answer);
     code_of(answer)
 }
 
 // Undo of the last recorded transition.
 #[no_mangle]
-pub extern "C" fn gts_undo(model: &[u8], values: &mut [i32], history: &[u8], n: &mut usize) -> u8
-    ensures { λ r. ⌜ UndoCoded (now (model .entry)) (now (values .entry)) (now (history .entry)) (now (n .entry)) r (now (values .exit)) (now (n .exit)) ⌝ }
+pub extern "C" fn gts_undo(
+    model: &[u8],
+    values: &mut [i32],
+    marks: &mut [u8],
+    history: &[u8],
+    n: &mut usize,
+) -> u8
+    ensures { λ r. ⌜ UndoCoded (now (model .entry)) (now (values .entry)) (now (marks .entry)) (now (history .entry)) (now (n .entry)) r
+        (now (values .exit)) (now (marks .exit)) (now (n .exit)) ⌝ }
 {
-    code_of(run::undo(model, values, history, n))
+    code_of(run::undo(model, values, marks, history, n))
 }
 
-// For each transition 1 if its guard is true, 0 false, 2 failed.
+// The marks that the run holds, copied, whatever its guards come to; start, fire and undo leave those of the guards.
 #[no_mangle]
 pub extern "C" fn gts_marks(
     model: &[u8],
     values: &[i32],
+    marks: &[u8],
     history: &[u8],
     n: usize,
-    marks: &mut [u8],
+    buffer: &mut [u8],
 ) -> u8
-    ensures { λ r. ⌜ MarksCoded (now (model .entry)) (now (values .entry)) (now (history .entry)) n (now (marks .entry)) r (now (marks .exit)) ⌝ }
+    ensures { λ r. ⌜ MarksCoded (now (model .entry)) (now (values .entry)) (now (marks .entry)) (now (history .entry)) n (now (buffer .entry)) r (now (buffer .exit)) ⌝ }
 {
-    code_of(run::marks(model, values, history, n, marks))
+    code_of(run::marks(model, values, marks, history, n, buffer))
 }
 
 // The value of a variable.
@@ -153,33 +163,35 @@ pub extern "C" fn gts_marks(
 pub extern "C" fn gts_value(
     model: &[u8],
     values: &[i32],
+    marks: &[u8],
     history: &[u8],
     n: usize,
     variable: usize,
     value: &mut i32,
 ) -> u8
-    ensures { λ r. ⌜ ValueCoded (now (model .entry)) (now (values .entry)) (now (history .entry)) n variable (now (value .entry)) r (now (value .exit)) ⌝ }
+    ensures { λ r. ⌜ ValueCoded (now (model .entry)) (now (values .entry)) (now (marks .entry)) (now (history .entry)) n variable (now (value .entry)) r (now (value .exit)) ⌝ }
 {
     let old = *value;
-    let answer = run::value(model, values, history, n, variable);
+    let answer = run::value(model, values, marks, history, n, variable);
     *value = number_or(old, answer);
     code_of(answer)
 }
 
-// The lowest transition whose mark is 1: found is 1; where there is none found is 0 and the transition stays.
+// The lowest transition whose guard is true: found is 1; where there is none found is 0 and the transition stays.
 #[no_mangle]
 pub extern "C" fn gts_pick(
     model: &[u8],
     values: &[i32],
+    marks: &[u8],
     history: &[u8],
     n: usize,
     transition: &mut usize,
     found: &mut u8,
 ) -> u8
-    ensures { λ r. ⌜ PickCoded (now (model .entry)) (now (values .entry)) (now (history .entry)) n (now (transition .entry)) (now (found .entry)) r
+    ensures { λ r. ⌜ PickCoded (now (model .entry)) (now (values .entry)) (now (marks .entry)) (now (history .entry)) n (now (transition .entry)) (now (found .entry)) r
         (now (transition .exit)) (now (found .exit)) ⌝ }
 {
-    match run::pick(model, values, history, n) {
+    match run::pick(model, values, marks, history, n) {
         Answer::Refused(number) => number,
         Answer::Picked(picked) => {
             hand_out(picked, transition, found);

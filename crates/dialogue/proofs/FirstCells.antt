@@ -55,35 +55,56 @@ module _ {A : Type 0} (old : List A) (n : ℕ) where
 
 -- ---- a run in the first cells
 
-module _ (d : Dimensions) (values : List ℤ) (marks : List ℕ) {v t : ℕ} (e : v ≡ atMost (length values) (d .variables)) (f : t ≡ atMost (length marks) (d .transitions)) where
-  pub lent : (history : List ℕ) (n : ℕ) → store (run (take v values) history n) (take t marks) ≡ inUse d (store (run values history n) marks)
-  lent history n =
-      ap₂ (λ (x : List ℤ) (y : List ℕ). store (run x history n) y) (ap (λ k. take k values) e ∙ first-cells values (d .variables))
-      (ap (λ k. take k marks) f ∙ first-cells marks (d .transitions))
+-- the first cells lent, as they are given back
+module _ {A : Type 0} (old : List A) (n : ℕ) {k : ℕ} (e : k ≡ atMost (length old) n) where
+  lent-cells : take k old ≡ take n old
+  lent-cells = ap (λ k. take k old) e ∙ first-cells old n
 
-  module _ (values′ : List ℤ) (marks′ : List ℕ) (long : length values′ ≡ length (take v values)) (wide : length marks′ ≡ length (take t marks)) where
-    pub returned : (history : List ℕ) (n : ℕ) → inUse d (store (run (values′ ++ drop v values) history n) (marks′ ++ drop t marks)) ≡ store (run values′ history n) marks′
+  module _ (new : List A) (long : length new ≡ length (take k old)) where
+    long′ : length new ≡ length (take (atMost (length old) n) old)
+    long′ = long ∙ ap (λ k. length (take k old)) e
+
+    returned-cells : take n (new ++ drop k old) ≡ new
+    returned-cells = ap (λ k. take n (new ++ drop k old)) e ∙ first-given old n new long′
+
+    kept-cells : drop n (new ++ drop k old) ≡ drop n old
+    kept-cells = ap (λ k. drop n (new ++ drop k old)) e ∙ past-given old n new long′
+
+module _ (d : Dimensions) (values : List ℤ) (marks buffer : List ℕ) {v t u : ℕ} (e : v ≡ atMost (length values) (d .variables))
+    (f : t ≡ atMost (length marks) (d .transitions)) (g : u ≡ atMost (length buffer) (d .transitions)) where
+  pub lent : (history : List ℕ) (n : ℕ)
+      → store (run (take v values) (take t marks) history n) (take u buffer) ≡ inUse d (store (run values marks history n) buffer)
+  lent history n =
+      ap₂ (λ (x : List ℤ) (y : List ℕ). store (run x y history n) (take u buffer)) (lent-cells values (d .variables) e) (lent-cells marks (d .transitions) f)
+      ∙ ap (store (run (take (d .variables) values) (take (d .transitions) marks) history n)) (lent-cells buffer (d .transitions) g)
+
+  module _ (values′ : List ℤ) (marks′ buffer′ : List ℕ) (values-long : length values′ ≡ length (take v values))
+      (marks-long : length marks′ ≡ length (take t marks)) (buffer-long : length buffer′ ≡ length (take u buffer)) where
+    pub returned : (history : List ℕ) (n : ℕ)
+        → inUse d (store (run (values′ ++ drop v values) (marks′ ++ drop t marks) history n) (buffer′ ++ drop u buffer))
+        ≡ store (run values′ marks′ history n) buffer′
     returned history n =
-        ap₂ (λ (x : List ℤ) (y : List ℕ). store (run x history n) y)
-        (ap (λ k. take (d .variables) (values′ ++ drop k values)) e ∙ first-given values (d .variables) values′ (long ∙ ap (λ k. length (take k values)) e))
-        (ap (λ k. take (d .transitions) (marks′ ++ drop k marks)) f ∙ first-given marks (d .transitions) marks′ (wide ∙ ap (λ k. length (take k marks)) f))
+        ap₂ (λ (x : List ℤ) (y : List ℕ). store (run x y history n) (take (d .transitions) (buffer′ ++ drop u buffer)))
+        (returned-cells values (d .variables) e values′ values-long) (returned-cells marks (d .transitions) f marks′ marks-long)
+        ∙ ap (store (run values′ marks′ history n)) (returned-cells buffer (d .transitions) g buffer′ buffer-long)
 
     pub kept-past : (history history′ : List ℕ) (n n′ : ℕ)
-        → pastUse d (store (run (values′ ++ drop v values) history′ n′) (marks′ ++ drop t marks)) ≡ pastUse d (store (run values history n) marks)
+        → pastUse d (store (run (values′ ++ drop v values) (marks′ ++ drop t marks) history′ n′) (buffer′ ++ drop u buffer))
+        ≡ pastUse d (store (run values marks history n) buffer)
     kept-past history history′ n n′ =
-        ap₂ (λ (x : List ℤ) (y : List ℕ). answered x y)
-        (ap (λ k. drop (d .variables) (values′ ++ drop k values)) e ∙ past-given values (d .variables) values′ (long ∙ ap (λ k. length (take k values)) e))
-        (ap (λ k. drop (d .transitions) (marks′ ++ drop k marks)) f ∙ past-given marks (d .transitions) marks′ (wide ∙ ap (λ k. length (take k marks)) f))
+        ap₂ (λ (x : List ℤ) (y : List ℕ). (x, (y, drop (d .transitions) (buffer′ ++ drop u buffer))))
+        (kept-cells values (d .variables) e values′ values-long) (kept-cells marks (d .transitions) f marks′ marks-long)
+        ∙ ap (λ y. (drop (d .variables) values, (drop (d .transitions) marks, y))) (kept-cells buffer (d .transitions) g buffer′ buffer-long)
 
 -- ---- room
 
 module _ (out : List ℕ) (d : Dimensions) (s : Store) (l : length out ≡ lineBytes)
-    (v : length (s .run .values) ≡ maxVariables) (t : length (s .marks) ≡ maxTransitions) where
+    (v : length (s .run .values) ≡ maxVariables) (t : length (s .buffer) ≡ maxTransitions) where
   pub roomy : isShort out (inUse d s) ≡ false
   roomy =
-      ap (λ (b : Bool). b || ltb (length out) (room markWidth (length (take (d .transitions) (s .marks)))))
+      ap (λ (b : Bool). b || ltb (length out) (room markWidth (length (take (d .transitions) (s .buffer)))))
       (le-ltb (length out) (room valueWidth (length (take (d .variables) (s .run .values)))) (omega (arith, l, v, length-take (d .variables) (s .run .values))))
-      ∙ le-ltb (length out) (room markWidth (length (take (d .transitions) (s .marks)))) (omega (arith, l, t, length-take (d .transitions) (s .marks)))
+      ∙ le-ltb (length out) (room markWidth (length (take (d .transitions) (s .buffer)))) (omega (arith, l, t, length-take (d .transitions) (s .buffer)))
 
   -- a line for which there is room is told by its length
   pub told : {w : Written} {new : List ℕ} {left : Store} (r : Reply) {n : ℕ} → n ≡ lengthOf w

@@ -44,7 +44,7 @@ take-replicate n k a h =
 
 fresh-in-use : (bytes values marks : ℕ) → values ≤ maxVariables → marks ≤ maxTransitions → inUse (dimensions bytes values marks) empty ≡ fresh values marks
 fresh-in-use bytes values marks v t =
-    ap₂ (λ (x : List ℤ) (y : List ℕ). store (run x (replicate places 0) 0) y) (take-replicate values maxVariables (pos 0) v) (take-replicate marks maxTransitions 0 t)
+    ap₂ (λ (x : List ℤ) (y : List ℕ). store (run x y (replicate places 0) 0) y) (take-replicate values maxVariables (pos 0) v) (take-replicate marks maxTransitions 0 t)
 
 module _ (m : List ℕ) where
   pieces-printed : (ps : List (List ℕ)) (out : List ℕ) (s : Progress) → piecesText m ps out s ≡ toEnd m (parts m ps s)

@@ -1,5 +1,5 @@
--- What the functions find and leave in the arrays lent. A run takes the first cells of the values and of the marks, and the model
--- the first bytes of the file; what is printed stands at the beginning of the slice for the lines.
+-- What the functions find and leave in the arrays lent. A run takes the first cells of the values, of the marks and of the buffer that
+-- they are copied into, and the model the first bytes of the file; what is printed stands at the beginning of the slice for the lines.
 use mathlib.Core.Bool.{cond}
 use mathlib.Core.List.{List}
 use Prim.Native.Nat.{ℕ, _+_}
@@ -29,11 +29,13 @@ dimensionsOf bytes (accepted z t) = dimensions bytes (z .states + z .flows) (z .
 
 -- the run that the arrays hold
 abbrev pub inUse : Dimensions → Store → Store
-inUse d s = store (run (take (d .variables) (s .run .values)) (s .run .history) (s .run .count)) (take (d .transitions) (s .marks))
+inUse d s =
+    store (run (take (d .variables) (s .run .values)) (take (d .transitions) (s .run .marks)) (s .run .history) (s .run .count))
+    (take (d .transitions) (s .buffer))
 
--- the cells past it
-abbrev pub pastUse : Dimensions → Store → Answered (List ℤ) (List ℕ)
-pastUse d s = answered (drop (d .variables) (s .run .values)) (drop (d .transitions) (s .marks))
+-- the cells past it, of the values, the marks and the buffer
+abbrev pub pastUse : Dimensions → Store → List ℤ × (List ℕ × List ℕ)
+pastUse d s = (drop (d .variables) (s .run .values), (drop (d .transitions) (s .run .marks), drop (d .transitions) (s .buffer)))
 
 -- a count, or the most that it may be
 unfoldable pub atMost : ℕ → ℕ → ℕ

@@ -44,7 +44,7 @@ piecesText m (p ∷ ps) out s =
 
 -- the arrays before the start: 0 in every cell
 abbrev pub empty : Store
-empty = store (run (replicate maxVariables (pos 0)) (replicate places 0) 0) (replicate maxTransitions 0)
+empty = store (run (replicate maxVariables (pos 0)) (replicate maxTransitions 0) (replicate places 0) 0) (replicate maxTransitions 0)
 
 -- "It stops after a refused start."
 unfoldable pub openText : List ℕ → Dimensions → List (List ℕ) → List ℕ → List ℕ

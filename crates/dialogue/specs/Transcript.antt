@@ -34,7 +34,7 @@ replies m (l ∷ ls) s = reply m (commandOf l) s .answer ++ replies m ls (reply 
 
 -- a run of so many values and marks; "Its record has 200 places."
 abbrev pub fresh : ℕ → ℕ → Store
-fresh values marks = store (run (replicate values (pos 0)) (replicate places 0) 0) (replicate marks 0)
+fresh values marks = store (run (replicate values (pos 0)) (replicate marks 0) (replicate places 0) 0) (replicate marks 0)
 
 abbrev pub startedText : List ℕ → List ℕ → Store → List ℕ
 startedText m input s = opening m s .answer ++ cond (isStarted m s) (replies m (linesOf input) (opening m s .left)) []

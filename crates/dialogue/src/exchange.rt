@@ -82,27 +82,30 @@ fn open_first(
     model: &[u8],
     dimensions: Dimensions,
     values: &mut [i32],
+    marks: &mut [u8],
     history: &mut [u8],
     n: &mut usize,
-    marks: &mut [u8],
+    buffer: &mut [u8],
     out: &mut [u8],
 ) -> replies::Opening
-    ensures { λ r. ⌜ r .«is_started» ≡ (not (isShort (now (out .entry)) (inUse dimensions (store (run (now (values .entry)) (now (history .entry)) (now (n .entry))) (now (marks .entry)))))
-        && isStarted (now (model .entry)) (inUse dimensions (store (run (now (values .entry)) (now (history .entry)) (now (n .entry))) (now (marks .entry))))) ⌝ }
-    ensures { λ r. ⌜ answered (writtenInto (r .written) (now (out .exit))) (inUse dimensions (store (run (now (values .exit)) (now (history .exit)) (now (n .exit))) (now (marks .exit))))
-        ≡ replyInto (now (out .entry)) (inUse dimensions (store (run (now (values .entry)) (now (history .entry)) (now (n .entry))) (now (marks .entry))))
-        (opening (now (model .entry)) (inUse dimensions (store (run (now (values .entry)) (now (history .entry)) (now (n .entry))) (now (marks .entry))))) ⌝ }
-    ensures { λ r. ⌜ pastUse dimensions (store (run (now (values .exit)) (now (history .exit)) (now (n .exit))) (now (marks .exit)))
-        ≡ pastUse dimensions (store (run (now (values .entry)) (now (history .entry)) (now (n .entry))) (now (marks .entry))) ⌝ }
+    ensures { λ r. ⌜ r .«is_started» ≡ (not (isShort (now (out .entry)) (inUse dimensions (store (run (now (values .entry)) (now (marks .entry)) (now (history .entry)) (now (n .entry))) (now (buffer .entry)))))
+        && isStarted (now (model .entry)) (inUse dimensions (store (run (now (values .entry)) (now (marks .entry)) (now (history .entry)) (now (n .entry))) (now (buffer .entry))))) ⌝ }
+    ensures { λ r. ⌜ answered (writtenInto (r .written) (now (out .exit))) (inUse dimensions (store (run (now (values .exit)) (now (marks .exit)) (now (history .exit)) (now (n .exit))) (now (buffer .exit))))
+        ≡ replyInto (now (out .entry)) (inUse dimensions (store (run (now (values .entry)) (now (marks .entry)) (now (history .entry)) (now (n .entry))) (now (buffer .entry))))
+        (opening (now (model .entry)) (inUse dimensions (store (run (now (values .entry)) (now (marks .entry)) (now (history .entry)) (now (n .entry))) (now (buffer .entry))))) ⌝ }
+    ensures { λ r. ⌜ pastUse dimensions (store (run (now (values .exit)) (now (marks .exit)) (now (history .exit)) (now (n .exit))) (now (buffer .exit)))
+        ≡ pastUse dimensions (store (run (now (values .entry)) (now (marks .entry)) (now (history .entry)) (now (n .entry))) (now (buffer .entry))) ⌝ }
 {
     let variables = at_most(values.len(), dimensions.variables);
-    let transitions = at_most(marks.len(), dimensions.transitions);
+    let held = at_most(marks.len(), dimensions.transitions);
+    let copied = at_most(buffer.len(), dimensions.transitions);
     replies::open(
         model,
         &mut values[..variables],
+        &mut marks[..held],
         history,
         n,
-        &mut marks[..transitions],
+        &mut buffer[..copied],
         out,
     )
 }
@@ -113,26 +116,29 @@ fn respond_first(
     model: &[u8],
     dimensions: Dimensions,
     values: &mut [i32],
+    marks: &mut [u8],
     history: &mut [u8],
     n: &mut usize,
-    marks: &mut [u8],
+    buffer: &mut [u8],
     out: &mut [u8],
 ) -> Written
-    ensures { λ r. ⌜ answered (writtenInto r (now (out .exit))) (inUse dimensions (store (run (now (values .exit)) (now (history .exit)) (now (n .exit))) (now (marks .exit))))
-        ≡ replyInto (now (out .entry)) (inUse dimensions (store (run (now (values .entry)) (now (history .entry)) (now (n .entry))) (now (marks .entry))))
-        (reply (now (model .entry)) command (inUse dimensions (store (run (now (values .entry)) (now (history .entry)) (now (n .entry))) (now (marks .entry))))) ⌝ }
-    ensures { λ r. ⌜ pastUse dimensions (store (run (now (values .exit)) (now (history .exit)) (now (n .exit))) (now (marks .exit)))
-        ≡ pastUse dimensions (store (run (now (values .entry)) (now (history .entry)) (now (n .entry))) (now (marks .entry))) ⌝ }
+    ensures { λ r. ⌜ answered (writtenInto r (now (out .exit))) (inUse dimensions (store (run (now (values .exit)) (now (marks .exit)) (now (history .exit)) (now (n .exit))) (now (buffer .exit))))
+        ≡ replyInto (now (out .entry)) (inUse dimensions (store (run (now (values .entry)) (now (marks .entry)) (now (history .entry)) (now (n .entry))) (now (buffer .entry))))
+        (reply (now (model .entry)) command (inUse dimensions (store (run (now (values .entry)) (now (marks .entry)) (now (history .entry)) (now (n .entry))) (now (buffer .entry))))) ⌝ }
+    ensures { λ r. ⌜ pastUse dimensions (store (run (now (values .exit)) (now (marks .exit)) (now (history .exit)) (now (n .exit))) (now (buffer .exit)))
+        ≡ pastUse dimensions (store (run (now (values .entry)) (now (marks .entry)) (now (history .entry)) (now (n .entry))) (now (buffer .entry))) ⌝ }
 {
     let variables = at_most(values.len(), dimensions.variables);
-    let transitions = at_most(marks.len(), dimensions.transitions);
+    let held = at_most(marks.len(), dimensions.transitions);
+    let copied = at_most(buffer.len(), dimensions.transitions);
     replies::respond(
         command,
         model,
         &mut values[..variables],
+        &mut marks[..held],
         history,
         n,
-        &mut marks[..transitions],
+        &mut buffer[..copied],
         out,
     )
 }
@@ -142,28 +148,29 @@ pub fn open(
     file: &[u8; Program::FILE_BYTES],
     bytes: usize,
     values: &mut [i32; Model::MAX_VARIABLES],
+    marks: &mut [u8; Model::MAX_TRANSITIONS],
     history: &mut [u8; Program::PLACES],
     n: &mut usize,
-    marks: &mut [u8; Model::MAX_TRANSITIONS],
+    buffer: &mut [u8; Model::MAX_TRANSITIONS],
     out: &mut [u8; Program::LINE_BYTES],
 ) -> Opening
     ensures { λ r. ⌜ (length (now (file .entry)) ≡ fileBytes) × (length (now (history .exit)) ≡ places) × (length (now (out .exit)) ≡ lineBytes)
-        × (length (now (values .exit)) ≡ maxVariables) × (length (now (marks .exit)) ≡ maxTransitions) ⌝ }
+        × (length (now (values .exit)) ≡ maxVariables) × (length (now (marks .exit)) ≡ maxTransitions) × (length (now (buffer .exit)) ≡ maxTransitions) ⌝ }
     ensures { λ r. ⌜ (r .dimensions .variables ≤ maxVariables) × (r .dimensions .transitions ≤ maxTransitions) ⌝ }
     ensures { λ r. ⌜ r .dimensions ≡ dimensionsOf bytes (verdict (take bytes (now (file .entry)))) ⌝ }
     ensures { λ r. ⌜ r .«is_started» ≡ isStarted (take bytes (now (file .entry)))
-        (inUse (r .dimensions) (store (run (now (values .entry)) (now (history .entry)) (now (n .entry))) (now (marks .entry)))) ⌝ }
+        (inUse (r .dimensions) (store (run (now (values .entry)) (now (marks .entry)) (now (history .entry)) (now (n .entry))) (now (buffer .entry)))) ⌝ }
     ensures { λ r. ⌜ answered (answered (r .length) (now (out .exit)))
-        (inUse (r .dimensions) (store (run (now (values .exit)) (now (history .exit)) (now (n .exit))) (now (marks .exit))))
+        (inUse (r .dimensions) (store (run (now (values .exit)) (now (marks .exit)) (now (history .exit)) (now (n .exit))) (now (buffer .exit))))
         ≡ into (now (out .entry)) (opening (take bytes (now (file .entry)))
-        (inUse (r .dimensions) (store (run (now (values .entry)) (now (history .entry)) (now (n .entry))) (now (marks .entry))))) ⌝ }
-    ensures { λ r. ⌜ pastUse (r .dimensions) (store (run (now (values .exit)) (now (history .exit)) (now (n .exit))) (now (marks .exit)))
-        ≡ pastUse (r .dimensions) (store (run (now (values .entry)) (now (history .entry)) (now (n .entry))) (now (marks .entry))) ⌝ }
+        (inUse (r .dimensions) (store (run (now (values .entry)) (now (marks .entry)) (now (history .entry)) (now (n .entry))) (now (buffer .entry))))) ⌝ }
+    ensures { λ r. ⌜ pastUse (r .dimensions) (store (run (now (values .exit)) (now (marks .exit)) (now (history .exit)) (now (n .exit))) (now (buffer .exit)))
+        ≡ pastUse (r .dimensions) (store (run (now (values .entry)) (now (marks .entry)) (now (history .entry)) (now (n .entry))) (now (buffer .entry))) ⌝ }
     ensures { λ r. ⌜ r .length ≤ lineBytes ⌝ }
 {
     let model = first(file, bytes);
     let dimensions = dimensions_of(model, bytes);
-    let opening = open_first(model, dimensions, values, history, n, marks, out);
+    let opening = open_first(model, dimensions, values, marks, history, n, buffer, out);
     let written = opening.written;
     Opening {
         is_started: opening.is_started,
@@ -178,17 +185,18 @@ fn answer(
     file: &[u8; Program::FILE_BYTES],
     dimensions: Dimensions,
     values: &mut [i32; Model::MAX_VARIABLES],
+    marks: &mut [u8; Model::MAX_TRANSITIONS],
     history: &mut [u8; Program::PLACES],
     n: &mut usize,
-    marks: &mut [u8; Model::MAX_TRANSITIONS],
+    buffer: &mut [u8; Model::MAX_TRANSITIONS],
     out: &mut [u8; Program::LINE_BYTES],
 ) -> usize
     ensures { λ r. ⌜ answered (answered r (now (out .exit)))
-        (inUse dimensions (store (run (now (values .exit)) (now (history .exit)) (now (n .exit))) (now (marks .exit))))
+        (inUse dimensions (store (run (now (values .exit)) (now (marks .exit)) (now (history .exit)) (now (n .exit))) (now (buffer .exit))))
         ≡ into (now (out .entry)) (reply (take (dimensions .bytes) (now (file .entry))) command
-        (inUse dimensions (store (run (now (values .entry)) (now (history .entry)) (now (n .entry))) (now (marks .entry))))) ⌝ }
-    ensures { λ r. ⌜ pastUse dimensions (store (run (now (values .exit)) (now (history .exit)) (now (n .exit))) (now (marks .exit)))
-        ≡ pastUse dimensions (store (run (now (values .entry)) (now (history .entry)) (now (n .entry))) (now (marks .entry))) ⌝ }
+        (inUse dimensions (store (run (now (values .entry)) (now (marks .entry)) (now (history .entry)) (now (n .entry))) (now (buffer .entry))))) ⌝ }
+    ensures { λ r. ⌜ pastUse dimensions (store (run (now (values .exit)) (now (marks .exit)) (now (history .exit)) (now (n .exit))) (now (buffer .exit)))
+        ≡ pastUse dimensions (store (run (now (values .entry)) (now (marks .entry)) (now (history .entry)) (now (n .entry))) (now (buffer .entry))) ⌝ }
     ensures { λ r. ⌜ (length (now (out .exit)) ≡ length (now (out .entry))) × (r ≤ lineBytes) ⌝ }
 {
     let bytes = dimensions.bytes;
@@ -197,9 +205,10 @@ fn answer(
         first(file, bytes),
         dimensions,
         values,
+        marks,
         history,
         n,
-        marks,
+        buffer,
         out,
     );
     length_of(written)
@@ -214,18 +223,19 @@ pub fn take_line(
     file: &[u8; Program::FILE_BYTES],
     dimensions: Dimensions,
     values: &mut [i32; Model::MAX_VARIABLES],
+    marks: &mut [u8; Model::MAX_TRANSITIONS],
     history: &mut [u8; Program::PLACES],
     n: &mut usize,
-    marks: &mut [u8; Model::MAX_TRANSITIONS],
+    buffer: &mut [u8; Model::MAX_TRANSITIONS],
     out: &mut [u8; Program::LINE_BYTES],
 ) -> Taken
     ensures { λ r. ⌜ r .next ≡ from + toLineFeed (drop from (now (part .entry))) ⌝ }
     ensures { λ r. ⌜ answered (answered (r .length) (now (out .exit)))
-        (progress (keptOf (r .line)) (inUse dimensions (store (run (now (values .exit)) (now (history .exit)) (now (n .exit))) (now (marks .exit)))))
+        (progress (keptOf (r .line)) (inUse dimensions (store (run (now (values .exit)) (now (marks .exit)) (now (history .exit)) (now (n .exit))) (now (buffer .exit)))))
         ≡ into (now (out .entry)) (turns (take (dimensions .bytes) (now (file .entry))) (firstLine (drop from (now (part .entry))))
-        (progress (keptOf line) (inUse dimensions (store (run (now (values .entry)) (now (history .entry)) (now (n .entry))) (now (marks .entry)))))) ⌝ }
-    ensures { λ r. ⌜ pastUse dimensions (store (run (now (values .exit)) (now (history .exit)) (now (n .exit))) (now (marks .exit)))
-        ≡ pastUse dimensions (store (run (now (values .entry)) (now (history .entry)) (now (n .entry))) (now (marks .entry))) ⌝ }
+        (progress (keptOf line) (inUse dimensions (store (run (now (values .entry)) (now (marks .entry)) (now (history .entry)) (now (n .entry))) (now (buffer .entry)))))) ⌝ }
+    ensures { λ r. ⌜ pastUse dimensions (store (run (now (values .exit)) (now (marks .exit)) (now (history .exit)) (now (n .exit))) (now (buffer .exit)))
+        ≡ pastUse dimensions (store (run (now (values .entry)) (now (marks .entry)) (now (history .entry)) (now (n .entry))) (now (buffer .entry))) ⌝ }
     ensures { λ r. ⌜ (length (now (out .exit)) ≡ length (now (out .entry))) × (r .length ≤ lineBytes) ⌝ }
 {
     let scan = line.scan(part, from);
@@ -237,9 +247,10 @@ pub fn take_line(
             file,
             dimensions,
             values,
+            marks,
             history,
             n,
-            marks,
+            buffer,
             out,
         );
         let empty = Line::empty();
@@ -262,17 +273,18 @@ pub fn close(
     file: &[u8; Program::FILE_BYTES],
     dimensions: Dimensions,
     values: &mut [i32; Model::MAX_VARIABLES],
+    marks: &mut [u8; Model::MAX_TRANSITIONS],
     history: &mut [u8; Program::PLACES],
     n: &mut usize,
-    marks: &mut [u8; Model::MAX_TRANSITIONS],
+    buffer: &mut [u8; Model::MAX_TRANSITIONS],
     out: &mut [u8; Program::LINE_BYTES],
 ) -> usize
     ensures { λ r. ⌜ answered (answered r (now (out .exit)))
-        (inUse dimensions (store (run (now (values .exit)) (now (history .exit)) (now (n .exit))) (now (marks .exit))))
+        (inUse dimensions (store (run (now (values .exit)) (now (marks .exit)) (now (history .exit)) (now (n .exit))) (now (buffer .exit))))
         ≡ into (now (out .entry)) (closing (take (dimensions .bytes) (now (file .entry)))
-        (progress (keptOf line) (inUse dimensions (store (run (now (values .entry)) (now (history .entry)) (now (n .entry))) (now (marks .entry)))))) ⌝ }
-    ensures { λ r. ⌜ pastUse dimensions (store (run (now (values .exit)) (now (history .exit)) (now (n .exit))) (now (marks .exit)))
-        ≡ pastUse dimensions (store (run (now (values .entry)) (now (history .entry)) (now (n .entry))) (now (marks .entry))) ⌝ }
+        (progress (keptOf line) (inUse dimensions (store (run (now (values .entry)) (now (marks .entry)) (now (history .entry)) (now (n .entry))) (now (buffer .entry)))))) ⌝ }
+    ensures { λ r. ⌜ pastUse dimensions (store (run (now (values .exit)) (now (marks .exit)) (now (history .exit)) (now (n .exit))) (now (buffer .exit)))
+        ≡ pastUse dimensions (store (run (now (values .entry)) (now (marks .entry)) (now (history .entry)) (now (n .entry))) (now (buffer .entry))) ⌝ }
     ensures { λ r. ⌜ (length (now (out .exit)) ≡ length (now (out .entry))) × (r ≤ lineBytes) ⌝ }
 {
     if line.length == 0 {
@@ -283,9 +295,10 @@ pub fn close(
         file,
         dimensions,
         values,
+        marks,
         history,
         n,
-        marks,
+        buffer,
         out,
     )
 }

@@ -1,10 +1,10 @@
 -- New states are entered: the flow part of the values is lent to the assertion, and the states are stored when it settles. What is
--- left is as `leftBySettling` has it. Also: values over the cells of an array.
+-- left is as `leftBySettling` has it.
 use mathlib.Core.Path.{_≡_, refl, sym, ap, _∙_}
 use mathlib.Core.Bool.{true, false, true≢false}
 use mathlib.Core.List.{List, [], _∷_, _++_, append-assoc}
 use mathlib.Core.Option.{some}
-use Prim.Native.Nat.{ℕ, zero, suc, _+_, _-_, _≤_, min}
+use Prim.Native.Nat.{ℕ, zero, suc, _+_, _-_, _≤_}
 use native.Mathlib.Nat.{not-suc-le-zero, le-of-suc-le-suc}
 use native.Mathlib.Omega.{arith}
 use lib.IntN.{ℤ}
@@ -23,33 +23,12 @@ use Rattle.semantics.specs.Propagation.{Reached, Settled as Settling, resetBy, 
 use Rattle.semantics.specs.Propagation.Settled.{refused, settled}
 use Rattle.semantics.specs.Firing.{leftBySettling}
 use Rattle.propagation.specs.Cells.{flowsBySettling, PropagationStands}
-use Rattle.engine.specs.Cells.{cellsOver}
 use Rattle.results.specs.Results.{answered, over}
 use Rattle.propagation.proofs.Columns.{row-count}
 use Rattle.propagation.proofs.Propagating.{rows-counted}
 use Rattle.semantics.proofs.Derived.{derived-extends}
 use Rattle.semantics.proofs.Rounds.{Outcome, outcome, assertion-targets, finished, rounds-bounded-tree}
 use Rattle.semantics.proofs.Rounds.Outcome.{fault, rest}
-
--- ---- values over the cells of an array
-
-take-least : {A : Type 0} (m : ℕ) (l : List A) → take (min m (length l)) l ≡ take m l
-take-least zero l = let e : min 0 (length l) ≡ 0 = omega arith in rw e
-take-least (suc m) [] = let e : min (suc m) 0 ≡ 0 = omega arith in rw e
-take-least (suc m) (a ∷ l) = let e : min (suc m) (suc (length l)) ≡ suc (min m (length l)) = omega arith in rw e (ap (λ l. a ∷ l) (take-least m l))
-
-module _ (values cs : List ℤ) (m n : ℕ) (few : n ≡ min m (length values)) where
-  pub length-few : n ≡ length (take n values)
-  length-few = simp length-take (omega arith)
-
-  pub few-fit : m ≤ length cs → length (take n values) ≤ length cs
-  few-fit h = simp length-take (omega arith)
-
-  pub widened : (count : ℕ) → m ≡ min count (length cs) → {new : List ℤ} → new ≡ over (take n values) cs → new ≡ cellsOver values count cs
-  unfolding cellsOver
-  widened count most e =
-      let k : take n values ≡ take (min count (length cs)) values = rw (few, take-least m values, most) in
-      e ∙ ap (λ l. over l cs) k
 
 -- ---- what settles keeps the states
 

@@ -1,10 +1,9 @@
 -- What the functions on a decoded model are lent, and what they may ask of it.
 use mathlib.Core.Path.{_≡_}
 use mathlib.Core.List.{List}
-use Prim.Native.Nat.{ℕ, _≤_, min}
+use Prim.Native.Nat.{ℕ, _≤_}
 use lib.IntN.{ℤ}
 use lib.ListN.{length, take}
-use Rattle.results.specs.Results.{over}
 use Rattle.model.specs.declared.Model.{Model}
 use Rattle.model.specs.Trees.{Instruction, System, variables}
 use Rattle.model.specs.Standing.{InstructionAt}
@@ -15,10 +14,7 @@ use Rattle.variables.specs.Rows.{variableRows}
 use Rattle.decoding.specs.Decoding.{Decoded}
 use Rattle.interpreter.specs.Cells.{NextPlaces}
 use Rattle.propagation.specs.Cells.{AllRepresentable}
-
--- the first so many values, and the cells from there on as they were
-unfoldable pub cellsOver : List ℤ → ℕ → List ℤ → List ℤ
-cellsOver values n cells = over (take (min n (length cells)) values) cells
+use Rattle.semantics.specs.Meanings.{Meaning, meaningOf}
 
 module _ (ks : List ℕ) (ps : List ℤ) where
   -- an action and the assertion of a well-formed system stand at their places, the rows are those of its variables, and their
@@ -42,3 +38,8 @@ pub record Loaded (model : Model) (kinds : List ℕ) (parameters : List ℤ) (ro
   pub file : List ℕ
   pub bytes : Bytes file
   pub decoded : Decoded file model kinds parameters rows nexts guards
+
+-- this is true of the meaning of the model whose decoding is lent
+abbrev pub OnLoaded : Model → List ℕ → List ℤ → List (List ℤ) → List ℕ → List ℕ → (Meaning → Type 0) → Type 0
+OnLoaded model kinds parameters rows nexts guards P =
+    (d : Loaded model kinds parameters rows nexts guards) → P (meaningOf (d .decoded .system))

@@ -1,7 +1,7 @@
 // Guards, firing and starting, on the slices of a decoded model and lent values.
 
 ghost use mathlib.Core.Path.{_≡_};
-ghost use Prim.Native.Nat.{_-_, _≤_, _<_, min};
+ghost use Prim.Native.Nat.{_-_, _≤_, _<_};
 ghost use lib.ListN.{length, getD};
 ghost use Rattle.results.specs.Results.{answered};
 ghost use Rattle.expressions.specs.Cells.{valuationOf};
@@ -10,7 +10,7 @@ ghost use Rattle.semantics.specs.Propagation.{settle};
 ghost use Rattle.semantics.specs.Meanings.{guardOver, meaningOf};
 ghost use Rattle.semantics.specs.Firing.{leftBySettling, leftByActing, fired, begun};
 ghost use Rattle.propagation.specs.Cells.{PropagationStands};
-ghost use Rattle.engine.specs.Cells.{Loaded, TransitionStands, cellsOver};
+ghost use Rattle.engine.specs.Cells.{Loaded, TransitionStands};
 use evaluation::Evaluation;
 use model::Model;
 use semantics::Finding;
@@ -20,21 +20,6 @@ use syntax::Cursor;
 
 // What a true expression comes to.
 const TRUE: i32 = 1;
-
-// The lesser number.
-fn least(a: usize, b: usize) -> usize
-    ensures { λ r. ⌜ r ≡ min a b ⌝ }
-{
-    if a < b { a } else { b }
-}
-
-// The first values as cells, as many as there are variables; the cells from there on stay.
-pub fn widen(values: &[i32], count: usize, cells: &mut [i64; Model::MAX_VARIABLES])
-    ensures { λ _. ⌜ now (cells .exit) ≡ cellsOver (now (values .entry)) count (now (cells .entry)) ⌝ }
-{
-    let n = least(least(count, Model::MAX_VARIABLES), values.len());
-    propagation::overwrite(&values[..n], cells);
-}
 
 // The guard of a transition over cells.
 pub fn guard(

@@ -34,9 +34,10 @@ fn answer_part(
     file: &[u8; Program::FILE_BYTES],
     dimensions: Dimensions,
     values: &mut [i32; Model::MAX_VARIABLES],
+    marks: &mut [u8; Model::MAX_TRANSITIONS],
     history: &mut [u8; Program::PLACES],
     n: &mut usize,
-    marks: &mut [u8; Model::MAX_TRANSITIONS],
+    buffer: &mut [u8; Model::MAX_TRANSITIONS],
     out: &mut [u8; Program::LINE_BYTES],
 ) -> Line {
     let mut line = begun;
@@ -49,9 +50,10 @@ fn answer_part(
             file,
             dimensions,
             values,
+            marks,
             history,
             n,
-            marks,
+            buffer,
             out,
         );
         print(out, taken.length);
@@ -66,9 +68,10 @@ fn answer_all(
     file: &[u8; Program::FILE_BYTES],
     dimensions: Dimensions,
     values: &mut [i32; Model::MAX_VARIABLES],
+    marks: &mut [u8; Model::MAX_TRANSITIONS],
     history: &mut [u8; Program::PLACES],
     n: &mut usize,
-    marks: &mut [u8; Model::MAX_TRANSITIONS],
+    buffer: &mut [u8; Model::MAX_TRANSITIONS],
     out: &mut [u8; Program::LINE_BYTES],
 ) {
     let mut part = [0u8; PART];
@@ -87,30 +90,43 @@ fn answer_all(
             file,
             dimensions,
             values,
+            marks,
             history,
             n,
-            marks,
+            buffer,
             out,
         );
     }
-    let length = exchange::close(line, file, dimensions, values, history, n, marks, out);
+    let length = exchange::close(
+        line,
+        file,
+        dimensions,
+        values,
+        marks,
+        history,
+        n,
+        buffer,
+        out,
+    );
     print(out, length);
 }
 
 // Starts the run and, unless that is refused, answers the input.
 fn serve(file: &[u8; Program::FILE_BYTES], bytes: usize) {
     let mut values = [0i32; Model::MAX_VARIABLES];
+    let mut marks = [0u8; Model::MAX_TRANSITIONS];
     let mut history = [0u8; Program::PLACES];
     let mut n: usize = 0;
-    let mut marks = [0u8; Model::MAX_TRANSITIONS];
+    let mut buffer = [0u8; Model::MAX_TRANSITIONS];
     let mut out = [0u8; Program::LINE_BYTES];
     let opening = exchange::open(
         file,
         bytes,
         &mut values,
+        &mut marks,
         &mut history,
         &mut n,
-        &mut marks,
+        &mut buffer,
         &mut out,
     );
     print(&out, opening.length);
@@ -120,9 +136,10 @@ fn serve(file: &[u8; Program::FILE_BYTES], bytes: usize) {
             file,
             dimensions,
             &mut values,
+            &mut marks,
             &mut history,
             &mut n,
-            &mut marks,
+            &mut buffer,
             &mut out,
         );
     }

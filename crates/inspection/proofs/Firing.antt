@@ -20,7 +20,7 @@ use Rattle.semantics.specs.Meanings.{Meaning}
 use Rattle.semantics.specs.Firing.{leftBySettling, leftByActing, leftByGuard, fired}
 use Rattle.standing.specs.Runs.{Run, Answer, Done}
 use Rattle.standing.specs.Runs.Answer.{refused, picked}
-use Rattle.standing.specs.Holding.{tooShort, holds}
+use Rattle.standing.specs.Holding.{tooShort, tooFew, holds}
 use Rattle.steps.specs.Calls.{answerOf, fire}
 use Rattle.steps.proofs.Tests.{clash, by-test}
 use Rattle.steps.proofs.FaultNumbers.{action-number, assertion-number}
@@ -47,31 +47,32 @@ acting-later m old (states ss) = settling-later old (m .propagate ss)
 
 module _ (m : Meaning) (r : Run) where
   -- the run was not refused
-  standing : (t : ℕ) → pick m r ≡ picked (some t) → (tooShort m (r .values) ≡ false) × (holds m r ≡ true)
+  standing : (t : ℕ) → pick m r ≡ picked (some t) → (tooShort m (r .values) ≡ false) × (tooFew m (r .marks) ≡ false) × (holds m r ≡ true)
   unfolding pick
   standing t =
       by-test Stands (tooShort m (r .values)) _ _ (λ e p. clash cc) (λ long.
-      by-test Stands (not (holds m r)) _ _ (λ e p. clash cc) (λ held p. (long, not-false _ held)))
+      by-test Stands (tooFew m (r .marks)) _ _ (λ e p. clash cc) (λ room.
+      by-test Stands (not (holds m r)) _ _ (λ e p. clash cc) (λ held p. (long, room, not-false _ held))))
     where
       Stands : Answer → Type 0
-      Stands a = a ≡ picked (some t) → (tooShort m (r .values) ≡ false) × (holds m r ≡ true)
+      Stands a = a ≡ picked (some t) → (tooShort m (r .values) ≡ false) × (tooFew m (r .marks) ≡ false) × (holds m r ≡ true)
 
   guarded-later : (t : ℕ) → tooShort m (r .values) ≡ false
       → m .guard t (take (length (m .declarations)) (r .values)) ≡ Value (boolean true) → Later (answerOf (fired m t (r .values) .answer))
   unfolding fired leftByGuard eqZ
   guarded-later t long g = rw (long, g) (acting-later m (r .values) (m .action t (take (length (m .declarations)) (r .values))))
 
-  fire-later : (t : ℕ) → tooShort m (r .values) ≡ false → t < m .transitions → holds m r ≡ true
+  fire-later : (t : ℕ) → tooShort m (r .values) ≡ false → tooFew m (r .marks) ≡ false → t < m .transitions → holds m r ≡ true
       → m .guard t (take (length (m .declarations)) (r .values)) ≡ Value (boolean true) → Later (fire m t r .answer)
   unfolding fire
-  fire-later t long below held g =
-      rw (long, lt-ltb t (m .transitions) below, held)
+  fire-later t long room below held g =
+      rw (long, room, lt-ltb t (m .transitions) below, held)
       (by-test (λ (d : Done Run). Later (d .answer)) (eqb (r .count) (length (r .history))) _ _
       (λ e k p. inl (let same : 21 ≡ k = cc in sym same)) (λ e. guarded-later t long g))
 
 pub picked-fires : PickedFires
 picked-fires m r t e =
     let s = standing m r t e in
-    let f = pick-lowest m r (s .0) (s .1) .0 t .0 e .0 in
+    let f = pick-lowest m r (s .0) (s .1) (s .2) .0 t .0 e .0 in
     let g = fireable-exact m (r .values) t .0 f in
-    fire-later m r t (s .0) (f .0) (s .1) (g .1)
+    fire-later m r t (s .0) (s .1) (f .0) (s .2) (g .1)

@@ -1,9 +1,10 @@
 -- Proofs of crate `inspection`: what the functions are proved by, and the theorems.
 pub mod QueryTests
-pub mod MarksWritten
+pub mod Declared
 pub mod Picking
 pub mod Ranges
 pub mod First
 pub mod Lowest
 pub mod Outside
 pub mod Firing
+pub mod HeldMarks

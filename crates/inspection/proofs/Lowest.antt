@@ -15,9 +15,10 @@ use Rattle.evaluation.specs.Numbers.{eqZ, boolean}
 use Rattle.evaluation.proofs.Laws.{eqZ-true}
 use Rattle.semantics.specs.Meanings.{Meaning}
 use Rattle.standing.specs.Runs.Answer.{picked}
-use Rattle.inspection.specs.Queries.{markOf, marksFrom, marksOf, firstFireable, pick}
+use Rattle.marking.specs.Marks.{markOf, marksFrom, marksOf}
+use Rattle.marking.proofs.MarksWritten.{length-marks}
+use Rattle.inspection.specs.Queries.{firstFireable, pick}
 use Rattle.inspection.specs.Theorems.{FireableExact, PickLowest}
-use Rattle.inspection.proofs.MarksWritten.{length-marks}
 use Rattle.inspection.proofs.First.{IsFirst, nowhere, here, later, first-is, none-is}
 
 -- a mark is 1
@@ -39,12 +40,12 @@ finds (a ∷ l) x = go (eqb a 1) refl (finds l (suc x))
 
 pub pick-lowest : PickLowest
 unfolding pick
-pick-lowest m r long held =
+pick-lowest m r long room held =
     let marks = marksOf m (r .values) in
     let count : length marks ≡ m .transitions = length-marks m (take (length (m .declarations)) (r .values)) 0 (m .transitions) in
     let lowest = first-is (IsOne marks) (IsNotOne marks) (λ k s n. n s) (length marks) (firstFireable marks 0) (finds marks 0) in
     let none-at = none-is (IsOne marks) (IsNotOne marks) (λ k s n. n s) (length marks) (firstFireable marks 0) (finds marks 0) in
-    let first : pick m r ≡ picked (firstFireable marks 0) = rw (long, held) in
+    let first : pick m r ≡ picked (firstFireable marks 0) = rw (long, room, held) in
     let is : (o : Option ℕ) → pick m r ≡ picked o → firstFireable marks 0 ≡ o = λ o e.
     let same : picked (firstFireable marks 0) ≡ picked o = sym first ∙ e in cc in (
       λ t. (

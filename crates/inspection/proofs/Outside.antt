@@ -164,6 +164,6 @@ none-of (some x) e = clash (sym e)
 pub holds-by-range-check : HoldsByRangeCheck
 unfolding lookedAt isNone
 holds-by-range-check m r long = (
-  λ h. let b = both-true _ _ h in (b .0, told m (r .values) long none (none-of _ (b .1))),
-  λ h. rw (h .0, tells m (r .values) long none _ (h .1) .0),
+  λ h. let b = both-true _ _ h in let c = both-true _ _ (b .1) in (b .0, c .0, told m (r .values) long none (none-of _ (c .1))),
+  λ h. rw (h .0, h .1, tells m (r .values) long none _ (h .2) .0),
 )

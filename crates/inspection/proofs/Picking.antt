@@ -11,7 +11,8 @@ use lib.Dec.{eqb}
 use lib.IntN.{ℤ}
 use lib.ListN.{length, take}
 use Rattle.semantics.specs.Meanings.{Meaning}
-use Rattle.inspection.specs.Queries.{markOf, marksFrom, marksOf, firstFireable}
+use Rattle.marking.specs.Marks.{markOf, marksFrom, marksOf}
+use Rattle.inspection.specs.Queries.{firstFireable}
 
 module _ (m : Meaning) (values : List ℤ) (total : ℕ) where
   -- the first mark that is 1 among those from i on

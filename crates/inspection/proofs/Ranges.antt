@@ -12,9 +12,9 @@ use Rattle.model.specs.declared.Checked.{Checked}
 use Rattle.model.specs.declared.Checked.the-variants.{Refused}
 use Rattle.model.specs.Trees.{Variable, variables}
 use Rattle.model.specs.Check.{verdict}
-use Rattle.variables.specs.Rows.{variableRow, variableRows}
+use Rattle.variables.specs.Rows.{variableRow}
 use Rattle.decoding.specs.Decoding.{rowsAfter}
-use Rattle.decoding.proofs.VariablesInUse.{RowsInUse, after-refused}
+use Rattle.decoding.proofs.VariablesInUse.{RowsInUse}
 use Rattle.semantics.specs.Meanings.{meaningOf}
 use Rattle.standing.specs.declared.RangeCheck.{RangeCheck}
 use Rattle.standing.specs.Runs.{Answer}
@@ -23,14 +23,14 @@ use Rattle.standing.specs.Holding.{endsOf, firstOutside, lookedAt}
 use Rattle.standing.proofs.Holding.{outside-rows}
 use Rattle.steps.specs.Answers.{onFileAnswer}
 use Rattle.inspection.specs.Queries.{rangeCheck}
+use Rattle.inspection.proofs.Declared.{refused-rows-answer}
 
 module _ (m : List ℕ) (values : List ℤ) where
   abbrev Answers : Answer → Type 0
   Answers a = a ≡ onFileAnswer (verdict m) (λ m. rangeCheck m values)
 
   pub range-refused : (old left : List (List ℤ)) (r : Checked) (n : ℕ) → answered r left ≡ rowsAfter (verdict m) old → r ≡ Refused n → Answers (refused n)
-  unfolding onFileAnswer
-  range-refused old left r n e h = rw (after-refused variableRows old left r n (verdict m) e h)
+  range-refused old left r n e h = refused-rows-answer m old left r n e h (λ m. rangeCheck m values)
 
   -- the rows of an accepted model
   module _ (s : Sizes) (left : List (List ℤ)) (u : RowsInUse m s left) where

@@ -2,39 +2,142 @@
 
 ghost use mathlib.Core.Path.{_≡_};
 ghost use Rattle.model.specs.Check.{verdict};
-ghost use Rattle.engine.specs.Cells.{Loaded};
+ghost use Rattle.semantics.specs.Meanings.{Meaning};
+ghost use Rattle.engine.specs.Cells.{Loaded, OnLoaded};
 ghost use Rattle.standing.specs.Runs.{run, answered};
-ghost use Rattle.steps.specs.Answers.{seen, onFile, onFileAnswer, OnLoaded};
+ghost use Rattle.steps.specs.Answers.{seen, onFile, onFileAnswer};
 ghost use Rattle.inspection.specs.Queries as queries;
-ghost use Rattle.inspection.specs.Queries.{queryOn};
+ghost use Rattle.inspection.specs.Declared.{Declares};
 use decoding::Prepared;
 use engine::transitions;
-use evaluation::Evaluation;
 use model::Checked;
 use model::Model;
 use results::Found;
 use steps::Answer;
 
-// What is asked of a run.
-pub enum Query {
-    Marks,
-    Value(usize),
-    Pick,
+// 9, 10 for the marks held and for the slice lent, 20, then the marks held.
+fn copy_marks(
+    transitions: usize,
+    variables: &[[i32; 3]],
+    values: &[i32],
+    marks: &[u8],
+    history: &[u8],
+    n: usize,
+    buffer: &mut [u8],
+) -> Answer
+    ensures { λ r. ⌜ ((m : Meaning) → Declares m transitions (now (variables .entry))
+        → answered (seen r) (now (buffer .exit)) ≡ queries.marks m (run (now (values .entry)) (now (marks .entry)) (now (history .entry)) n) (now (buffer .entry))) ⌝ }
+{
+    if values.len() < variables.len() {
+        return Answer::Refused(9);
+    }
+    if marks.len() < transitions {
+        return Answer::Refused(10);
+    }
+    if buffer.len() < transitions {
+        return Answer::Refused(10);
+    }
+    if !standing::holds(transitions, variables, values, marks, history, n) {
+        return Answer::Refused(20);
+    }
+    let mut i = 0;
+    while i < transitions {
+        buffer[i] = marks[i];
+        i += 1;
+    }
+    Answer::Done
 }
 
-// 1 true, 0 false, 2 failed.
-fn mark_of(guard: Evaluation) -> u8
-    ensures { λ r. ⌜ r ≡ queries.markOf guard ⌝ }
+// The marks that the run holds, copied. Of the model its variables alone are decoded.
+pub fn marks(
+    model: &[u8],
+    values: &[i32],
+    marks: &[u8],
+    history: &[u8],
+    n: usize,
+    buffer: &mut [u8],
+) -> Answer
+    ensures { λ r. ⌜ answered (seen r) (now (buffer .exit))
+        ≡ onFile (verdict (now (model .entry))) (λ m. queries.marks m (run (now (values .entry)) (now (marks .entry)) (now (history .entry)) n) (now (buffer .entry))) (now (buffer .entry)) ⌝ }
 {
-    match guard {
-        Evaluation::Unknown => 0,
-        Evaluation::Failed => 2,
-        Evaluation::Value(value) => { if value == 1 { 1 } else { 0 } }
+    let mut variables = [[0i32; 3]; Model::MAX_VARIABLES];
+    match decoding::variables_of(model, &mut variables) {
+        Checked::Refused(number) => Answer::Refused(number),
+        Checked::Accepted(sizes) => {
+            let count = sizes.states + sizes.flows;
+            copy_marks(
+                sizes.transitions,
+                &variables[..count],
+                values,
+                marks,
+                history,
+                n,
+                buffer,
+            )
+        }
     }
 }
 
-// 9, 10, 20, then each guard over the values.
-fn marks_loaded(
+// 9, 10, 12, 20, then the value.
+fn held_value(
+    transitions: usize,
+    variables: &[[i32; 3]],
+    values: &[i32],
+    marks: &[u8],
+    history: &[u8],
+    n: usize,
+    variable: usize,
+) -> Answer
+    ensures { λ r. ⌜ ((m : Meaning) → Declares m transitions (now (variables .entry))
+        → seen r ≡ queries.value m variable (run (now (values .entry)) (now (marks .entry)) (now (history .entry)) n)) ⌝ }
+{
+    if values.len() < variables.len() {
+        return Answer::Refused(9);
+    }
+    if marks.len() < transitions {
+        return Answer::Refused(10);
+    }
+    if variables.len() <= variable {
+        return Answer::Refused(12);
+    }
+    if !standing::holds(transitions, variables, values, marks, history, n) {
+        return Answer::Refused(20);
+    }
+    let held = values[variable];
+    Answer::Number(held)
+}
+
+// The value of a variable. Of the model its variables alone are decoded.
+pub fn value(
+    model: &[u8],
+    values: &[i32],
+    marks: &[u8],
+    history: &[u8],
+    n: usize,
+    variable: usize,
+) -> Answer
+    ensures { λ r. ⌜ seen r ≡ onFileAnswer (verdict (now (model .entry))) (λ m. queries.value m variable (run (now (values .entry)) (now (marks .entry)) (now (history .entry)) n)) ⌝ }
+{
+    let mut variables = [[0i32; 3]; Model::MAX_VARIABLES];
+    match decoding::variables_of(model, &mut variables) {
+        Checked::Refused(number) => Answer::Refused(number),
+        Checked::Accepted(sizes) => {
+            let count = sizes.states + sizes.flows;
+            held_value(
+                sizes.transitions,
+                &variables[..count],
+                values,
+                marks,
+                history,
+                n,
+                variable,
+            )
+        }
+    }
+}
+
+// 9, 10, 20, then the first transition whose guard is true, whatever the marks held; the guards after it are not looked at.
+fn pick_loaded(
     loaded: Model,
     kinds: &[u8],
     parameters: &[i32],
@@ -42,13 +145,13 @@ fn marks_loaded(
     nexts: &[u16],
     guards: &[u16],
     values: &[i32],
+    marks: &[u8],
     history: &[u8],
     n: usize,
-    marks: &mut [u8],
 ) -> Answer
     requires { ⌜ Loaded loaded (now kinds) (now parameters) (now variables) (now nexts) (now guards) ⌝ }
     ensures { λ r. ⌜ OnLoaded loaded (now (kinds .entry)) (now (parameters .entry)) (now (variables .entry)) (now (nexts .entry)) (now (guards .entry)) (λ m.
-        answered (seen r) (now (marks .exit)) ≡ queries.marks m (run (now (values .entry)) (now (history .entry)) n) (now (marks .entry))) ⌝ }
+        seen r ≡ queries.pick m (run (now (values .entry)) (now (marks .entry)) (now (history .entry)) n)) ⌝ }
 {
     let count = variables.len();
     if values.len() < count {
@@ -57,84 +160,11 @@ fn marks_loaded(
     if marks.len() < guards.len() {
         return Answer::Refused(10);
     }
-    if !standing::holds(guards.len(), variables, values, history, n) {
+    if !standing::holds(guards.len(), variables, values, marks, history, n) {
         return Answer::Refused(20);
     }
     let mut cells = [0i64; Model::MAX_VARIABLES];
-    transitions::widen(values, count, &mut cells);
-    let mut i = 0;
-    while i < guards.len() {
-        let guard = transitions::guard(
-            loaded,
-            kinds,
-            parameters,
-            variables,
-            nexts,
-            guards,
-            &cells[..count],
-            i,
-        );
-        marks[i] = mark_of(guard);
-        i += 1;
-    }
-    Answer::Done
-}
-
-// 9, 12, 20, then the value.
-fn value(
-    loaded: Model,
-    kinds: &[u8],
-    parameters: &[i32],
-    variables: &[[i32; 3]],
-    nexts: &[u16],
-    guards: &[u16],
-    values: &[i32],
-    history: &[u8],
-    n: usize,
-    variable: usize,
-) -> Answer
-    requires { ⌜ Loaded loaded (now kinds) (now parameters) (now variables) (now nexts) (now guards) ⌝ }
-    ensures { λ r. ⌜ OnLoaded loaded (now (kinds .entry)) (now (parameters .entry)) (now (variables .entry)) (now (nexts .entry)) (now (guards .entry)) (λ m.
-        seen r ≡ queries.value m variable (run (now (values .entry)) (now (history .entry)) n)) ⌝ }
-{
-    if values.len() < variables.len() {
-        return Answer::Refused(9);
-    }
-    if variables.len() <= variable {
-        return Answer::Refused(12);
-    }
-    if !standing::holds(guards.len(), variables, values, history, n) {
-        return Answer::Refused(20);
-    }
-    let held = values[variable];
-    Answer::Number(held)
-}
-
-// 9, 20, then the first transition whose guard is true; the guards after it are not looked at.
-fn pick(
-    loaded: Model,
-    kinds: &[u8],
-    parameters: &[i32],
-    variables: &[[i32; 3]],
-    nexts: &[u16],
-    guards: &[u16],
-    values: &[i32],
-    history: &[u8],
-    n: usize,
-) -> Answer
-    requires { ⌜ Loaded loaded (now kinds) (now parameters) (now variables) (now nexts) (now guards) ⌝ }
-    ensures { λ r. ⌜ OnLoaded loaded (now (kinds .entry)) (now (parameters .entry)) (now (variables .entry)) (now (nexts .entry)) (now (guards .entry)) (λ m.
-        seen r ≡ queries.pick m (run (now (values .entry)) (now (history .entry)) n)) ⌝ }
-{
-    let count = variables.len();
-    if values.len() < count {
-        return Answer::Refused(9);
-    }
-    if !standing::holds(guards.len(), variables, values, history, n) {
-        return Answer::Refused(20);
-    }
-    let mut cells = [0i64; Model::MAX_VARIABLES];
-    transitions::widen(values, count, &mut cells);
+    propagation::overwrite(&values[..count], &mut cells);
     let mut transition = 0;
     while transition < guards.len() {
         let guard = transitions::guard(
@@ -147,7 +177,7 @@ fn pick(
             &cells[..count],
             transition,
         );
-        if mark_of(guard) == 1 {
+        if marking::mark_of(guard) == 1 {
             return Answer::Picked(Found::At(transition));
         }
         transition += 1;
@@ -155,74 +185,9 @@ fn pick(
     Answer::Picked(Found::Nothing)
 }
 
-// One of the three, on a decoded model.
-fn dispatch(
-    loaded: Model,
-    kinds: &[u8],
-    parameters: &[i32],
-    variables: &[[i32; 3]],
-    nexts: &[u16],
-    guards: &[u16],
-    values: &[i32],
-    history: &[u8],
-    n: usize,
-    marks: &mut [u8],
-    query: Query,
-) -> Answer
-    requires { ⌜ Loaded loaded (now kinds) (now parameters) (now variables) (now nexts) (now guards) ⌝ }
-    ensures { λ r. ⌜ OnLoaded loaded (now (kinds .entry)) (now (parameters .entry)) (now (variables .entry)) (now (nexts .entry)) (now (guards .entry)) (λ m.
-        answered (seen r) (now (marks .exit)) ≡ queryOn m query (run (now (values .entry)) (now (history .entry)) n) (now (marks .entry))) ⌝ }
-{
-    match query {
-        Query::Marks => marks_loaded(
-            loaded,
-            kinds,
-            parameters,
-            variables,
-            nexts,
-            guards,
-            values,
-            history,
-            n,
-            marks,
-        ),
-        Query::Value(variable) => value(
-            loaded,
-            kinds,
-            parameters,
-            variables,
-            nexts,
-            guards,
-            values,
-            history,
-            n,
-            variable,
-        ),
-        Query::Pick => pick(
-            loaded,
-            kinds,
-            parameters,
-            variables,
-            nexts,
-            guards,
-            values,
-            history,
-            n,
-        ),
-    }
-}
-
-// Decodes the model and answers.
-pub fn inspect(
-    model: &[u8],
-    values: &[i32],
-    history: &[u8],
-    n: usize,
-    marks: &mut [u8],
-    query: Query,
-) -> Answer
-    ensures { λ r. ⌜ answered (seen r) (now (marks .exit))
-        ≡ onFile (verdict (now (model .entry))) (λ m. queryOn m query (run (now (values .entry)) (now (history .entry)) n) (now (marks .entry))) (now (marks .entry)) ⌝ }
+// The lowest transition whose guard is true, or none: decodes the model and works the guards out.
+pub fn pick(model: &[u8], values: &[i32], marks: &[u8], history: &[u8], n: usize) -> Answer
+    ensures { λ r. ⌜ seen r ≡ onFileAnswer (verdict (now (model .entry))) (λ m. queries.pick m (run (now (values .entry)) (now (marks .entry)) (now (history .entry)) n)) ⌝ }
 {
     let mut parameters = [0i32; Model::MAX_NODES];
     let mut sorts = [0u8; Model::MAX_VARIABLES];
@@ -242,7 +207,7 @@ pub fn inspect(
             let nodes = loaded.sizes.nodes;
             let count = loaded.sizes.states + loaded.sizes.flows;
             let transitions = loaded.sizes.transitions;
-            dispatch(
+            pick_loaded(
                 loaded,
                 decoding::kinds_of(model, nodes),
                 &parameters[..nodes],
@@ -250,10 +215,9 @@ pub fn inspect(
                 &nexts[..nodes],
                 &guards[..transitions],
                 values,
+                marks,
                 history,
                 n,
-                marks,
-                query,
             )
         }
     }

@@ -75,9 +75,10 @@ fn answer_part(
     file: &[u8; Program::FILE_BYTES],
     dimensions: Dimensions,
     values: &mut [i32; Model::MAX_VARIABLES],
+    marks: &mut [u8; Model::MAX_TRANSITIONS],
     history: &mut [u8; Program::PLACES],
     n: &mut usize,
-    marks: &mut [u8; Model::MAX_TRANSITIONS],
+    buffer: &mut [u8; Model::MAX_TRANSITIONS],
     out: &mut [u8; Program::LINE_BYTES],
 ) -> Progress {
     let mut line = begun.line;
@@ -91,9 +92,10 @@ fn answer_part(
             file,
             dimensions,
             values,
+            marks,
             history,
             n,
-            marks,
+            buffer,
             out,
         );
         so_far = with_line(so_far, wanted, out, taken.length);
@@ -126,9 +128,10 @@ fn answer_all(
     file: &[u8; Program::FILE_BYTES],
     dimensions: Dimensions,
     values: &mut [i32; Model::MAX_VARIABLES],
+    marks: &mut [u8; Model::MAX_TRANSITIONS],
     history: &mut [u8; Program::PLACES],
     n: &mut usize,
-    marks: &mut [u8; Model::MAX_TRANSITIONS],
+    buffer: &mut [u8; Model::MAX_TRANSITIONS],
     out: &mut [u8; Program::LINE_BYTES],
 ) -> Output {
     let empty = Line::empty();
@@ -146,25 +149,37 @@ fn answer_all(
             file,
             dimensions,
             values,
+            marks,
             history,
             n,
-            marks,
+            buffer,
             out,
         );
         from = end;
     }
     let line = progress.line;
     let so_far = progress.output;
-    let length = exchange::close(line, file, dimensions, values, history, n, marks, out);
+    let length = exchange::close(
+        line,
+        file,
+        dimensions,
+        values,
+        marks,
+        history,
+        n,
+        buffer,
+        out,
+    );
     with_line(so_far, wanted, out, length)
 }
 
 // Starts the run and, unless that is refused, answers the input: does the program print the wanted output?
 fn is_equal(file: &[u8; Program::FILE_BYTES], bytes: usize, input: &[u8], wanted: &[u8]) -> bool {
     let mut values = [0i32; Model::MAX_VARIABLES];
+    let mut marks = [0u8; Model::MAX_TRANSITIONS];
     let mut history = [0u8; Program::PLACES];
     let mut n: usize = 0;
-    let mut marks = [0u8; Model::MAX_TRANSITIONS];
+    let mut buffer = [0u8; Model::MAX_TRANSITIONS];
     let mut out = [0u8; Program::LINE_BYTES];
     let nothing = Output {
         at: 0,
@@ -174,9 +189,10 @@ fn is_equal(file: &[u8; Program::FILE_BYTES], bytes: usize, input: &[u8], wanted
         file,
         bytes,
         &mut values,
+        &mut marks,
         &mut history,
         &mut n,
-        &mut marks,
+        &mut buffer,
         &mut out,
     );
     let begun = with_line(nothing, wanted, &out, opening.length);
@@ -189,9 +205,10 @@ fn is_equal(file: &[u8; Program::FILE_BYTES], bytes: usize, input: &[u8], wanted
             file,
             dimensions,
             &mut values,
+            &mut marks,
             &mut history,
             &mut n,
-            &mut marks,
+            &mut buffer,
             &mut out,
         );
         is_whole(output, wanted)

@@ -26,26 +26,34 @@ module _ {A : Type 0} (new old : List A) where
   abbrev pub partly : ℕ → List A
   partly i = take i new ++ drop i old
 
+  -- where one is longer too
+  module _ (i : ℕ) (d : A) (below : i < length new) (within : i < length old) where
+    length-front : length (take i new) ≡ i
+    length-front = simp length-take (omega arith)
+
+    pub partly-put : (a : A) → a ≡ getD new i d → set (partly i) i a ≡ partly (i + 1)
+    partly-put a e =
+        rw (add-one i, drop-cons old i d within, take-suc new i d below, e)
+        (set-at (take i new) (getD old i d) (drop (suc i) old) (getD new i d) i length-front
+        ∙ sym (append-snoc (take i new) (getD new i d) (drop (suc i) old)))
+
 module _ {A : Type 0} (new old : List A) (long : length new ≡ length old) where
   pub length-partly : (i : ℕ) → length (partly new old i) ≡ length old
   length-partly i = simp (length-append, length-take, length-drop) (omega arith)
 
   module _ (i : ℕ) (d : A) (within : i < length old) where
-    length-front : length (take i new) ≡ i
-    length-front = simp length-take (omega arith)
+    below : i < length new
+    below = omega arith
 
     pub partly-here : getD (partly new old i) i d ≡ getD old i d
-    partly-here = rw (drop-cons old i d within) (getD-at (take i new) (getD old i d) (drop (suc i) old) d i length-front)
+    partly-here = rw (drop-cons old i d within) (getD-at (take i new) (getD old i d) (drop (suc i) old) d i (length-front new old i d below within))
 
     pub partly-set : (a : A) → a ≡ getD new i d → set (partly new old i) i a ≡ partly new old (i + 1)
-    partly-set a e =
-        rw (add-one i, drop-cons old i d within, take-suc new i d (omega arith), e)
-        (set-at (take i new) (getD old i d) (drop (suc i) old) (getD new i d) i length-front
-        ∙ sym (append-snoc (take i new) (getD new i d) (drop (suc i) old)))
+    partly-set = partly-put new old i d below within
 
     pub partly-keep : getD old i d ≡ getD new i d → partly new old i ≡ partly new old (i + 1)
     partly-keep e =
-        rw (add-one i, drop-cons old i d within, take-suc new i d (omega arith), e)
+        rw (add-one i, drop-cons old i d within, take-suc new i d below, e)
         (sym (append-snoc (take i new) (getD new i d) (drop (suc i) old)))
 
   pub partly-done : (i : ℕ) → drop i new ≡ drop i old → partly new old i ≡ new

@@ -11,12 +11,12 @@ use Rattle.lines.specs.declared.Written.the-variants.{Length, TooShort}
 use Rattle.lines.specs.Lines.{room, valueWidth, markWidth, Output, writtenInto}
 use Rattle.replies.specs.Replies.{Reply}
 
--- a slice of this length is too short for some line of a run with so many values and marks
+-- a slice of this length is too short for some line of a run with so many values, and so many marks to print
 abbrev pub lacksRoom : ℕ → ℕ → ℕ → Bool
 lacksRoom size values marks = ltb size (room valueWidth values) || ltb size (room markWidth marks)
 
 abbrev pub isShort : List ℕ → Store → Bool
-isShort out s = lacksRoom (length out) (length (s .run .values)) (length (s .marks))
+isShort out s = lacksRoom (length out) (length (s .run .values)) (length (s .buffer))
 
 -- a text at the beginning of a slice
 abbrev pub textInto : List ℕ → List ℕ → Output

@@ -32,7 +32,7 @@ runText (outside x looked) values = []
 abbrev pub runReply : Done Store → Reply
 runReply d = answered (runText (d .answer) (d .left .run .values)) (d .left)
 
--- of marks, with the marks left
+-- of marks, with the marks copied
 unfoldable pub lookText : Answer → List ℕ → List ℕ
 lookText (refused n) marks = refusalText n
 lookText (rounds count) marks = []
@@ -43,7 +43,7 @@ lookText (picked t) marks = []
 lookText (outside x looked) marks = []
 
 abbrev pub lookReply : Done Store → Reply
-lookReply d = answered (lookText (d .answer) (d .left .marks)) (d .left)
+lookReply d = answered (lookText (d .answer) (d .left .buffer)) (d .left)
 
 -- ---- a command
 

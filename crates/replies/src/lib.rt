@@ -26,7 +26,7 @@ pub struct Opening {
     pub written: Written,
 }
 
-// Is a slice of this length too short for some line of a run with so many values and marks?
+// Is a slice of this length too short for some line of a run with so many values, and so many marks to print?
 fn is_short(length: usize, values: usize, marks: usize) -> bool
     ensures { λ r. ⌜ r ≡ lacksRoom length values marks ⌝ }
 {
@@ -66,30 +66,39 @@ pub fn respond(
     command: Command,
     model: &[u8],
     values: &mut [i32],
+    marks: &mut [u8],
     history: &mut [u8],
     n: &mut usize,
-    marks: &mut [u8],
+    buffer: &mut [u8],
     out: &mut [u8],
 ) -> Written
-    ensures { λ r. ⌜ answered (writtenInto r (now (out .exit))) (store (run (now (values .exit)) (now (history .exit)) (now (n .exit))) (now (marks .exit)))
-        ≡ replyInto (now (out .entry)) (store (run (now (values .entry)) (now (history .entry)) (now (n .entry))) (now (marks .entry)))
-        (reply (now (model .entry)) command (store (run (now (values .entry)) (now (history .entry)) (now (n .entry))) (now (marks .entry)))) ⌝ }
+    ensures { λ r. ⌜ answered (writtenInto r (now (out .exit))) (store (run (now (values .exit)) (now (marks .exit)) (now (history .exit)) (now (n .exit))) (now (buffer .exit)))
+        ≡ replyInto (now (out .entry)) (store (run (now (values .entry)) (now (marks .entry)) (now (history .entry)) (now (n .entry))) (now (buffer .entry)))
+        (reply (now (model .entry)) command (store (run (now (values .entry)) (now (marks .entry)) (now (history .entry)) (now (n .entry))) (now (buffer .entry)))) ⌝ }
 {
-    if is_short(out.len(), values.len(), marks.len()) {
+    if is_short(out.len(), values.len(), buffer.len()) {
         return Written::TooShort;
     }
     match command {
         Command::Fire(transition) => {
-            let answer = run::perform(Call::Fire(transition), model, values, history, n, marks);
+            let answer = run::perform(
+                Call::Fire(transition),
+                model,
+                values,
+                marks,
+                history,
+                n,
+                buffer,
+            );
             run_line(answer, values, out)
         }
         Command::Undo => {
-            let answer = run::perform(Call::Undo, model, values, history, n, marks);
+            let answer = run::perform(Call::Undo, model, values, marks, history, n, buffer);
             run_line(answer, values, out)
         }
         Command::Marks => {
-            let answer = run::perform(Call::Marks, model, values, history, n, marks);
-            look_line(answer, marks, out)
+            let answer = run::perform(Call::Marks, model, values, marks, history, n, buffer);
+            look_line(answer, buffer, out)
         }
         Command::Unknown => lines::refusal_line(NO_COMMAND, out),
     }
@@ -109,24 +118,25 @@ fn is_accepted(answer: Answer) -> bool
 pub fn open(
     model: &[u8],
     values: &mut [i32],
+    marks: &mut [u8],
     history: &mut [u8],
     n: &mut usize,
-    marks: &mut [u8],
+    buffer: &mut [u8],
     out: &mut [u8],
 ) -> Opening
-    ensures { λ r. ⌜ r .«is_started» ≡ (not (isShort (now (out .entry)) (store (run (now (values .entry)) (now (history .entry)) (now (n .entry))) (now (marks .entry))))
-        && isStarted (now (model .entry)) (store (run (now (values .entry)) (now (history .entry)) (now (n .entry))) (now (marks .entry)))) ⌝ }
-    ensures { λ r. ⌜ answered (writtenInto (r .written) (now (out .exit))) (store (run (now (values .exit)) (now (history .exit)) (now (n .exit))) (now (marks .exit)))
-        ≡ replyInto (now (out .entry)) (store (run (now (values .entry)) (now (history .entry)) (now (n .entry))) (now (marks .entry)))
-        (opening (now (model .entry)) (store (run (now (values .entry)) (now (history .entry)) (now (n .entry))) (now (marks .entry)))) ⌝ }
+    ensures { λ r. ⌜ r .«is_started» ≡ (not (isShort (now (out .entry)) (store (run (now (values .entry)) (now (marks .entry)) (now (history .entry)) (now (n .entry))) (now (buffer .entry))))
+        && isStarted (now (model .entry)) (store (run (now (values .entry)) (now (marks .entry)) (now (history .entry)) (now (n .entry))) (now (buffer .entry)))) ⌝ }
+    ensures { λ r. ⌜ answered (writtenInto (r .written) (now (out .exit))) (store (run (now (values .exit)) (now (marks .exit)) (now (history .exit)) (now (n .exit))) (now (buffer .exit)))
+        ≡ replyInto (now (out .entry)) (store (run (now (values .entry)) (now (marks .entry)) (now (history .entry)) (now (n .entry))) (now (buffer .entry)))
+        (opening (now (model .entry)) (store (run (now (values .entry)) (now (marks .entry)) (now (history .entry)) (now (n .entry))) (now (buffer .entry)))) ⌝ }
 {
-    if is_short(out.len(), values.len(), marks.len()) {
+    if is_short(out.len(), values.len(), buffer.len()) {
         return Opening {
             is_started: false,
             written: Written::TooShort,
         };
     }
-    let answer = run::perform(Call::Start, model, values, history, n, marks);
+    let answer = run::perform(Call::Start, model, values, marks, history, n, buffer);
     let written = run_line(answer, values, out);
     Opening {
         is_started: is_accepted(answer),

@@ -73,7 +73,7 @@ module _ (t : System) (w : WellFormed t) (count : ℕ) where
   call-within z calls.Check s e = clash cc
   call-within z calls.Start s e =
       start-cases (meaningOf t) (s .run) WithinBy (λ k o e. absurd (no-rounds k count e))
-      (λ n long f e. let same : n ≡ count = cc in settled-within (begun-settles (meaningOf t) count (s .run .values) (initial (meaningOf t)) (f ∙ ap Fired same)))
+      (λ n f e. let same : n ≡ count = cc in settled-within (begun-settles (meaningOf t) count (s .run .values) (initial (meaningOf t)) (f ∙ ap Fired same)))
       e
   call-within z (calls.Fire k) s e =
       fire-cases (meaningOf t) (s .run) WithinBy (λ k o e. absurd (no-rounds k count e)) (λ h e. absurd (no-rounds 20 count e)) k
@@ -83,7 +83,7 @@ module _ (t : System) (w : WellFormed t) (count : ℕ) where
       undo-cases (meaningOf t) (s .run) WithinBy (λ k o e. absurd (no-rounds k count e)) (λ h e. absurd (no-rounds 20 count e))
       (λ h f e. absurd (no-rounds 31 count e)) (λ held h values f e. clash cc) e
   call-within z calls.Marks s e =
-      marks-cases (meaningOf t) (s .run) (s .marks) WithinBy (λ k o e. absurd (no-rounds k count e)) (λ h e. absurd (no-rounds 20 count e)) (λ e. clash cc) e
+      marks-cases (meaningOf t) (s .run) (s .buffer) WithinBy (λ k o e. absurd (no-rounds k count e)) (λ h e. absurd (no-rounds 20 count e)) (λ e. clash cc) e
   call-within z (calls.Value x) s e =
       value-cases (meaningOf t) (s .run) x (λ a. a ≡ rounds count → Within) (λ k o e. absurd (no-rounds k count e)) (λ h e. absurd (no-rounds 20 count e)) (λ e. clash cc) e
   call-within z calls.Pick s e =
@@ -132,7 +132,7 @@ module _ (m : List ℕ) (bytes : Bytes m) where
             omega (arith, ltb-true t (length (y .transitions)) below, x .2 .transitions),
             omega (
               arith,
-              count-within (meaningOf y) (s .run .values) (s .run .history) (s .run .count) held,
+              count-within (meaningOf y) (s .run) held,
               eqb-false (s .run .count) (length (s .run .history)) free,
             ),
           ))

@@ -1,4 +1,5 @@
--- After an accepted start the run holds, its values within their ends and its history of transitions: theorem NoStaleRun.
+-- After an accepted start the run holds, its values within their ends, its history of transitions and its marks at most 2: theorem
+-- NoStaleRun.
 use mathlib.Core.Path.{_≡_, refl, subst}
 use mathlib.Core.Bool.{true, false, not, _&&_, _||_}
 use mathlib.Core.List.{List, [], _∷_, _++_}
@@ -10,7 +11,7 @@ use borrow.Author.Tests.{eqb-false, ltb-false}
 use lib.Dec.{T, eqb, ltb, leb, le→leb}
 use lib.IntN.{ℤ}
 use lib.Signed.{leZ}
-use lib.ListN.{length, take, drop, set, getElem?, length-set, length-append}
+use lib.ListN.{length, take, drop, getElem?, length-set, length-append}
 use lib.Seq.{length-take-le, take-suc-set}
 use Rattle.evaluation.specs.declared.Evaluation.{Evaluation}
 use Rattle.evaluation.specs.declared.Evaluation.the-variants.{Unknown, Failed, Value}
@@ -27,14 +28,17 @@ use Rattle.semantics.specs.Propagation.{Settled}
 use Rattle.semantics.specs.Propagation.Settled.{refused, settled}
 use Rattle.semantics.specs.Meanings.{Meaning, actionIn, meaningOf}
 use Rattle.semantics.specs.Firing.{Left, leftBySettling, leftByActing, leftByGuard, fired, begun}
-use Rattle.standing.specs.Runs.{Run, run}
-use Rattle.standing.specs.Holding.{firstOutside, isNone, allBelow, historyHolds, holds}
+use Rattle.standing.specs.Runs.{Run}
+use Rattle.standing.specs.Holding.{firstOutside, isNone, allBelow, historyHolds, marksWithin, holds}
+use Rattle.marking.specs.Marks.{refreshed}
+use Rattle.marking.proofs.Refreshed.{refreshed-holds, marks-within}
 use Rattle.steps.specs.Calls.{initial, refire, replay}
 use Rattle.run.specs.Theorems.{NoStaleRun}
 use Rattle.steps.proofs.Tests.{clash, by-test, passed, neither, both, each}
 use Rattle.steps.proofs.Written.{Complete, rest-written}
 use Rattle.steps.proofs.Ends.{Within, initial-within, act-within, settle-complete, settle-within}
 use Rattle.run.proofs.Replay.{goes-on}
+use Rattle.run.proofs.Cases.{firedRun}
 use Rattle.run.proofs.Invariants.{Invariant, never-after-start}
 
 -- a value for each variable, within its ends
@@ -169,18 +173,23 @@ module _ (m : Meaning) (kept : EndsKept m) where
 pub record Held (m : Meaning) (r : Run) : Type 0 where
   pub counted : r .count ≤ length (r .history)
   pub below : T (allBelow (m .transitions) (take (r .count) (r .history)))
+  pub marked : marksWithin (m .transitions) (r .marks) ≡ true
   pub ends : InEnds (m .declarations) (r .values)
 
 held-holds : (m : Meaning) (r : Run) → Held m r → T (holds m r)
 held-holds m r h =
-    both (historyHolds (m .transitions) (r .count) (r .history)) (isNone (firstOutside (m .declarations) (r .values) 0))
+    both (historyHolds (m .transitions) (r .count) (r .history)) (marksWithin (m .transitions) (r .marks) && isNone (firstOutside (m .declarations) (r .values) 0))
     (both (leb (r .count) (length (r .history))) (allBelow (m .transitions) (take (r .count) (r .history))) (le→leb _ _ (h .counted)) (h .below))
-    (none-outside (m .declarations) (r .values) 0 (h .ends .long) (h .ends .within))
+    (rw (h .marked) (none-outside (m .declarations) (r .values) 0 (h .ends .long) (h .ends .within)))
+
+-- the marks of the guards are at most 2
+refreshed-marked : (m : Meaning) (values : List ℤ) (r : Run) → marksWithin (m .transitions) (refreshed m values r .marks) ≡ true
+refreshed-marked m values r = marks-within m (refreshed m values r) (refreshed-holds m values r)
 
 module _ (m : Meaning) (kept : EndsKept m) where
   fired-held : (t : ℕ) (r : Run) → Held m r → ltb t (m .transitions) ≡ true → eqb (r .count) (length (r .history)) ≡ false → (k : ℕ)
       → fired m t (r .values) .answer ≡ Fired k
-      → Held m (run (fired m t (r .values) .left) (set (r .history) (r .count) t) (suc (r .count)))
+      → Held m (firedRun m r t)
   fired-held t r h low free k e =
       let inside : r .count < length (r .history) = omega (arith, h .counted, eqb-false (r .count) (length (r .history)) free) in
       record {
@@ -188,6 +197,7 @@ module _ (m : Meaning) (kept : EndsKept m) where
         below =
             rw (take-suc-set (r .history) (r .count) t inside)
             (below-append (m .transitions) (take (r .count) (r .history)) t (h .below) (rw low tt));
+        marked = refreshed-marked m (fired m t (r .values) .left) r;
         ends = fired-within m kept t (r .values) (h .ends) k e;
       }
 
@@ -196,13 +206,19 @@ module _ (m : Meaning) (kept : EndsKept m) where
   held-invariant =
       record {
         Holds = Held m;
-        started = λ r k long e.
-            record { counted = omega arith; below = tt; ends = begun-within m kept (initial m) (r .values) (kept .first) k e };
+        started = λ r k e.
+            record {
+              counted = omega arith;
+              below = tt;
+              marked = refreshed-marked m (begun m (initial m) (r .values) .left) r;
+              ends = begun-within m kept (initial m) (r .values) (kept .first) k e;
+            };
         fired = λ t r h low free k e. fired-held t r h low free k e;
         undone = λ r h f values e.
             record {
               counted = omega (arith, h .counted);
               below = below-take (m .transitions) (r .count - 1) (r .count) (r .history) (omega arith) (h .below);
+              marked = refreshed-marked m values r;
               ends = replay-within m kept (take (r .count - 1) (r .history)) (r .values) values e;
             };
         stale = λ r h e x. subst T e (held-holds m r h);

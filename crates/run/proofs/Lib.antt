@@ -1,13 +1,14 @@
-pub mod Alone
 pub mod Bounds
 pub mod Cases
 pub mod Final
 pub mod Following
 pub mod Held
+pub mod HeldMarks
 pub mod Invariants
 pub mod Order
 pub mod Promised
 pub mod Reached
+pub mod Refused
 pub mod Replay
 pub mod Replayed
 pub mod Seen

@@ -16,7 +16,7 @@ use Rattle.steps.specs.declared.Move.the-variants as moves
 use Rattle.standing.specs.Runs.{Run, Store, Answer, Done, run, store, answered}
 use Rattle.standing.specs.Runs.Answer.{rounds, done}
 use Rattle.steps.specs.Answers.{seen, onFile}
-use Rattle.steps.specs.Calls.{valuesOf}
+use Rattle.steps.specs.Replays.{cellsLeft}
 use Rattle.steps.specs.Calls as calls
 use Rattle.run.specs.Lists.{Promise}
 use Rattle.run.specs.Promises.{seenCheck, CheckPromise, StartPromise, FirePromise, PerformPromise}
@@ -31,23 +31,25 @@ module _ (m : List ℕ) (fits : (i : ℕ) → Fits w8 (getD m i 0)) where
   bytes : Bytes m
   bytes i h = fits i .fits
 
-  pub start-promised : (values : List ℤ) (n : ℕ) (r : declared.Answer) (values′ : List ℤ) (n′ : ℕ)
-      → ((history : List ℕ) → answered (seen r) (run values′ history n′)
-      ≡ onFile (verdict m) (λ m. calls.start m (run values history n)) (run values history n))
-      → StartPromise m values n r values′ n′
-  start-promised values n r values′ n′ e =
-      (e, bounded m bytes Start (store (run values [] n) []) _ (start-reached m (store (run values [] n) []) (seen r) (run values′ [] n′) (e [])))
+  pub start-promised : (values : List ℤ) (marks : List ℕ) (n : ℕ) (r : declared.Answer) (values′ : List ℤ) (marks′ : List ℕ) (n′ : ℕ)
+      → ((history : List ℕ) → answered (seen r) (run values′ marks′ history n′)
+      ≡ onFile (verdict m) (λ m. calls.start m (run values marks history n)) (run values marks history n))
+      → StartPromise m values marks n r values′ marks′ n′
+  start-promised values marks n r values′ marks′ n′ e =
+      let s = store (run values marks [] n) [] in
+      (e, bounded m bytes Start s _ (start-reached m s (seen r) (run values′ marks′ [] n′) (e [])))
 
   pub fire-promised : (r : Run) (t : ℕ) (a : declared.Answer) (r′ : Run)
       → answered (seen a) r′ ≡ onFile (verdict m) (λ m. calls.fire m t r) r
-      → FirePromise m (r .values) (r .history) (r .count) t a (r′ .values) (r′ .history) (r′ .count)
+      → FirePromise m (r .values) (r .marks) (r .history) (r .count) t a (r′ .values) (r′ .marks) (r′ .history) (r′ .count)
   fire-promised r t a r′ e = (e, bounded m bytes (Fire t) (store r []) _ (fire-reached m (store r []) (seen a) r′ t e))
 
-  pub fire-allowed : (values new : List ℤ) (history : List ℕ) (n t : ℕ) (a : Answer) (count : ℕ) → a ≡ rounds count
-      → answered a new ≡ valuesOf (onFile (verdict m) (λ m. calls.stepOn m (moves.Fire t) (run values history n)) (run values history n)) → (t < 256) × (n < length history)
-  fire-allowed values new history n t a count q e =
-      let s = store (run values history n) [] in
-      fire-fits m bytes t s count (answer-of (fire-reached m s a _ t (fire-on-file (verdict m) values new history n a t e)) ∙ q)
+  pub fire-allowed : (values : List ℤ) (marks history : List ℕ) (n t : ℕ) (a : Answer) (new : List ℤ) (marked : List ℕ) (count : ℕ) → a ≡ rounds count
+      → answered a (new, marked) ≡ cellsLeft (onFile (verdict m) (λ m. calls.stepOn m (moves.Fire t) (run values marks history n)) (run values marks history n))
+      → (t < 256) × (n < length history)
+  fire-allowed values marks history n t a new marked count q e =
+      let s = store (run values marks history n) [] in
+      fire-fits m bytes t s count (answer-of (fire-reached m s a _ t (fire-on-file (verdict m) values marks history n a new marked t e)) ∙ q)
 
   -- one call, given by value
   pub performed : (call c : Call) (s : Store) (a : declared.Answer) (s′ : Store) → call ≡ c → Promise m c s (answered (seen a) s′)
@@ -59,8 +61,9 @@ module _ (m : List ℕ) (fits : (i : ℕ) → Fits w8 (getD m i 0)) where
       → PerformPromise m call s a s
   checked call s r a told e same = performed call Check s a s told (ap (λ a. answered a s) (sym same) ∙ calls-reached .check m s r e)
 
-pub undo-allowed : (m : List ℕ) (values new : List ℤ) (history : List ℕ) (n : ℕ) (a : Answer) → a ≡ done
-    → answered a new ≡ valuesOf (onFile (verdict m) (λ m. calls.stepOn m moves.Undo (run values history n)) (run values history n)) → n ≡ 0 → ⊥
-undo-allowed m values new history n a q e =
-    let s = store (run values history n) [] in
-    undo-fits m s (answer-of (undo-reached m s a _ (undo-on-file (verdict m) values new history n a e)) ∙ q)
+pub undo-allowed : (m : List ℕ) (values : List ℤ) (marks history : List ℕ) (n : ℕ) (a : Answer) (new : List ℤ) (marked : List ℕ) → a ≡ done
+    → answered a (new, marked) ≡ cellsLeft (onFile (verdict m) (λ m. calls.stepOn m moves.Undo (run values marks history n)) (run values marks history n))
+    → n ≡ 0 → ⊥
+undo-allowed m values marks history n a new marked q e =
+    let s = store (run values marks history n) [] in
+    undo-fits m s (answer-of (undo-reached m s a _ (undo-on-file (verdict m) values marks history n a new marked e)) ∙ q)

@@ -13,7 +13,7 @@ use Rattle.standing.specs.Runs.{Run, Store, Answer, Done, run, store, answered}
 use Rattle.steps.specs.Answers.{seen, onFile, onFileAnswer}
 use Rattle.steps.specs.Calls as calls
 use Rattle.inspection.specs.Queries as queries
-use Rattle.run.specs.Lists.{onRun, onMarks, callOn, callBy, call, callsOf}
+use Rattle.run.specs.Lists.{onRun, onBuffer, callOn, callBy, call, callsOf}
 use Rattle.run.specs.Lists.Performed.{nothing, next}
 use Rattle.run.specs.Promises.{seenCheck}
 use Rattle.run.specs.Theorems.{CallsReached, PerformancesExist}
@@ -26,7 +26,7 @@ module _ (s : Store) where
 
   -- a call that is lent the run
   pub run-reached : (c : Call) (f : Meaning → Done Run) → ((z : Sizes) (m : Meaning) → onRun s (f m) ≡ callOn z m c s)
-      → (v : Verdict) (a : Answer) (left : Run) → answered a left ≡ onFile v f (s .run) → answered a (store left (s .marks)) ≡ callBy v c s
+      → (v : Verdict) (a : Answer) (left : Run) → answered a left ≡ onFile v f (s .run) → answered a (store left (s .buffer)) ≡ callBy v c s
   unfolding onFile callBy
   run-reached c f same v a left e = ap (onRun s) e ∙ go v
     where
@@ -34,12 +34,12 @@ module _ (s : Store) where
       go (refusal n) = refl
       go (accepted z t) = same z (meaningOf t)
 
-  pub marks-reached : (v : Verdict) (a : Answer) (left : List ℕ) → answered a left ≡ onFile v (λ m. queries.marks m (s .run) (s .marks)) (s .marks)
+  pub marks-reached : (v : Verdict) (a : Answer) (left : List ℕ) → answered a left ≡ onFile v (λ m. queries.marks m (s .run) (s .buffer)) (s .buffer)
       → answered a (store (s .run) left) ≡ callBy v Marks s
   unfolding onFile callBy callOn
-  marks-reached v a left e = ap (onMarks s) e ∙ go v
+  marks-reached v a left e = ap (onBuffer s) e ∙ go v
     where
-      go : (v : Verdict) → onMarks s (onFile v (λ m. queries.marks m (s .run) (s .marks)) (s .marks)) ≡ callBy v Marks s
+      go : (v : Verdict) → onBuffer s (onFile v (λ m. queries.marks m (s .run) (s .buffer)) (s .buffer)) ≡ callBy v Marks s
       go (refusal n) = refl
       go (accepted z t) = refl
 
@@ -69,17 +69,17 @@ module _ (s : Store) where
 
 module _ (m : List ℕ) (s : Store) (a : Answer) (left : Run) where
   pub start-reached : answered a left ≡ onFile (verdict m) (λ m. calls.start m (s .run)) (s .run)
-      → answered a (store left (s .marks)) ≡ call m Start s
+      → answered a (store left (s .buffer)) ≡ call m Start s
   unfolding callOn
   start-reached = run-reached s Start (λ m. calls.start m (s .run)) (λ z m. refl) (verdict m) a left
 
   pub fire-reached : (t : ℕ) → answered a left ≡ onFile (verdict m) (λ m. calls.fire m t (s .run)) (s .run)
-      → answered a (store left (s .marks)) ≡ call m (Fire t) s
+      → answered a (store left (s .buffer)) ≡ call m (Fire t) s
   unfolding callOn
   fire-reached t = run-reached s (Fire t) (λ m. calls.fire m t (s .run)) (λ z m. refl) (verdict m) a left
 
   pub undo-reached : answered a left ≡ onFile (verdict m) (λ m. calls.undo m (s .run)) (s .run)
-      → answered a (store left (s .marks)) ≡ call m Undo s
+      → answered a (store left (s .buffer)) ≡ call m Undo s
   unfolding callOn
   undo-reached = run-reached s Undo (λ m. calls.undo m (s .run)) (λ z m. refl) (verdict m) a left
 
@@ -88,16 +88,16 @@ module _ (m : List ℕ) (s : Store) (a : Answer) (left : Run) where
 pub calls-reached : CallsReached
 calls-reached = record {
   check = λ m s r e. check-reached s (verdict m) r e;
-  start = λ m values history n held r values′ n′ e.
-      start-reached m (store (run values history n) held) (seen r) (run values′ history n′) (e .0 history);
-  fire = λ m values history n t held r values′ history′ n′ e.
-      fire-reached m (store (run values history n) held) (seen r) (run values′ history′ n′) t (e .0);
-  undo = λ m values history n held r values′ n′ e.
-      undo-reached m (store (run values history n) held) (seen r) (run values′ history n′) e;
-  marks = λ m values history n held r held′ e. marks-reached (store (run values history n) held) (verdict m) (seen r) held′ e;
-  value = λ m values history n x held r e. value-reached (store (run values history n) held) x (verdict m) (seen r) e;
-  pick = λ m values history n held r e. pick-reached (store (run values history n) held) (verdict m) (seen r) e;
-  firstOutside = λ m values history n held r e. range-reached (store (run values history n) held) (verdict m) (seen r) e;
+  start = λ m values marks history n buffer r values′ marks′ n′ e.
+      start-reached m (store (run values marks history n) buffer) (seen r) (run values′ marks′ history n′) (e .0 history);
+  fire = λ m values marks history n t buffer r values′ marks′ history′ n′ e.
+      fire-reached m (store (run values marks history n) buffer) (seen r) (run values′ marks′ history′ n′) t (e .0);
+  undo = λ m values marks history n buffer r values′ marks′ n′ e.
+      undo-reached m (store (run values marks history n) buffer) (seen r) (run values′ marks′ history n′) e;
+  marks = λ m values marks history n buffer r buffer′ e. marks-reached (store (run values marks history n) buffer) (verdict m) (seen r) buffer′ e;
+  value = λ m values marks history n x buffer r e. value-reached (store (run values marks history n) buffer) x (verdict m) (seen r) e;
+  pick = λ m values marks history n buffer r e. pick-reached (store (run values marks history n) buffer) (verdict m) (seen r) e;
+  firstOutside = λ m values marks history n buffer r e. range-reached (store (run values marks history n) buffer) (verdict m) (seen r) e;
 }
 
 pub performances-exist : PerformancesExist

@@ -8,17 +8,18 @@ use native.Mathlib.Omega.{arith}
 use borrow.Author.Tests.{eqb-false}
 use lib.Dec.{eqb}
 use lib.IntN.{ℤ}
-use lib.ListN.{length, getD, take, set, length-set}
+use lib.ListN.{length, getD, take, length-set}
 use lib.Seq.{take-suc-set, take-suc}
 use Rattle.semantics.specs.declared.Firing.the-variants.{Fired}
 use Rattle.semantics.specs.Meanings.{Meaning, meaningOf}
 use Rattle.semantics.specs.Firing.{fired, begun}
-use Rattle.standing.specs.Runs.{Run, run}
+use Rattle.standing.specs.Runs.{Run}
 use Rattle.steps.specs.Calls.{isFired, initial, goOn, refire, replay}
 use Rattle.run.specs.Theorems.{ReplayHolds}
 use Rattle.steps.proofs.Written.{Complete}
 use Rattle.steps.proofs.Ends.{settle-complete}
 use Rattle.run.proofs.Replay.{Succeeds, replay-append, replay-beginning, replay-keeps, replay-depends}
+use Rattle.run.proofs.Cases.{startedRun, firedRun, undoneRun}
 use Rattle.run.proofs.Invariants.{Invariant, never-after-start}
 
 -- the count is within the history, and replaying what it counts gives the values
@@ -38,7 +39,7 @@ module _ (m : Meaning) (complete : Complete m) where
       replay-depends m complete (initial m) ts old new (replay-keeps m complete (initial m) ts old new e) ∙ e
 
   begun-replayed : (r : Run) (n : ℕ) → begun m (initial m) (r .values) .answer ≡ Fired n
-      → Replayed m (run (begun m (initial m) (r .values) .left) (r .history) 0)
+      → Replayed m (startedRun m r)
   unfolding replay refire goOn isFired
   begun-replayed r n e =
       record {
@@ -48,7 +49,7 @@ module _ (m : Meaning) (complete : Complete m) where
 
   fired-replayed : (t : ℕ) (r : Run) → Replayed m r → eqb (r .count) (length (r .history)) ≡ false → (n : ℕ)
       → fired m t (r .values) .answer ≡ Fired n
-      → Replayed m (run (fired m t (r .values) .left) (set (r .history) (r .count) t) (suc (r .count)))
+      → Replayed m (firedRun m r t)
   unfolding refire goOn isFired
   fired-replayed t r h free n e =
       let below : r .count < length (r .history) = omega (arith, h .counted, eqb-false (r .count) (length (r .history)) free) in
@@ -62,7 +63,7 @@ module _ (m : Meaning) (complete : Complete m) where
 
   undone-replayed : (r : Run) → Replayed m r → (values : List ℤ)
       → replay m (initial m) (take (r .count - 1) (r .history)) (r .values) ≡ some values
-      → Replayed m (run values (r .history) (r .count - 1))
+      → Replayed m (undoneRun m r values)
   undone-replayed r h values e =
       record { counted = omega (arith, h .counted); replayed = replay-again (take (r .count - 1) (r .history)) (r .values) values e }
 
@@ -76,7 +77,7 @@ module _ (m : Meaning) (complete : Complete m) where
   replay-invariant =
       record {
         Holds = Replayed m;
-        started = λ r k long e. begun-replayed r k e;
+        started = λ r k e. begun-replayed r k e;
         fired = λ t r h below free k e. fired-replayed t r h free k e;
         undone = λ r h f values e. undone-replayed r h values e;
         stale = λ r h e. omega arith;

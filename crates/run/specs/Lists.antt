@@ -9,7 +9,7 @@ use Rattle.model.specs.Check.Verdict.{refusal, accepted}
 use Rattle.semantics.specs.Meanings.{Meaning, meaningOf}
 use Rattle.run.specs.declared.Call.{Call}
 use Rattle.run.specs.declared.Call.the-variants.{Check, Start, Fire, Undo, Marks, Value, Pick, FirstOutside}
-use Rattle.standing.specs.Runs.{Run, Store, Answer, Done, answered, withRun, withMarks}
+use Rattle.standing.specs.Runs.{Run, Store, Answer, Done, answered, withRun, withBuffer}
 use Rattle.standing.specs.Runs.Answer.{refused, rounds, done, number, sizes, picked, outside}
 use Rattle.steps.specs.Calls as calls
 use Rattle.inspection.specs.Queries as queries
@@ -17,8 +17,8 @@ use Rattle.inspection.specs.Queries as queries
 abbrev pub onRun : Store → Done Run → Done Store
 onRun s d = answered (d .answer) (withRun (d .left) s)
 
-abbrev pub onMarks : Store → Done (List ℕ) → Done Store
-onMarks s d = answered (d .answer) (withMarks (d .left) s)
+abbrev pub onBuffer : Store → Done (List ℕ) → Done Store
+onBuffer s d = answered (d .answer) (withBuffer (d .left) s)
 
 -- a call on an accepted model, placed into the store
 unfoldable pub callOn : Sizes → Meaning → Call → Store → Done Store
@@ -26,7 +26,7 @@ callOn z m Check s = answered (sizes z) s
 callOn z m Start s = onRun s (calls.start m (s .run))
 callOn z m (Fire t) s = onRun s (calls.fire m t (s .run))
 callOn z m Undo s = onRun s (calls.undo m (s .run))
-callOn z m Marks s = onMarks s (queries.marks m (s .run) (s .marks))
+callOn z m Marks s = onBuffer s (queries.marks m (s .run) (s .buffer))
 callOn z m (Value x) s = answered (queries.value m x (s .run)) s
 callOn z m Pick s = answered (queries.pick m (s .run)) s
 callOn z m FirstOutside s = answered (queries.rangeCheck m (s .run .values)) s
@@ -68,3 +68,8 @@ pub data Performed (m : List ℕ) : List Call → Store → List (Done Store) �
   nothing : {s : Store} → Performed m [] s []
   next : {c : Call} {cs : List Call} {s : Store} {d : Done Store} {ds : List (Done Store)}
       → Promise m c s d → Performed m cs (d .left) ds → Performed m (c ∷ cs) s (d ∷ ds)
+
+-- the store that the last of these results left; where there are none, the one at the beginning
+unfoldable pub lastLeft : Store → List (Done Store) → Store
+lastLeft s [] = s
+lastLeft s (d ∷ ds) = lastLeft (d .left) ds

@@ -25,32 +25,35 @@ abbrev pub CheckPromise : List ℕ → Checked → Type 0
 CheckPromise m r = r ≡ answerOf (verdict m)
 
 -- the history is not lent to start
-abbrev pub StartPromise : List ℕ → List ℤ → ℕ → declared.Answer → List ℤ → ℕ → Type 0
-StartPromise m values n r values′ n′ =
+abbrev pub StartPromise : List ℕ → List ℤ → List ℕ → ℕ → declared.Answer → List ℤ → List ℕ → ℕ → Type 0
+StartPromise m values marks n r values′ marks′ n′ =
     ((history : List ℕ)
-    → answered (seen r) (run values′ history n′) ≡ onFile (verdict m) (λ m. calls.start m (run values history n)) (run values history n))
+    → answered (seen r) (run values′ marks′ history n′)
+    ≡ onFile (verdict m) (λ m. calls.start m (run values marks history n)) (run values marks history n))
     × CountBounded (verdict m) (seen r)
 
-abbrev pub FirePromise : List ℕ → List ℤ → List ℕ → ℕ → ℕ → declared.Answer → List ℤ → List ℕ → ℕ → Type 0
-FirePromise m values history n t r values′ history′ n′ =
-    (answered (seen r) (run values′ history′ n′) ≡ onFile (verdict m) (λ m. calls.fire m t (run values history n)) (run values history n))
+abbrev pub FirePromise : List ℕ → List ℤ → List ℕ → List ℕ → ℕ → ℕ → declared.Answer → List ℤ → List ℕ → List ℕ → ℕ → Type 0
+FirePromise m values marks history n t r values′ marks′ history′ n′ =
+    (answered (seen r) (run values′ marks′ history′ n′)
+    ≡ onFile (verdict m) (λ m. calls.fire m t (run values marks history n)) (run values marks history n))
     × CountBounded (verdict m) (seen r)
 
-abbrev pub UndoPromise : List ℕ → List ℤ → List ℕ → ℕ → declared.Answer → List ℤ → ℕ → Type 0
-UndoPromise m values history n r values′ n′ =
-    answered (seen r) (run values′ history n′) ≡ onFile (verdict m) (λ m. calls.undo m (run values history n)) (run values history n)
+abbrev pub UndoPromise : List ℕ → List ℤ → List ℕ → List ℕ → ℕ → declared.Answer → List ℤ → List ℕ → ℕ → Type 0
+UndoPromise m values marks history n r values′ marks′ n′ =
+    answered (seen r) (run values′ marks′ history n′)
+    ≡ onFile (verdict m) (λ m. calls.undo m (run values marks history n)) (run values marks history n)
 
-abbrev pub MarksPromise : List ℕ → List ℤ → List ℕ → ℕ → List ℕ → declared.Answer → List ℕ → Type 0
-MarksPromise m values history n marks r marks′ =
-    answered (seen r) marks′ ≡ onFile (verdict m) (λ m. queries.marks m (run values history n) marks) marks
+abbrev pub MarksPromise : List ℕ → List ℤ → List ℕ → List ℕ → ℕ → List ℕ → declared.Answer → List ℕ → Type 0
+MarksPromise m values marks history n buffer r buffer′ =
+    answered (seen r) buffer′ ≡ onFile (verdict m) (λ m. queries.marks m (run values marks history n) buffer) buffer
 
-abbrev pub ValuePromise : List ℕ → List ℤ → List ℕ → ℕ → ℕ → declared.Answer → Type 0
-ValuePromise m values history n x r = seen r ≡ onFileAnswer (verdict m) (λ m. queries.value m x (run values history n))
+abbrev pub ValuePromise : List ℕ → List ℤ → List ℕ → List ℕ → ℕ → ℕ → declared.Answer → Type 0
+ValuePromise m values marks history n x r = seen r ≡ onFileAnswer (verdict m) (λ m. queries.value m x (run values marks history n))
 
-abbrev pub PickPromise : List ℕ → List ℤ → List ℕ → ℕ → declared.Answer → Type 0
-PickPromise m values history n r = seen r ≡ onFileAnswer (verdict m) (λ m. queries.pick m (run values history n))
+abbrev pub PickPromise : List ℕ → List ℤ → List ℕ → List ℕ → ℕ → declared.Answer → Type 0
+PickPromise m values marks history n r = seen r ≡ onFileAnswer (verdict m) (λ m. queries.pick m (run values marks history n))
 
--- neither the history nor n is lent
+-- neither the marks nor the history nor n is lent
 abbrev pub FirstOutsidePromise : List ℕ → List ℤ → declared.Answer → Type 0
 FirstOutsidePromise m values r = seen r ≡ onFileAnswer (verdict m) (λ m. queries.rangeCheck m values)
 

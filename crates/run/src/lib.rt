@@ -2,7 +2,6 @@
 
 ghost use Rattle.standing.specs.Runs.{run, store};
 ghost use Rattle.run.specs.Promises.{CheckPromise, StartPromise, FirePromise, UndoPromise, MarksPromise, ValuePromise, PickPromise, FirstOutsidePromise, PerformPromise};
-use inspection::Query;
 use model::Checked;
 use steps::Answer;
 use steps::Move;
@@ -27,30 +26,32 @@ pub fn check(model: &[u8]) -> Checked
     model::check::check(model)
 }
 
-// States initial, then the assertion; n = 0. The history is not lent.
-pub fn start(model: &[u8], values: &mut [i32], n: &mut usize) -> Answer
-    ensures { λ r. ⌜ StartPromise (now (model .entry)) (now (values .entry)) (now (n .entry)) r (now (values .exit)) (now (n .exit)) ⌝ }
+// States initial, then the assertion; n = 0, and the marks of the guards. The history is not lent.
+pub fn start(model: &[u8], values: &mut [i32], marks: &mut [u8], n: &mut usize) -> Answer
+    ensures { λ r. ⌜ StartPromise (now (model .entry)) (now (values .entry)) (now (marks .entry)) (now (n .entry)) r
+        (now (values .exit)) (now (marks .exit)) (now (n .exit)) ⌝ }
 {
-    let answer = moves::advance(model, values, &[0u8; 0], 0, Move::Start);
+    let answer = moves::advance(model, values, marks, &[0u8; 0], 0, Move::Start);
     if let Answer::Rounds(_) = answer {
         *n = 0;
     }
     answer
 }
 
-// Guard, action, assertion, then the transition at place n of the history, n one higher.
+// Guard, action, assertion, then the transition at place n of the history, n one higher, and the marks of the guards.
 pub fn fire(
     model: &[u8],
     values: &mut [i32],
+    marks: &mut [u8],
     history: &mut [u8],
     n: &mut usize,
     transition: usize,
 ) -> Answer
-    ensures { λ r. ⌜ FirePromise (now (model .entry)) (now (values .entry)) (now (history .entry)) (now (n .entry)) transition r
-        (now (values .exit)) (now (history .exit)) (now (n .exit)) ⌝ }
+    ensures { λ r. ⌜ FirePromise (now (model .entry)) (now (values .entry)) (now (marks .entry)) (now (history .entry)) (now (n .entry)) transition r
+        (now (values .exit)) (now (marks .exit)) (now (history .exit)) (now (n .exit)) ⌝ }
 {
     let count = *n;
-    let answer = moves::advance(model, values, history, count, Move::Fire(transition));
+    let answer = moves::advance(model, values, marks, history, count, Move::Fire(transition));
     if let Answer::Rounds(_) = answer {
         history[count] = transition as u8;
         *n = count + 1;
@@ -58,44 +59,58 @@ pub fn fire(
     answer
 }
 
-// Back to the values before the last recorded transition (01: take back).
-pub fn undo(model: &[u8], values: &mut [i32], history: &[u8], n: &mut usize) -> Answer
-    ensures { λ r. ⌜ UndoPromise (now (model .entry)) (now (values .entry)) (now (history .entry)) (now (n .entry)) r (now (values .exit)) (now (n .exit)) ⌝ }
+// Back to the values before the last recorded transition (01: take back), and to their marks.
+pub fn undo(
+    model: &[u8],
+    values: &mut [i32],
+    marks: &mut [u8],
+    history: &[u8],
+    n: &mut usize,
+) -> Answer
+    ensures { λ r. ⌜ UndoPromise (now (model .entry)) (now (values .entry)) (now (marks .entry)) (now (history .entry)) (now (n .entry)) r
+        (now (values .exit)) (now (marks .exit)) (now (n .exit)) ⌝ }
 {
     let count = *n;
-    let answer = moves::advance(model, values, history, count, Move::Undo);
+    let answer = moves::advance(model, values, marks, history, count, Move::Undo);
     if let Answer::Done = answer {
         *n = count - 1;
     }
     answer
 }
 
-// For each transition 1 if its guard is true, 0 false, 2 failed.
-pub fn marks(model: &[u8], values: &[i32], history: &[u8], n: usize, marks: &mut [u8]) -> Answer
-    ensures { λ r. ⌜ MarksPromise (now (model .entry)) (now (values .entry)) (now (history .entry)) n (now (marks .entry)) r (now (marks .exit)) ⌝ }
+// The marks that the run holds, copied, whatever its guards come to; start, fire and undo leave those of the guards.
+pub fn marks(
+    model: &[u8],
+    values: &[i32],
+    marks: &[u8],
+    history: &[u8],
+    n: usize,
+    buffer: &mut [u8],
+) -> Answer
+    ensures { λ r. ⌜ MarksPromise (now (model .entry)) (now (values .entry)) (now (marks .entry)) (now (history .entry)) n (now (buffer .entry)) r (now (buffer .exit)) ⌝ }
 {
-    inspection::inspect(model, values, history, n, marks, Query::Marks)
+    inspection::marks(model, values, marks, history, n, buffer)
 }
 
 // The value of a variable.
-pub fn value(model: &[u8], values: &[i32], history: &[u8], n: usize, variable: usize) -> Answer
-    ensures { λ r. ⌜ ValuePromise (now (model .entry)) (now (values .entry)) (now (history .entry)) n variable r ⌝ }
+pub fn value(
+    model: &[u8],
+    values: &[i32],
+    marks: &[u8],
+    history: &[u8],
+    n: usize,
+    variable: usize,
+) -> Answer
+    ensures { λ r. ⌜ ValuePromise (now (model .entry)) (now (values .entry)) (now (marks .entry)) (now (history .entry)) n variable r ⌝ }
 {
-    inspection::inspect(
-        model,
-        values,
-        history,
-        n,
-        &mut [0u8; 0],
-        Query::Value(variable),
-    )
+    inspection::value(model, values, marks, history, n, variable)
 }
 
-// The fireable transition with the lowest number, or none exactly if no mark is 1.
-pub fn pick(model: &[u8], values: &[i32], history: &[u8], n: usize) -> Answer
-    ensures { λ r. ⌜ PickPromise (now (model .entry)) (now (values .entry)) (now (history .entry)) n r ⌝ }
+// The fireable transition with the lowest number, or none exactly if no guard is true.
+pub fn pick(model: &[u8], values: &[i32], marks: &[u8], history: &[u8], n: usize) -> Answer
+    ensures { λ r. ⌜ PickPromise (now (model .entry)) (now (values .entry)) (now (marks .entry)) (now (history .entry)) n r ⌝ }
 {
-    inspection::inspect(model, values, history, n, &mut [0u8; 0], Query::Pick)
+    inspection::pick(model, values, marks, history, n)
 }
 
 // The first variable whose value is outside its ends or none, and how many values were looked at. The values alone are lent.
@@ -110,33 +125,34 @@ pub fn perform(
     call: Call,
     model: &[u8],
     values: &mut [i32],
+    marks: &mut [u8],
     history: &mut [u8],
     n: &mut usize,
-    held: &mut [u8],
+    buffer: &mut [u8],
 ) -> Answer
     ensures { λ r. ⌜ PerformPromise (now (model .entry)) call
-        (store (run (now (values .entry)) (now (history .entry)) (now (n .entry))) (now (held .entry))) r
-        (store (run (now (values .exit)) (now (history .exit)) (now (n .exit))) (now (held .exit))) ⌝ }
+        (store (run (now (values .entry)) (now (marks .entry)) (now (history .entry)) (now (n .entry))) (now (buffer .entry))) r
+        (store (run (now (values .exit)) (now (marks .exit)) (now (history .exit)) (now (n .exit))) (now (buffer .exit))) ⌝ }
 {
     match call {
         Call::Check => match check(model) {
             Checked::Refused(number) => Answer::Refused(number),
             Checked::Accepted(sizes) => Answer::Sizes(sizes),
         },
-        Call::Start => start(model, values, n),
-        Call::Fire(transition) => fire(model, values, history, n, transition),
-        Call::Undo => undo(model, values, history, n),
+        Call::Start => start(model, values, marks, n),
+        Call::Fire(transition) => fire(model, values, marks, history, n, transition),
+        Call::Undo => undo(model, values, marks, history, n),
         Call::Marks => {
             let count = *n;
-            marks(model, values, history, count, held)
+            self::marks(model, values, marks, history, count, buffer)
         }
         Call::Value(variable) => {
             let count = *n;
-            value(model, values, history, count, variable)
+            value(model, values, marks, history, count, variable)
         }
         Call::Pick => {
             let count = *n;
-            pick(model, values, history, count)
+            pick(model, values, marks, history, count)
         }
         Call::FirstOutside => first_outside(model, values),
     }

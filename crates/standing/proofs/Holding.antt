@@ -1,4 +1,5 @@
--- The check of the values, and whether a run holds: values within their ends, recorded entries below the number of transitions.
+-- The check of the values, and whether a run holds: values within their ends, recorded entries below the number of transitions, marks held
+-- below 3.
 use mathlib.Core.Path.{_≡_, refl, sym, ap, _∙_}
 use mathlib.Core.Bool.{Bool, true, false, cond, not, _&&_, true≢false, false≢true}
 use mathlib.Core.List.{List, [], _∷_, map}
@@ -13,14 +14,16 @@ use lib.Dec.{ltb}
 use mir.Syntax.{w32}
 use mir.Val.{toZ, ofZ}
 use lib.ListN.{length, getD, take, drop, length-take}
-use lib.Seq.{getD-take, length-take-le}
+use lib.Seq.{getD-take}
 use Rattle.results.specs.declared.Found.{Found}
 use Rattle.results.specs.declared.Found.the-variants.{At, Nothing}
 use Rattle.results.specs.Results.{found}
 use Rattle.evaluation.proofs.Signed.{read-test}
 use Rattle.model.specs.Trees.{Variable}
 use Rattle.variables.specs.Rows.{variableRows, lowsIn, highsIn, withinEnds}
-use Rattle.standing.specs.Holding.{endsOf, firstOutside, lookedAt, isNone, allBelow, historyHolds}
+use Rattle.semantics.specs.Meanings.{Meaning}
+use Rattle.standing.specs.Runs.{Run}
+use Rattle.standing.specs.Holding.{endsOf, firstOutside, lookedAt, isNone, allBelow, historyHolds, marksWithin, holdsOver, holds}
 
 -- ---- the values
 
@@ -118,7 +121,7 @@ outside-rows [] values x = refl
 outside-rows (v ∷ vs) [] x = refl
 outside-rows (v ∷ vs) (c ∷ cs) x = ap (λ o. cond (leZ (v .low) c && leZ c (v .high)) o (some x)) (outside-rows vs cs (suc x))
 
--- ---- the history
+-- ---- the history and the marks
 
 all-below : (t : ℕ) (ks : List ℕ) → ((k : ℕ) → k < length ks → getD ks k 0 < t) → allBelow t ks ≡ true
 unfolding allBelow
@@ -135,22 +138,27 @@ not-below t (a ∷ ks) (suc k) h e = go (ltb a t) (not-below t ks k (omega arith
     go true i = i
     go false i = refl
 
+-- the first n of these cells, or all
+module _ (t n : ℕ) (cells : List ℕ) where
+  pub cell-beyond : (k : ℕ) → k < n → k < length cells → t ≤ getD cells k 0 → false ≡ allBelow t (take n cells)
+  cell-beyond k l h e =
+      let i : k < length (take n cells) = simp length-take (omega arith) in
+      sym (not-below t (take n cells) k i (rw (getD-take n cells k 0 l) e))
+
+  pub cells-below : ((k : ℕ) → k < n → k < length cells → getD cells k 0 < t) → true ≡ allBelow t (take n cells)
+  cells-below f =
+      sym (all-below t (take n cells) (λ k l.
+      let n-long : k < n = omega (arith, length-take n cells) in
+      rw (getD-take n cells k 0 n-long) (f k n-long (omega (arith, length-take n cells)))))
+
 module _ (t n : ℕ) (history : List ℕ) where
   pub count-beyond : length history < n → false ≡ historyHolds t n history
   count-beyond h = rw (lt-leb n (length history) h)
 
-  module _ (h : n ≤ length history) where
-    pub entry-beyond : (k : ℕ) → k < n → t ≤ getD history k 0 → false ≡ historyHolds t n history
-    entry-beyond k l e =
-        let i : k < length (take n history) = simp length-take (omega arith) in
-        rw (le-leb n (length history) h, not-below t (take n history) k i (rw (getD-take n history k 0 l) e))
+  pub count-within : n ≤ length history → (r : Bool) → r ≡ allBelow t (take n history) → r ≡ historyHolds t n history
+  count-within h r e = rw (le-leb n (length history) h) e
 
-    pub entries-below : ((k : ℕ) → k < n → getD history k 0 < t) → true ≡ historyHolds t n history
-    entries-below f =
-        let e : length (take n history) ≡ n = length-take-le n history h in
-        rw (le-leb n (length history) h, all-below t (take n history) (λ k l. rw (getD-take n history k 0 (omega arith)) (f k (omega arith))))
-
--- ---- both parts
+-- ---- the parts together
 
 pub not-both : (r t u : Bool) → r ≡ t → not r ≡ true → false ≡ (t && u)
 not-both r true u e n = absurd (false≢true (let z : false ≡ true = rw e at n in z))
@@ -159,3 +167,19 @@ not-both r false u e n = refl
 pub both : (r t u : Bool) → r ≡ t → not r ≡ false → u ≡ (t && u)
 both r true u e n = refl
 both r false u e n = absurd (true≢false (let z : true ≡ false = rw e at n in z))
+
+-- ---- the test over rows is the test over a model
+
+module _ (m : Meaning) (transitions : ℕ) (rows : List (List ℤ)) (counted : transitions ≡ m .transitions) (declared : rows ≡ variableRows (m .declarations))
+    (r : Run) (b : Bool) (e : b ≡ holdsOver transitions (map endsOf rows) r) where
+  run-holds : b ≡ holds m r
+  run-holds =
+      e ∙ ap (λ l. holdsOver transitions (map endsOf l) r) declared
+      ∙ ap (λ o. historyHolds transitions (r .count) (r .history) && (marksWithin transitions (r .marks) && isNone o)) (outside-rows (m .declarations) (r .values) 0)
+      ∙ ap (λ t. holdsOver t (m .declarations) r) counted
+
+  pub stale : not b ≡ true → holds m r ≡ false
+  stale t = sym run-holds ∙ not-true b t
+
+  pub held : not b ≡ false → holds m r ≡ true
+  held t = sym run-holds ∙ not-false b t

@@ -1,5 +1,5 @@
 -- 01, "The calls on a run": "A run is a values slice [..], a record slice of transition numbers (bytes), and a count n of recorded
--- steps." The record slice is called the history here.
+-- steps." The record slice is called the history here. A4: "The run shall hold its marks".
 use mathlib.Core.List.{List}
 use mathlib.Core.Option.{Option}
 use Prim.Native.Nat.{ℕ}
@@ -10,34 +10,38 @@ pub use Rattle.results.specs.Results.{answered}
 
 pub record Run : Type 0 where
   pub values : List ℤ
+  pub marks : List ℕ
   pub history : List ℕ
   pub count : ℕ
 
--- all that is lent beside the model
+-- all that is lent beside the model: the run, and the slice that the marks call copies into
 pub record Store : Type 0 where
   pub run : Run
-  pub marks : List ℕ
+  pub buffer : List ℕ
 
-abbrev pub run : List ℤ → List ℕ → ℕ → Run
-run values history count = record { values = values; history = history; count = count }
+abbrev pub run : List ℤ → List ℕ → List ℕ → ℕ → Run
+run values marks history count = record { values = values; marks = marks; history = history; count = count }
 
 abbrev pub store : Run → List ℕ → Store
-store r marks = record { run = r; marks = marks }
+store r buffer = record { run = r; buffer = buffer }
 
 abbrev pub withValues : List ℤ → Run → Run
-withValues values r = run values (r .history) (r .count)
+withValues values r = run values (r .marks) (r .history) (r .count)
+
+abbrev pub withMarks : List ℕ → Run → Run
+withMarks marks r = run (r .values) marks (r .history) (r .count)
 
 abbrev pub withHistory : List ℕ → Run → Run
-withHistory history r = run (r .values) history (r .count)
+withHistory history r = run (r .values) (r .marks) history (r .count)
 
 abbrev pub withCount : ℕ → Run → Run
-withCount count r = run (r .values) (r .history) count
+withCount count r = run (r .values) (r .marks) (r .history) count
 
 abbrev pub withRun : Run → Store → Store
-withRun r s = store r (s .marks)
+withRun r s = store r (s .buffer)
 
-abbrev pub withMarks : List ℕ → Store → Store
-withMarks marks s = store (s .run) marks
+abbrev pub withBuffer : List ℕ → Store → Store
+withBuffer buffer s = store (s .run) buffer
 
 -- 01's answers: the number of a refusal, the round count, that it was done, a value, the five sizes, the transition picked or none.
 -- A3's: the first variable outside its ends or none, and how many values were looked at

@@ -2,11 +2,14 @@
 
 ghost use mathlib.Core.Path.{_≡_};
 ghost use mathlib.Core.List.{map};
-ghost use lib.ListN.{length};
+ghost use lib.ListN.{length, take};
 ghost use Rattle.results.specs.Results.{found};
 ghost use Rattle.standing.specs.Runs.{run};
-ghost use Rattle.standing.specs.Holding.{endsOf, firstOutside, lookedAt, historyHolds, holdsOver};
+ghost use Rattle.standing.specs.Holding.{endsOf, firstOutside, lookedAt, allBelow, historyHolds, holdsOver};
 use results::Found;
+
+// How many marks there are: 0, 1 and 2.
+const MARKS: usize = 3;
 
 // What a check of values found: the first variable outside its ends or none, and how many values it looked at.
 pub struct RangeCheck {
@@ -38,16 +41,16 @@ pub fn check_ranges(variables: &[[i32; 3]], values: &[i32]) -> RangeCheck
     }
 }
 
-// Is the count within the history, and is every recorded entry a transition.
-fn history_holds(transitions: usize, n: usize, history: &[u8]) -> bool
-    ensures { λ r. ⌜ r ≡ historyHolds transitions n (now (history .entry)) ⌝ }
+// Is each of the first `count` cells below the bound; of all, if there are fewer.
+fn all_below(bound: usize, count: usize, cells: &[u8]) -> bool
+    ensures { λ r. ⌜ r ≡ allBelow bound (take count (now (cells .entry))) ⌝ }
 {
-    if history.len() < n {
-        return false;
-    }
     let mut i = 0;
-    while i < n {
-        if transitions <= history[i] as usize {
+    while i < count {
+        if cells.len() <= i {
+            return true;
+        }
+        if bound <= cells[i] as usize {
             return false;
         }
         i += 1;
@@ -55,17 +58,31 @@ fn history_holds(transitions: usize, n: usize, history: &[u8]) -> bool
     true
 }
 
+// Is the count within the history, and is every recorded entry a transition.
+fn history_holds(transitions: usize, n: usize, history: &[u8]) -> bool
+    ensures { λ r. ⌜ r ≡ historyHolds transitions n (now (history .entry)) ⌝ }
+{
+    if history.len() < n {
+        return false;
+    }
+    all_below(transitions, n, history)
+}
+
 // Does a run hold, over so many transitions and the rows of the variables.
 pub fn holds(
     transitions: usize,
     variables: &[[i32; 3]],
     values: &[i32],
+    marks: &[u8],
     history: &[u8],
     n: usize,
 ) -> bool
-    ensures { λ r. ⌜ r ≡ holdsOver transitions (map endsOf (now (variables .entry))) (run (now (values .entry)) (now (history .entry)) n) ⌝ }
+    ensures { λ r. ⌜ r ≡ holdsOver transitions (map endsOf (now (variables .entry))) (run (now (values .entry)) (now (marks .entry)) (now (history .entry)) n) ⌝ }
 {
     if !history_holds(transitions, n, history) {
+        return false;
+    }
+    if !all_below(MARKS, transitions, marks) {
         return false;
     }
     let check = check_ranges(variables, values);

@@ -1,10 +1,9 @@
--- What the slices of a decoded model tell of its meaning: how many variables and transitions there are, and the initial values.
+-- What the slices of a decoded model tell of its meaning: the tests of lengths, the initial values, whether a run holds.
 use mathlib.Core.Path.{_≡_, refl, sym, ap, _∙_}
-use mathlib.Core.Bool.{Bool, true, false, not, _&&_}
+use mathlib.Core.Bool.{Bool, true, false, not}
 use mathlib.Core.List.{List, [], _∷_, map}
 use Prim.Native.Nat.{ℕ, zero, suc, _≤_, _<_}
 use native.Mathlib.Omega.{arith}
-use borrow.Author.Tests.{not-true, not-false}
 use lib.IntN.{ℤ}
 use lib.ListN.{length, take, length-append}
 use lib.Seq.{take-at, length-take-le}
@@ -13,14 +12,13 @@ use Rattle.model.specs.Trees.{variables}
 use Rattle.results.specs.Results.{over}
 use Rattle.variables.specs.Rows.{variableRow, firstsIn}
 use Rattle.variables.proofs.Columns.{firsts-of, column-length}
-use Rattle.decoding.proofs.InUse.{sizes-fit}
-use Rattle.decoding.proofs.Decoded.{decoded-rows, decoded-guards, decoded-variables, decoded-transitions}
-use Rattle.model.proofs.CheckExact.{check-exact}
 use Rattle.engine.specs.Cells.{Loaded}
-use Rattle.semantics.specs.Meanings.{Meaning, meaningOf}
-use Rattle.standing.specs.Runs.{run}
-use Rattle.standing.specs.Holding.{endsOf, historyHolds, firstOutside, isNone, holdsOver, holds}
-use Rattle.standing.proofs.Holding.{outside-rows}
+use Rattle.engine.proofs.Loading.{loaded-states}
+use Rattle.engine.proofs.Counts.{meaning, rows-count, guards-count}
+use Rattle.semantics.specs.Meanings.{meaningOf}
+use Rattle.standing.specs.Runs.{Run}
+use Rattle.standing.specs.Holding.{endsOf, holdsOver, holds}
+use Rattle.standing.proofs.Holding as standing
 use Rattle.steps.specs.Calls.{initial}
 use Rattle.steps.proofs.Written.{Complete}
 use Rattle.steps.proofs.Ends.{settle-complete}
@@ -32,69 +30,32 @@ take-map f (suc n) (a ∷ l) = ap (λ k. f a ∷ k) (take-map f n l)
 
 module _ {model : Model} {kinds : List ℕ} {parameters : List ℤ} {rows : List (List ℤ)} {nexts guards : List ℕ}
     (d : Loaded model kinds parameters rows nexts guards) where
-  abbrev pub meaning : Meaning
-  meaning = meaningOf (d .decoded .system)
-
-  pub rows-count : length rows ≡ length (meaning .declarations)
-  unfolding meaningOf
-  rows-count = decoded-rows _ _ _ _ _ _ _ (d .decoded)
-
-  pub guards-count : length guards ≡ meaning .transitions
-  unfolding meaningOf
-  guards-count = decoded-guards _ _ _ _ _ _ _ (d .decoded)
-
   -- what the code's tests of lengths tell
-  pub short-values : (values : List ℤ) → length values < length rows → length values < length (meaning .declarations)
-  short-values values h = omega (arith, rows-count)
+  pub short-values : (values : List ℤ) → length values < length rows → length values < length (meaning d .declarations)
+  short-values values h = omega (arith, rows-count d)
 
-  pub enough-values : (values : List ℤ) → length rows ≤ length values → length (meaning .declarations) ≤ length values
-  enough-values values h = omega (arith, rows-count)
+  pub enough-values : (values : List ℤ) → length rows ≤ length values → length (meaning d .declarations) ≤ length values
+  enough-values values h = omega (arith, rows-count d)
 
-  pub known-variable : (x : ℕ) → x < length rows → x < length (meaning .declarations)
-  known-variable x h = omega (arith, rows-count)
+  pub from-transitions : (t : ℕ) → length guards ≤ t → meaning d .transitions ≤ t
+  from-transitions t h = omega (arith, guards-count d)
 
-  pub unknown-transition : (t : ℕ) → length guards ≤ t → meaning .transitions ≤ t
-  unknown-transition t h = omega (arith, guards-count)
+  pub below-transitions : (t : ℕ) → t < length guards → t < meaning d .transitions
+  below-transitions t h = omega (arith, guards-count d)
 
-  pub known-transition : (t : ℕ) → t < length guards → t < meaning .transitions
-  known-transition t h = omega (arith, guards-count)
-
-  pub meaning-complete : Complete meaning
+  pub meaning-complete : Complete (meaning d)
   unfolding meaningOf
   meaning-complete = settle-complete (d .decoded .system)
 
-  states-count : model .sizes .states ≡ length (d .decoded .system .states)
-  states-count = ap (λ s. s .states) (check-exact (d .file) (d .bytes) (model .sizes) (d .decoded .system) .0 (d .decoded .checked) .1)
-
-  pub few-variables : length rows ≤ 510
-  unfolding meaningOf
-  few-variables =
-      omega (
-        arith,
-        rows-count,
-        decoded-variables _ _ _ _ _ _ _ (d .decoded),
-        sizes-fit (d .file) (d .bytes) (model .sizes) (d .decoded .system) (d .decoded .checked) .variables,
-      )
-
-  pub few-guards : length guards ≤ 255
-  unfolding meaningOf
-  few-guards =
-      omega (
-        arith,
-        guards-count,
-        decoded-transitions _ _ _ _ _ _ _ (d .decoded),
-        sizes-fit (d .file) (d .bytes) (model .sizes) (d .decoded .system) (d .decoded .checked) .transitions,
-      )
-
   pub states-within : model .sizes .states ≤ length rows
   unfolding meaningOf
-  states-within = omega (arith, rows-count, states-count, length-append (d .decoded .system .states) (d .decoded .system .flows))
+  states-within = omega (arith, rows-count d, loaded-states d, length-append (d .decoded .system .states) (d .decoded .system .flows))
 
   -- the first values of the rows of the states
-  first-states : firstsIn (take (model .sizes .states) rows) ≡ initial meaning
+  first-states : firstsIn (take (model .sizes .states) rows) ≡ initial (meaning d)
   unfolding meaningOf
   first-states =
-      rw (d .decoded .variablesDecoded, states-count, take-map variableRow (length (d .decoded .system .states)) (variables (d .decoded .system)))
+      rw (d .decoded .variablesDecoded, loaded-states d, take-map variableRow (length (d .decoded .system .states)) (variables (d .decoded .system)))
       (firsts-of (take (length (d .decoded .system .states)) (variables (d .decoded .system))))
 
   -- an array that begins with them
@@ -108,24 +69,15 @@ module _ {model : Model} {kinds : List ℕ} {parameters : List ℤ} {rows : List
     pub initial-count : model .sizes .states ≡ length (take (model .sizes .states) cells)
     initial-count = sym (ap length first-part ∙ first-count)
 
-    pub initial-part : take (model .sizes .states) cells ≡ initial meaning
+    pub initial-part : take (model .sizes .states) cells ≡ initial (meaning d)
     initial-part = first-part ∙ first-states
 
   -- the code's test whether the run holds
-  run-holds : (values : List ℤ) (history : List ℕ) (n : ℕ) (b : Bool) → b ≡ holdsOver (length guards) (map endsOf rows) (run values history n)
-      → b ≡ holds meaning (run values history n)
-  unfolding meaningOf
-  run-holds values history n b e =
-      let vs = variables (d .decoded .system) in
-      let outside : firstOutside (map endsOf rows) values 0 ≡ firstOutside vs values 0 =
-      ap (λ l. firstOutside (map endsOf l) values 0) (d .decoded .variablesDecoded) ∙ outside-rows vs values 0 in
-      e ∙ ap (λ o. historyHolds (length guards) n history && isNone o) outside
-      ∙ ap (λ t. historyHolds t n history && isNone (firstOutside vs values 0)) guards-count
+  module _ (r : Run) (b : Bool) (e : b ≡ holdsOver (length guards) (map endsOf rows) r) where
+    pub stale : not b ≡ true → holds (meaning d) r ≡ false
+    unfolding meaningOf
+    stale = standing.stale (meaning d) (length guards) rows (guards-count d) (d .decoded .variablesDecoded) r b e
 
-  pub stale : (values : List ℤ) (history : List ℕ) (n : ℕ) (b : Bool) → b ≡ holdsOver (length guards) (map endsOf rows) (run values history n) → not b ≡ true
-      → holds meaning (run values history n) ≡ false
-  stale values history n b e t = sym (run-holds values history n b e) ∙ not-true b t
-
-  pub held : (values : List ℤ) (history : List ℕ) (n : ℕ) (b : Bool) → b ≡ holdsOver (length guards) (map endsOf rows) (run values history n) → not b ≡ false
-      → holds meaning (run values history n) ≡ true
-  held values history n b e t = sym (run-holds values history n b e) ∙ not-false b t
+    pub held : not b ≡ false → holds (meaning d) r ≡ true
+    unfolding meaningOf
+    held = standing.held (meaning d) (length guards) rows (guards-count d) (d .decoded .variablesDecoded) r b e

@@ -1,12 +1,7 @@
 -- The answers of the code, and a call on a model file.
-use mathlib.Core.List.{List}
-use Prim.Native.Nat.{ℕ}
-use lib.IntN.{ℤ}
-use Rattle.model.specs.declared.Model.{Model}
 use Rattle.model.specs.Check.{Verdict}
 use Rattle.model.specs.Check.Verdict.{refusal, accepted}
 use Rattle.semantics.specs.Meanings.{Meaning, meaningOf}
-use Rattle.engine.specs.Cells.{Loaded}
 use Rattle.results.specs.Results.{found}
 use Rattle.steps.specs.declared.Answer as answer
 use Rattle.standing.specs.Runs.{Answer, Done, answered}
@@ -31,8 +26,3 @@ onFile (accepted z t) f a = f (meaningOf t)
 unfoldable pub onFileAnswer : Verdict → (Meaning → Answer) → Answer
 onFileAnswer (refusal n) f = refused n
 onFileAnswer (accepted z t) f = f (meaningOf t)
-
--- this is true of the meaning of the model whose decoding is lent
-abbrev pub OnLoaded : Model → List ℕ → List ℤ → List (List ℤ) → List ℕ → List ℕ → (Meaning → Type 0) → Type 0
-OnLoaded model kinds parameters variables nexts guards P =
-    (d : Loaded model kinds parameters variables nexts guards) → P (meaningOf (d .decoded .system))

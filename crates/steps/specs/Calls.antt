@@ -13,9 +13,10 @@ use Rattle.semantics.specs.declared.Firing.{Firing}
 use Rattle.semantics.specs.declared.Firing.the-variants.{Disabled, GuardFailed, ActionFault, AssertionFault, Fired}
 use Rattle.semantics.specs.Meanings.{Meaning}
 use Rattle.semantics.specs.Firing.{Left, fired, begun}
-use Rattle.standing.specs.Runs.{Run, Answer, Done, answered, withValues, withHistory, withCount}
+use Rattle.standing.specs.Runs.{Run, Answer, Done, answered, withHistory, withCount}
 use Rattle.standing.specs.Runs.Answer.{refused, rounds, done}
-use Rattle.standing.specs.Holding.{tooShort, holds}
+use Rattle.standing.specs.Holding.{tooShort, tooFew, holds}
+use Rattle.marking.specs.Marks.{refreshed}
 use Rattle.steps.specs.declared.Move.{Move}
 use Rattle.steps.specs.declared.Move.the-variants.{Start, Fire, Undo}
 
@@ -35,34 +36,38 @@ isFired (ActionFault f) = false
 isFired (AssertionFault f) = false
 isFired (Fired n) = true
 
--- the answer of firing, with the new run if it was fired and the old one if it was refused
-abbrev pub firedInto : Run → Run → Firing → Done Run
+-- the answer of firing, with what is new if it was fired and what was there if it was refused
+abbrev pub firedInto : {A : Type 0} → A → A → Firing → Done A
 firedInto old new f = answered (answerOf f) (cond (isFired f) new old)
 
 -- the initial values of the states
 abbrev pub initial : Meaning → List ℤ
 initial m = map (λ v. v .first) (take (m .states) (m .declarations))
 
--- Start: "states initial, then the assertion; n = 0". The history is not lent to it; here it stays.
-abbrev pub startedBy : Run → Left → Done Run
-startedBy r l = firedInto r (withCount 0 (withValues (l .left) r)) (l .answer)
+-- Start: "states initial, then the assertion; n = 0". The history is not lent to it; here it stays. A4: 10 "in every call on a run".
+abbrev pub startedBy : Meaning → Run → Left → Done Run
+startedBy m r l = firedInto r (withCount 0 (refreshed m (l .left) r)) (l .answer)
 
 unfoldable pub start : Meaning → Run → Done Run
-start m r = cond (tooShort m (r .values)) (answered (refused 9) r) (startedBy r (begun m (initial m) (r .values)))
+start m r =
+    cond (tooShort m (r .values)) (answered (refused 9) r)
+    (cond (tooFew m (r .marks)) (answered (refused 10) r)
+    (startedBy m r (begun m (initial m) (r .values))))
 
 -- Fire t: "guard, action, assertion, then t at record place n, n one higher". 11 "transition T or above", 21 "fire with n equal to the
 -- record's length".
-abbrev pub firedBy : ℕ → Run → Left → Done Run
-firedBy t r l =
-    firedInto r (withCount (suc (r .count)) (withHistory (set (r .history) (r .count) t) (withValues (l .left) r))) (l .answer)
+abbrev pub firedBy : Meaning → ℕ → Run → Left → Done Run
+firedBy m t r l =
+    firedInto r (withCount (suc (r .count)) (withHistory (set (r .history) (r .count) t) (refreshed m (l .left) r))) (l .answer)
 
 unfoldable pub fire : Meaning → ℕ → Run → Done Run
 fire m t r =
     cond (tooShort m (r .values)) (answered (refused 9) r)
+    (cond (tooFew m (r .marks)) (answered (refused 10) r)
     (cond (not (ltb t (m .transitions))) (answered (refused 11) r)
     (cond (not (holds m r)) (answered (refused 20) r)
     (cond (eqb (r .count) (length (r .history))) (answered (refused 21) r)
-    (firedBy t r (fired m t (r .values))))))
+    (firedBy m t r (fired m t (r .values)))))))
 
 -- what follows on the values left, unless firing is refused
 unfoldable pub goOn : (List ℤ → Option (List ℤ)) → Left → Option (List ℤ)
@@ -79,23 +84,20 @@ replay m ss ts values = goOn (λ vs. refire m ts vs) (begun m ss values)
 
 -- Undo (01: take back): "values become those of start and the first n − 1 recorded transitions fired again; n one lower, the
 -- record's bytes stay". 22 "take back with n = 0", 31 "start is refused, or the first n − 1 entries can't be fired again".
-unfoldable pub undoneBy : Run → Option (List ℤ) → Done Run
-undoneBy r none = answered (refused 31) r
-undoneBy r (some values) = answered done (withCount (r .count - 1) (withValues values r))
+unfoldable pub undoneBy : Meaning → Run → Option (List ℤ) → Done Run
+undoneBy m r none = answered (refused 31) r
+undoneBy m r (some values) = answered done (withCount (r .count - 1) (refreshed m values r))
 
 unfoldable pub undo : Meaning → Run → Done Run
 undo m r =
     cond (tooShort m (r .values)) (answered (refused 9) r)
+    (cond (tooFew m (r .marks)) (answered (refused 10) r)
     (cond (not (holds m r)) (answered (refused 20) r)
     (cond (eqb (r .count) 0) (answered (refused 22) r)
-    (undoneBy r (replay m (initial m) (take (r .count - 1) (r .history)) (r .values)))))
+    (undoneBy m r (replay m (initial m) (take (r .count - 1) (r .history)) (r .values))))))
 
 -- start, fire or undo
 unfoldable pub stepOn : Meaning → Move → Run → Done Run
 stepOn m Start r = start m r
 stepOn m (Fire t) r = fire m t r
 stepOn m Undo r = undo m r
-
--- the answer of a call, with the values that it leaves
-abbrev pub valuesOf : Done Run → Done (List ℤ)
-valuesOf d = answered (d .answer) (d .left .values)

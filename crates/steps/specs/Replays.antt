@@ -1,9 +1,19 @@
--- How the code holds the outcome of replaying.
+-- What the code is lent of a run to change, and how it holds the outcome of replaying.
 use mathlib.Core.Bool.{Bool, true, false}
 use mathlib.Core.List.{List}
 use mathlib.Core.Option.{Option, some, none}
+use Prim.Native.Nat.{ℕ}
 use lib.IntN.{ℤ}
 use Rattle.results.specs.Results.{Answered, answered}
+use Rattle.standing.specs.Runs.{Run, Done}
+
+-- the values and the marks
+abbrev pub Cells : Type 0
+Cells = List ℤ × List ℕ
+
+-- the answer of a call, with the values and the marks that it leaves
+abbrev pub cellsLeft : Done Run → Done Cells
+cellsLeft d = answered (d .answer) (d .left .values, d .left .marks)
 
 -- whether all went well; if so, the values are those of the cells
 unfoldable pub resultOf : Bool → List ℤ → Option (List ℤ)

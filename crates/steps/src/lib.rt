@@ -1,4 +1,4 @@
-// Start, fire and undo as far as the values go: on a model file.
+// Start, fire and undo as far as the values and the marks go: on a model file.
 
 pub mod moves; // moves.rt: start, fire and undo
 
@@ -18,7 +18,7 @@ pub enum Answer {
     Outside(RangeCheck),
 }
 
-// What is done with the values of a run.
+// What is done with the values and the marks of a run.
 pub enum Move {
     Start,
     Fire(usize),

@@ -1,4 +1,4 @@
-// Start, fire and undo (01: take back), as far as the values go.
+// Start, fire and undo (01: take back), as far as the values and the marks go.
 
 ghost use mathlib.Core.Path.{_≡_};
 ghost use mathlib.Core.List.{List};
@@ -8,12 +8,13 @@ ghost use Rattle.interpreter.specs.Instructions.{numberOf};
 ghost use Rattle.interpreter.specs.Instructions.Place.{action, assertion};
 ghost use Rattle.model.specs.Check.{verdict};
 ghost use Rattle.semantics.specs.Firing.{begun};
-ghost use Rattle.engine.specs.Cells.{Loaded};
+ghost use Rattle.engine.specs.Cells.{Loaded, OnLoaded};
 ghost use Rattle.standing.specs.Runs.{run, answered};
+ghost use Rattle.marking.specs.Marks.{marksOver};
 ghost use Rattle.steps.specs.Calls as calls;
-ghost use Rattle.steps.specs.Calls.{isFired, initial, stepOn, valuesOf};
-ghost use Rattle.steps.specs.Replays.{resultOf, replayedOver};
-ghost use Rattle.steps.specs.Answers.{seen, onFile, OnLoaded};
+ghost use Rattle.steps.specs.Calls.{isFired, firedInto, initial, stepOn};
+ghost use Rattle.steps.specs.Replays.{cellsLeft, resultOf, replayedOver};
+ghost use Rattle.steps.specs.Answers.{seen, onFile};
 use super::Answer;
 use super::Move;
 use decoding::Prepared;
@@ -206,7 +207,41 @@ fn replay(
     replayed
 }
 
-// 9, then the initial states and the assertion.
+// The answer of a firing; if it was fired, the marks become those of the values that it left.
+fn conclude(
+    firing: Firing,
+    loaded: Model,
+    kinds: &[u8],
+    parameters: &[i32],
+    variables: &[[i32; 3]],
+    nexts: &[u16],
+    guards: &[u16],
+    values: &[i32],
+    marks: &mut [u8],
+) -> Answer
+    requires { ⌜ Loaded loaded (now kinds) (now parameters) (now variables) (now nexts) (now guards) ⌝ }
+    requires { ⌜ (length (now variables) ≤ length (now values)) × (length (now guards) ≤ length (now marks)) ⌝ }
+    ensures { λ r. ⌜ OnLoaded loaded (now (kinds .entry)) (now (parameters .entry)) (now (variables .entry)) (now (nexts .entry)) (now (guards .entry)) (λ m.
+        answered (seen r) (now (marks .exit)) ≡ firedInto (now (marks .entry)) (marksOver m (now (values .entry)) (now (marks .entry))) firing) ⌝ }
+{
+    let answer = answer_of(firing);
+    if !is_fired(firing) {
+        return answer;
+    }
+    marking::refresh(
+        loaded,
+        kinds,
+        parameters,
+        variables,
+        nexts,
+        guards,
+        values,
+        marks,
+    );
+    answer
+}
+
+// 9, 10, then the initial states and the assertion; if that is not refused, the marks of the new values.
 fn start(
     loaded: Model,
     kinds: &[u8],
@@ -215,18 +250,33 @@ fn start(
     nexts: &[u16],
     guards: &[u16],
     values: &mut [i32],
+    marks: &mut [u8],
 ) -> Answer
     requires { ⌜ Loaded loaded (now kinds) (now parameters) (now variables) (now nexts) (now guards) ⌝ }
     ensures { λ r. ⌜ OnLoaded loaded (now (kinds .entry)) (now (parameters .entry)) (now (variables .entry)) (now (nexts .entry)) (now (guards .entry)) (λ m.
-        (history : List ℕ) (n : ℕ) → answered (seen r) (now (values .exit)) ≡ valuesOf (calls.start m (run (now (values .entry)) history n))) ⌝ }
+        (history : List ℕ) (n : ℕ) → answered (seen r) (now (values .exit), now (marks .exit)) ≡ cellsLeft (calls.start m (run (now (values .entry)) (now (marks .entry)) history n))) ⌝ }
 {
     if values.len() < variables.len() {
         return Answer::Refused(9);
     }
-    answer_of(begin(loaded, kinds, parameters, variables, nexts, guards, values))
+    if marks.len() < guards.len() {
+        return Answer::Refused(10);
+    }
+    let firing = begin(loaded, kinds, parameters, variables, nexts, guards, values);
+    conclude(
+        firing,
+        loaded,
+        kinds,
+        parameters,
+        variables,
+        nexts,
+        guards,
+        values,
+        marks,
+    )
 }
 
-// 9, 11, 20, 21, then guard, action and assertion.
+// 9, 10, 11, 20, 21, then guard, action and assertion; if none is refused, the marks of the new values.
 fn fire(
     loaded: Model,
     kinds: &[u8],
@@ -235,27 +285,31 @@ fn fire(
     nexts: &[u16],
     guards: &[u16],
     values: &mut [i32],
+    marks: &mut [u8],
     history: &[u8],
     n: usize,
     transition: usize,
 ) -> Answer
     requires { ⌜ Loaded loaded (now kinds) (now parameters) (now variables) (now nexts) (now guards) ⌝ }
     ensures { λ r. ⌜ OnLoaded loaded (now (kinds .entry)) (now (parameters .entry)) (now (variables .entry)) (now (nexts .entry)) (now (guards .entry)) (λ m.
-        answered (seen r) (now (values .exit)) ≡ valuesOf (calls.fire m transition (run (now (values .entry)) (now (history .entry)) n))) ⌝ }
+        answered (seen r) (now (values .exit), now (marks .exit)) ≡ cellsLeft (calls.fire m transition (run (now (values .entry)) (now (marks .entry)) (now (history .entry)) n))) ⌝ }
 {
     if values.len() < variables.len() {
         return Answer::Refused(9);
     }
+    if marks.len() < guards.len() {
+        return Answer::Refused(10);
+    }
     if guards.len() <= transition {
         return Answer::Refused(11);
     }
-    if !standing::holds(guards.len(), variables, values, history, n) {
+    if !standing::holds(guards.len(), variables, values, marks, history, n) {
         return Answer::Refused(20);
     }
     if n == history.len() {
         return Answer::Refused(21);
     }
-    answer_of(transitions::fire(
+    let firing = transitions::fire(
         loaded,
         kinds,
         parameters,
@@ -264,10 +318,21 @@ fn fire(
         guards,
         values,
         transition,
-    ))
+    );
+    conclude(
+        firing,
+        loaded,
+        kinds,
+        parameters,
+        variables,
+        nexts,
+        guards,
+        values,
+        marks,
+    )
 }
 
-// 9, 20, 22, then the history without its last entry, replayed; 31 if that is refused.
+// 9, 10, 20, 22, then the history without its last entry, replayed; 31 if that is refused, else the marks of the new values.
 fn undo(
     loaded: Model,
     kinds: &[u8],
@@ -276,23 +341,27 @@ fn undo(
     nexts: &[u16],
     guards: &[u16],
     values: &mut [i32],
+    marks: &mut [u8],
     history: &[u8],
     n: usize,
 ) -> Answer
     requires { ⌜ Loaded loaded (now kinds) (now parameters) (now variables) (now nexts) (now guards) ⌝ }
     ensures { λ r. ⌜ OnLoaded loaded (now (kinds .entry)) (now (parameters .entry)) (now (variables .entry)) (now (nexts .entry)) (now (guards .entry)) (λ m.
-        answered (seen r) (now (values .exit)) ≡ valuesOf (calls.undo m (run (now (values .entry)) (now (history .entry)) n))) ⌝ }
+        answered (seen r) (now (values .exit), now (marks .exit)) ≡ cellsLeft (calls.undo m (run (now (values .entry)) (now (marks .entry)) (now (history .entry)) n))) ⌝ }
 {
     if values.len() < variables.len() {
         return Answer::Refused(9);
     }
-    if !standing::holds(guards.len(), variables, values, history, n) {
+    if marks.len() < guards.len() {
+        return Answer::Refused(10);
+    }
+    if !standing::holds(guards.len(), variables, values, marks, history, n) {
         return Answer::Refused(20);
     }
     if n == 0 {
         return Answer::Refused(22);
     }
-    if replay(
+    if !replay(
         loaded,
         kinds,
         parameters,
@@ -303,10 +372,19 @@ fn undo(
         n - 1,
         values,
     ) {
-        Answer::Done
-    } else {
-        Answer::Refused(31)
+        return Answer::Refused(31);
     }
+    marking::refresh(
+        loaded,
+        kinds,
+        parameters,
+        variables,
+        nexts,
+        guards,
+        values,
+        marks,
+    );
+    Answer::Done
 }
 
 // One of the three, on a decoded model.
@@ -318,16 +396,26 @@ fn dispatch(
     nexts: &[u16],
     guards: &[u16],
     values: &mut [i32],
+    marks: &mut [u8],
     history: &[u8],
     n: usize,
     step: Move,
 ) -> Answer
     requires { ⌜ Loaded loaded (now kinds) (now parameters) (now variables) (now nexts) (now guards) ⌝ }
     ensures { λ r. ⌜ OnLoaded loaded (now (kinds .entry)) (now (parameters .entry)) (now (variables .entry)) (now (nexts .entry)) (now (guards .entry)) (λ m.
-        answered (seen r) (now (values .exit)) ≡ valuesOf (stepOn m step (run (now (values .entry)) (now (history .entry)) n))) ⌝ }
+        answered (seen r) (now (values .exit), now (marks .exit)) ≡ cellsLeft (stepOn m step (run (now (values .entry)) (now (marks .entry)) (now (history .entry)) n))) ⌝ }
 {
     match step {
-        Move::Start => start(loaded, kinds, parameters, variables, nexts, guards, values),
+        Move::Start => start(
+            loaded,
+            kinds,
+            parameters,
+            variables,
+            nexts,
+            guards,
+            values,
+            marks,
+        ),
         Move::Fire(transition) => fire(
             loaded,
             kinds,
@@ -336,6 +424,7 @@ fn dispatch(
             nexts,
             guards,
             values,
+            marks,
             history,
             n,
             transition,
@@ -348,6 +437,7 @@ fn dispatch(
             nexts,
             guards,
             values,
+            marks,
             history,
             n,
         ),
@@ -355,9 +445,16 @@ fn dispatch(
 }
 
 // Decodes the model and makes the move.
-pub fn advance(model: &[u8], values: &mut [i32], history: &[u8], n: usize, step: Move) -> Answer
-    ensures { λ r. ⌜ answered (seen r) (now (values .exit))
-        ≡ valuesOf (onFile (verdict (now (model .entry))) (λ m. stepOn m step (run (now (values .entry)) (now (history .entry)) n)) (run (now (values .entry)) (now (history .entry)) n)) ⌝ }
+pub fn advance(
+    model: &[u8],
+    values: &mut [i32],
+    marks: &mut [u8],
+    history: &[u8],
+    n: usize,
+    step: Move,
+) -> Answer
+    ensures { λ r. ⌜ answered (seen r) (now (values .exit), now (marks .exit))
+        ≡ cellsLeft (onFile (verdict (now (model .entry))) (λ m. stepOn m step (run (now (values .entry)) (now (marks .entry)) (now (history .entry)) n)) (run (now (values .entry)) (now (marks .entry)) (now (history .entry)) n)) ⌝ }
 {
     let mut parameters = [0i32; Model::MAX_NODES];
     let mut sorts = [0u8; Model::MAX_VARIABLES];
@@ -385,6 +482,7 @@ pub fn advance(model: &[u8], values: &mut [i32], history: &[u8], n: usize, step:
                 &nexts[..nodes],
                 &guards[..transitions],
                 values,
+                marks,
                 history,
                 n,
                 step,

@@ -15,10 +15,16 @@ same-length c = search needs
 
 returns : tie.Need-returns
 returns c =
-    let start = c .before .before .before .before .before .before .before .before .args in
+    let start = c .before .before .before .before .before .before .before .before .before .args in
     let called = c .before .before .before .marks in
     marks-coded (start .model .now) (c .code-of .result) (called .result) (c .code-of .ensures)
-    (start .values .now) (start .history .now) (start .n) (start .marks .now) (called .last .1 .1 .1 .1 .0) (called .ensures)
+    (start .values .now) (start .marks .now) (start .history .now) (start .n) (start .buffer .now) (called .last .1 .1 .1 .1 .1 .0) (called .ensures)
 
 pub gts-marks-spec : {M : Type 1} → statement M
-gts-marks-spec = tie.close (tie.spec marks-requires code-of-requires same-length returns)
+gts-marks-spec =
+    tie.close
+    (tie.spec
+    marks-requires
+    code-of-requires
+    same-length
+    returns)

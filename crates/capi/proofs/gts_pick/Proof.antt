@@ -18,24 +18,24 @@ hand-out-requires c κs = search needs
 
 returns : tie.Need-returns
 returns c =
-    let start = c .before .before .before .before .before .before .args in
+    let start = c .before .before .before .before .before .before .before .args in
     let called = c .before .before .before .pick in
-    pick-refused (start .model .now) (start .values .now) (start .history .now) (start .n) (start .transition .now) (start .found .now) (called .result) (called .ensures)
+    pick-refused (start .model .now) (start .values .now) (start .marks .now) (start .history .now) (start .n) (start .transition .now) (start .found .now) (called .result) (called .ensures)
     (c .before .number .given .0 .0) (c .before .number .given .1)
 
 returns-2 : tie.Need-returns-2
 returns-2 c =
-    let start = c .before .before .before .before .before .before .before .before .before .args in
+    let start = c .before .before .before .before .before .before .before .before .before .before .args in
     let called = c .before .before .before .before .before .before .pick in
     let picked = c .before .before .before .before .picked in
-    pick-handed (start .model .now) (start .values .now) (start .history .now) (start .n) (start .transition .now) (start .found .now) (called .result) (called .ensures)
+    pick-handed (start .model .now) (start .values .now) (start .marks .now) (start .history .now) (start .n) (start .transition .now) (start .found .now) (called .result) (called .ensures)
     (picked .given .0 .0) _ _ (picked .given .1) (c .hand-out .ensures)
 
 returns-3 : tie.Need-returns-3
 returns-3 c =
-    let start = c .before .before .before .before .args in
+    let start = c .before .before .before .before .before .args in
     let called = c .before .pick in
-    pick-other (start .model .now) (start .values .now) (start .history .now) (start .n) (start .transition .now) (start .found .now) (called .result) (called .ensures)
+    pick-other (start .model .now) (start .values .now) (start .marks .now) (start .history .now) (start .n) (start .transition .now) (start .found .now) (called .result) (called .ensures)
     (c .match .keys3)
 
 pub gts-pick-spec : {M : Type 1} → statement M

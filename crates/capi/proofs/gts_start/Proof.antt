@@ -16,13 +16,23 @@ code-of-requires c κs = search needs
 same-length : tie.Need-same-length
 same-length c = search needs
 
+same-length-2 : tie.Need-same-length-2
+same-length-2 c = search needs
+
 returns : tie.Need-returns
 returns c =
-    let start = c .before .before .before .before .before .before .before .before .args in
-    let called = c .before .before .before .start in
+    let start = c .before .before .before .before .before .before .before .before .before .before .before .before .args in
+    let called = c .before .before .before .before .before .start in
     start-coded (start .model .now) (start .rounds .now) (c .code-of .result) (c .before .rounds-or .result) (called .result)
-    (c .code-of .ensures) (c .before .rounds-or .ensures) (start .values .now) (start .n .now) (called .last .1 .0) (called .last .1 .1 .0) (called .ensures)
+    (c .code-of .ensures) (c .before .rounds-or .ensures) (start .values .now) (start .marks .now) (start .n .now) (called .last .1 .0) (called .last .1 .1 .0) (called .last .1 .1 .1 .0) (called .ensures)
 
 pub gts-start-spec : {M : Type 1} → statement M
 gts-start-spec =
-    tie.close (tie.spec start-requires rounds-or-requires code-of-requires same-length returns)
+    tie.close
+    (tie.spec
+    start-requires
+    rounds-or-requires
+    code-of-requires
+    same-length
+    same-length-2
+    returns)

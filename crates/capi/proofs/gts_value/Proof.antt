@@ -15,12 +15,18 @@ code-of-requires c κs = search needs
 
 returns : tie.Need-returns
 returns c =
-    let start = c .before .before .before .before .before .before .args in
+    let start = c .before .before .before .before .before .before .before .args in
     let called = c .before .before .value in
-    value-coded (start .model .now) (start .values .now) (start .history .now) (start .n) (start .variable) (start .value .now)
+    value-coded (start .model .now) (start .values .now) (start .marks .now) (start .history .now) (start .n) (start .variable) (start .value .now)
     (c .before .number-or .result) (c .code-of .result) (called .result) (record { sfits = c .before .before .before .old .given })
     (record { sfits = c .before .number-or .ok })
     (c .code-of .ensures) (c .before .number-or .ensures) (called .ensures)
 
 pub gts-value-spec : {M : Type 1} → statement M
-gts-value-spec = tie.close (tie.spec value-requires number-or-requires code-of-requires returns)
+gts-value-spec =
+    tie.close
+    (tie.spec
+    value-requires
+    number-or-requires
+    code-of-requires
+    returns)

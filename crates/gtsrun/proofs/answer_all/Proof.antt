@@ -1,4 +1,4 @@
--- The turns fall, and the buffer keeps its length.
+-- The turns fall, and the part keeps its length.
 use borrow.Author.Needs.{needs}
 use mathlib.Core.Path.{_≡_}
 use lib.ListN.{length}
@@ -6,10 +6,10 @@ use Rattle.gtsrun.proofs.answer_all.Statement.{statement}
 use Rattle.gtsrun.proofs.answer_all.Tie as tie
 
 abbrev Inv-loop : tie.InvT-loop
-Inv-loop file dimensions values₀ history₀ n₀ marks₀ out₀ part₀ line₀ turns₀ values history n marks out part line turns = 4096 ≡ length part
+Inv-loop file dimensions values₀ marks₀ history₀ n₀ buffer₀ out₀ part₀ line₀ turns₀ values marks history n buffer out part line turns = 4096 ≡ length part
 
 abbrev μ-loop : tie.MeasureT-loop
-μ-loop file dimensions values₀ history₀ n₀ marks₀ out₀ part₀ line₀ turns₀ values history n marks out part line turns = turns
+μ-loop file dimensions values₀ marks₀ history₀ n₀ buffer₀ out₀ part₀ line₀ turns₀ values marks history n buffer out part line turns = turns
 
 empty-requires : tie.Need-empty-requires Inv-loop μ-loop
 empty-requires c κs = search needs

@@ -8,10 +8,10 @@ use Rattle.gtsrun.proofs.answer_part.Statement.{statement}
 use Rattle.gtsrun.proofs.answer_part.Tie as tie
 
 abbrev Inv-loop : tie.InvT-loop
-Inv-loop part file dimensions values₀ history₀ n₀ marks₀ out₀ line₀ at₀ values history n marks out line at = Unit {0}
+Inv-loop part file dimensions values₀ marks₀ history₀ n₀ buffer₀ out₀ line₀ at₀ values marks history n buffer out line at = Unit {0}
 
 abbrev μ-loop : tie.MeasureT-loop
-μ-loop part file dimensions values₀ history₀ n₀ marks₀ out₀ line₀ at₀ values history n marks out line at = length part - at
+μ-loop part file dimensions values₀ marks₀ history₀ n₀ buffer₀ out₀ line₀ at₀ values marks history n buffer out line at = length part - at
 
 loop-holds : tie.Need-loop-holds Inv-loop μ-loop
 loop-holds c = search needs
@@ -24,8 +24,8 @@ print-requires c κs = search needs
 
 loop-less : tie.Need-loop-less Inv-loop μ-loop
 loop-less c =
-    let at = c .before .before .before .before .before .before .before .before .before .before .loop .at in
-    omega (arith, c .before .before .before .before .before .before .before .before .before .loop-test .taken, c .before .before .before .take-line .ensures .0, line-taken (c .before .before .before .before .before .before .before .before .before .before .before .before .args .part .now) at (c .before .before .before .before .before .before .before .before .before .loop-test .taken))
+    let at = c .before .before .before .before .before .before .before .before .before .before .before .loop .at in
+    omega (arith, c .before .before .before .before .before .before .before .before .before .before .loop-test .taken, c .before .before .before .take-line .ensures .0, line-taken (c .before .before .before .before .before .before .before .before .before .before .before .before .before .args .part .now) at (c .before .before .before .before .before .before .before .before .before .before .loop-test .taken))
 
 loop-again : tie.Need-loop-again Inv-loop μ-loop
 loop-again c = search needs

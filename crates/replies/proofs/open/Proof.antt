@@ -14,8 +14,8 @@ is-short-requires c κs = search needs
 
 returns : tie.Need-returns
 returns c =
-    let a = c .before .before .before .before .before .before .args in
-    let s = store (run (a .values .now) (a .history .now) (a .n .now)) (a .marks .now) in
+    let a = c .before .before .before .before .before .before .before .args in
+    let s = store (run (a .values .now) (a .marks .now) (a .history .now) (a .n .now)) (a .buffer .now) in
     let short = sym (c .before .is-short .ensures) ∙ c .if1 .taken in (
       short-started (a .out .now) s short (isStarted (a .model .now) s),
       short-reply (a .out .now) s short (opening (a .model .now) s),
@@ -42,13 +42,16 @@ same-length-3 c = search needs
 same-length-4 : tie.Need-same-length-4
 same-length-4 c = search needs
 
+same-length-5 : tie.Need-same-length-5
+same-length-5 c = search needs
+
 returns-2 : tie.Need-returns-2
 returns-2 c =
-    let a = c .before .before .before .before .before .before .before .before .before .before .before .before .before .before .before .before .before .before .before .before .before .before .args in
-    let roomy = sym (c .before .before .before .before .before .before .before .before .before .before .before .before .before .before .before .before .before .is-short .ensures) ∙ c .before .before .before .before .before .before .before .before .before .before .before .before .before .before .before .before .if1 .left in
-    let enough = rooms (length (a .out .now)) (length (a .values .now)) (length (a .marks .now)) roomy in
-    let s = store (run (a .values .now) (a .history .now) (a .n .now)) (a .marks .now) in
-    let performed = c .before .before .before .before .before .before .before .before .before .before .before .perform .ensures .0 in (
+    let a = c .before .before .before .before .before .before .before .before .before .before .before .before .before .before .before .before .before .before .before .before .before .before .before .before .before .before .args in
+    let roomy = sym (c .before .before .before .before .before .before .before .before .before .before .before .before .before .before .before .before .before .before .before .before .is-short .ensures) ∙ c .before .before .before .before .before .before .before .before .before .before .before .before .before .before .before .before .before .before .before .if1 .left in
+    let enough = rooms (length (a .out .now)) (length (a .values .now)) (length (a .buffer .now)) roomy in
+    let s = store (run (a .values .now) (a .marks .now) (a .history .now) (a .n .now)) (a .buffer .now) in
+    let performed = c .before .before .before .before .before .before .before .before .before .before .before .before .before .perform .ensures .0 in (
       roomy-started (a .out .now) s roomy (isStarted (a .model .now) s) (start-accepted (a .model .now) s performed (c .is-accepted .ensures)),
       roomy-reply (a .out .now) s roomy (opening (a .model .now) s) (start-reply (a .model .now) s performed) (c .before .before .before .run-line .ensures (omega (arith, enough .0))),
     )
@@ -66,4 +69,5 @@ open-spec =
     same-length-2
     same-length-3
     same-length-4
+    same-length-5
     returns-2)

@@ -13,13 +13,13 @@ use Rattle.run.proofs.fire.Statement.{statement}
 use Rattle.run.proofs.fire.Tie as tie
 
 -- where rounds were answered: the transition fits a byte, and there is room in the history
-fits : (c : tie.After-enum-told) → (c .before .before .before .before .before .before .before .before .before .args .transition < 256) × (c .before .before .before .before .before .before .before .before .before .args .n .now < length (c .before .before .before .before .before .before .before .before .before .args .history .now))
+fits : (c : tie.After-enum-told) → (c .before .before .before .before .before .before .before .before .before .before .before .before .before .args .transition < 256) × (c .before .before .before .before .before .before .before .before .before .before .before .before .before .args .n .now < length (c .before .before .before .before .before .before .before .before .before .before .before .before .before .args .history .now))
 unfolding seen
 fits c =
-    let start = c .before .before .before .before .before .before .before .before .before .args in
-    let called = c .before .before .before .advance in
-    fire-allowed (start .model .now) (c .before .before .before .before .before .before .before .before .shared-slice-known .given)
-    (start .values .now) (called .last .1 .0) (start .history .now) (start .n .now) (start .transition) (seen (called .result))
+    let start = c .before .before .before .before .before .before .before .before .before .before .before .before .before .args in
+    let called = c .before .before .before .before .before .advance in
+    fire-allowed (start .model .now) (c .before .before .before .before .before .before .before .before .before .before .before .before .shared-slice-known .given)
+    (start .values .now) (start .marks .now) (start .history .now) (start .n .now) (start .transition) (seen (called .result)) (called .last .1 .0) (called .last .1 .1 .0)
     (c .enum-told .given .0 .0) (ap seen (c .enum-told .given .1)) (called .ensures)
 
 advance-requires : tie.Need-advance-requires
@@ -35,7 +35,7 @@ slice-write-history : tie.Need-slice-write-history
 slice-write-history c = omega (arith, fits c .1)
 
 add-n : tie.Need-add-n
-add-n c = omega (arith, fits c .1, c .before .before .before .before .before .before .before .before .before .good)
+add-n c = omega (arith, fits c .1, c .before .before .before .before .before .before .before .before .before .before .before .before .before .good)
 
 same-length : tie.Need-same-length
 same-length c = search needs
@@ -43,28 +43,34 @@ same-length c = search needs
 same-length-2 : tie.Need-same-length-2
 same-length-2 c = search needs
 
-returns : tie.Need-returns
-returns c =
-    let start = c .before .before .before .before .before .before .before .before .before .args in
-    let called = c .before .before .before .advance in
-    fire-promised (start .model .now) (c .before .before .before .before .before .before .before .before .shared-slice-known .given)
-    (run (start .values .now) (start .history .now) (start .n .now)) (start .transition) (called .result) _
-    (fire-counted (verdict (start .model .now)) (start .values .now) (called .last .1 .0) (start .history .now) (start .n .now) (called .result)
-    (start .transition) (called .ensures) (c .enum-told .given .0 .0) (c .enum-told .given .1))
-
 same-length-3 : tie.Need-same-length-3
 same-length-3 c = search needs
+
+returns : tie.Need-returns
+returns c =
+    let start = c .before .before .before .before .before .before .before .before .before .before .before .before .before .args in
+    let called = c .before .before .before .before .before .advance in
+    fire-promised (start .model .now) (c .before .before .before .before .before .before .before .before .before .before .before .before .shared-slice-known .given)
+    (run (start .values .now) (start .marks .now) (start .history .now) (start .n .now)) (start .transition) (called .result) _
+    (fire-counted (verdict (start .model .now)) (start .values .now) (start .marks .now) (start .history .now) (start .n .now) (called .result) (called .last .1 .0) (called .last .1 .1 .0)
+    (start .transition) (called .ensures) (c .enum-told .given .0 .0) (c .enum-told .given .1))
 
 same-length-4 : tie.Need-same-length-4
 same-length-4 c = search needs
 
+same-length-5 : tie.Need-same-length-5
+same-length-5 c = search needs
+
+same-length-6 : tie.Need-same-length-6
+same-length-6 c = search needs
+
 returns-2 : tie.Need-returns-2
 returns-2 c =
-    let start = c .before .before .before .before .before .before .before .before .args in
-    let called = c .before .before .advance in
-    fire-promised (start .model .now) (c .before .before .before .before .before .before .before .shared-slice-known .given)
-    (run (start .values .now) (start .history .now) (start .n .now)) (start .transition) (called .result) _
-    (fire-kept (verdict (start .model .now)) (start .values .now) (called .last .1 .0) (start .history .now) (start .n .now) (called .result)
+    let start = c .before .before .before .before .before .before .before .before .before .before .before .before .args in
+    let called = c .before .before .before .before .advance in
+    fire-promised (start .model .now) (c .before .before .before .before .before .before .before .before .before .before .before .shared-slice-known .given)
+    (run (start .values .now) (start .marks .now) (start .history .now) (start .n .now)) (start .transition) (called .result) _
+    (fire-kept (verdict (start .model .now)) (start .values .now) (start .marks .now) (start .history .now) (start .n .now) (called .result) (called .last .1 .0) (called .last .1 .1 .0)
     (start .transition) (called .ensures) (c .match .keys2))
 
 pub fire-spec : {M : Type 1} → statement M
@@ -78,7 +84,9 @@ fire-spec =
     add-n
     same-length
     same-length-2
-    returns
     same-length-3
+    returns
     same-length-4
+    same-length-5
+    same-length-6
     returns-2)

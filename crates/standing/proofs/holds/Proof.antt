@@ -1,4 +1,4 @@
--- The history first, then the values.
+-- The history first, then the marks, then the values.
 use mathlib.Core.Path.{_∙_}
 use borrow.Author.Needs.{needs}
 use Rattle.standing.proofs.Holding.{not-both, both, none-outside, one-outside}
@@ -11,6 +11,12 @@ history-holds-requires c κs = search needs
 returns : tie.Need-returns
 returns c = not-both _ _ _ (c .before .history-holds .ensures) (c .if1 .taken)
 
+all-below-requires : tie.Need-all-below-requires
+all-below-requires c κs = search needs
+
+returns-2 : tie.Need-returns-2
+returns-2 c = not-both _ _ _ (c .before .all-below .ensures) (c .if2 .taken) ∙ both _ _ _ (c .before .before .before .history-holds .ensures) (c .before .before .if1 .left)
+
 check-ranges-requires : tie.Need-check-ranges-requires
 check-ranges-requires c κs = search needs
 
@@ -20,15 +26,17 @@ enum-told c = search needs
 enum-told-2 : tie.Need-enum-told-2
 enum-told-2 c = search needs
 
-returns-2 : tie.Need-returns-2
-returns-2 c =
-    one-outside (c .before .before .check-ranges .ensures .0) _ (c .enum-told .given .1)
-    ∙ both _ _ _ (c .before .before .before .before .history-holds .ensures) (c .before .before .before .if1 .left)
-
 returns-3 : tie.Need-returns-3
 returns-3 c =
+    one-outside (c .before .before .check-ranges .ensures .0) _ (c .enum-told .given .1)
+    ∙ both _ _ _ (c .before .before .before .before .all-below .ensures) (c .before .before .before .if2 .left)
+    ∙ both _ _ _ (c .before .before .before .before .before .before .history-holds .ensures) (c .before .before .before .before .before .if1 .left)
+
+returns-4 : tie.Need-returns-4
+returns-4 c =
     none-outside (c .before .before .check-ranges .ensures .0) (c .enum-told2 .given .1)
-    ∙ both _ _ _ (c .before .before .before .before .history-holds .ensures) (c .before .before .before .if1 .left)
+    ∙ both _ _ _ (c .before .before .before .before .all-below .ensures) (c .before .before .before .if2 .left)
+    ∙ both _ _ _ (c .before .before .before .before .before .before .history-holds .ensures) (c .before .before .before .before .before .if1 .left)
 
 pub holds-spec : {M : Type 1} → statement M
 holds-spec =
@@ -36,8 +44,10 @@ holds-spec =
     (tie.spec
     history-holds-requires
     returns
+    all-below-requires
+    returns-2
     check-ranges-requires
     enum-told
     enum-told-2
-    returns-2
-    returns-3)
+    returns-3
+    returns-4)

@@ -22,16 +22,16 @@ length-of-requires c κs = search needs
 
 returns : tie.Need-returns
 returns c =
-    let a = c .before .before .before .before .before .before .before .before .before .args in
+    let a = c .before .before .before .before .before .before .before .before .before .before .args in
     let r = c .before .respond-first in
-    let s = store (run (a .values .now) (a .history .now) (a .n .now)) (a .marks .now) in
+    let s = store (run (a .values .now) (a .marks .now) (a .history .now) (a .n .now)) (a .buffer .now) in
     let l : length (a .out .now) ≡ lineBytes = search needs in
     let v : length (a .values .now) ≡ maxVariables = search needs in
-    let t : length (a .marks .now) ≡ maxTransitions = search needs in
+    let t : length (a .buffer .now) ≡ maxTransitions = search needs in
     let e =
-    told (a .out .now) (a .dimensions) s l v t (reply (c .before .before .before .before .before .before .before .first .result .now) (a .command) (inUse (a .dimensions) s)) (c .length-of .ensures) (r .ensures .0)
-    ∙ ap (λ m. into (a .out .now) (reply m (a .command) (inUse (a .dimensions) s))) (c .before .before .before .before .before .before .before .first .ensures) in
-    let k = r .kept .1 .1 .1 .1 .1 .1 .1 .0 in
+    told (a .out .now) (a .dimensions) s l v t (reply (c .before .before .before .before .before .before .before .before .first .result .now) (a .command) (inUse (a .dimensions) s)) (c .length-of .ensures) (r .ensures .0)
+    ∙ ap (λ m. into (a .out .now) (reply m (a .command) (inUse (a .dimensions) s))) (c .before .before .before .before .before .before .before .before .first .ensures) in
+    let k = r .kept .1 .1 .1 .1 .1 .1 .1 .1 .0 in
     (e, (r .ensures .1, (k, printed-fits (a .out .now) (reply (take (a .dimensions .bytes) (a .file .now)) (a .command) (inUse (a .dimensions) s)) (k ∙ l) e)))
 
 pub answer-spec : {M : Type 1} → statement M

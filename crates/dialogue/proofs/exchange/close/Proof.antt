@@ -13,7 +13,7 @@ use Rattle.dialogue.proofs.exchange.close.Tie as tie
 returns : tie.Need-returns
 returns c =
     let a = c .before .before .args in
-    let s = inUse (a .dimensions) (store (run (a .values .now) (a .history .now) (a .n .now)) (a .marks .now)) in
+    let s = inUse (a .dimensions) (store (run (a .values .now) (a .marks .now) (a .history .now) (a .n .now)) (a .buffer .now)) in
     (ap (into (a .out .now)) (nothing-begun (take (a .dimensions .bytes) (a .file .now)) s (a .line .bytes) (a .line .length) (c .if1 .taken)), (refl, (refl, omega arith)))
 
 command-requires : tie.Need-command-requires
@@ -24,12 +24,12 @@ answer-requires c κs = search needs
 
 returns-2 : tie.Need-returns-2
 returns-2 c =
-    let a = c .before .before .before .before .before .before .before .before .before .args in
-    let s = inUse (a .dimensions) (store (run (a .values .now) (a .history .now) (a .n .now)) (a .marks .now)) in (
+    let a = c .before .before .before .before .before .before .before .before .before .before .args in
+    let s = inUse (a .dimensions) (store (run (a .values .now) (a .marks .now) (a .history .now) (a .n .now)) (a .buffer .now)) in (
       c .answer .ensures .0
           ∙ ap (into (a .out .now))
-          (begun-closed (take (a .dimensions .bytes) (a .file .now)) s (a .line .bytes) (a .line .length) (c .before .before .before .before .before .before .before .if1 .left)
-          (array-length (a .line .bytes) (c .before .before .before .before .before .before .before .before .before .good .0 .1 .1 .0 .1 .0 .1)) (c .before .before .before .before .before .before .command .ensures)),
+          (begun-closed (take (a .dimensions .bytes) (a .file .now)) s (a .line .bytes) (a .line .length) (c .before .before .before .before .before .before .before .before .if1 .left)
+          (array-length (a .line .bytes) (c .before .before .before .before .before .before .before .before .before .before .good .0 .1 .1 .0 .1 .0 .1)) (c .before .before .before .before .before .before .before .command .ensures)),
       c .answer .ensures .1,
     )
 

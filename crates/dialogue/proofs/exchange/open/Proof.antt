@@ -28,40 +28,44 @@ length-of-requires c κs = search needs
 file-length : (c : tie.After-first-arg) → length (c .before .args .file .now) ≡ fileBytes
 file-length c = search needs
 
-values-length : (c : tie.After-open-first-arg5) → length (c .before .before .before .before .before .before .before .before .args .values .now) ≡ maxVariables
+values-length : (c : tie.After-open-first-arg6) → length (c .before .before .before .before .before .before .before .before .before .args .values .now) ≡ maxVariables
 values-length c = search needs
 
-history-length : (c : tie.After-open-first-arg5) → length (c .before .before .before .before .before .before .before .before .args .history .now) ≡ places
+history-length : (c : tie.After-open-first-arg6) → length (c .before .before .before .before .before .before .before .before .before .args .history .now) ≡ places
 history-length c = search needs
 
-marks-length : (c : tie.After-open-first-arg5) → length (c .before .before .before .before .before .before .before .before .args .marks .now) ≡ maxTransitions
+marks-length : (c : tie.After-open-first-arg6) → length (c .before .before .before .before .before .before .before .before .before .args .marks .now) ≡ maxTransitions
 marks-length c = search needs
 
-out-length : (c : tie.After-open-first-arg5) → length (c .before .before .before .before .before .before .before .before .args .out .now) ≡ lineBytes
+buffer-length : (c : tie.After-open-first-arg6) → length (c .before .before .before .before .before .before .before .before .before .args .buffer .now) ≡ maxTransitions
+buffer-length c = search needs
+
+out-length : (c : tie.After-open-first-arg6) → length (c .before .before .before .before .before .before .before .before .before .args .out .now) ≡ lineBytes
 out-length c = search needs
 
 returns : tie.Need-returns
 returns c =
-    let a = c .before .before .before .before .before .before .before .before .before .before .args in
-    let d = c .before .before .before .before .before .before .before .dimensions-of .result in
+    let a = c .before .before .before .before .before .before .before .before .before .before .before .args in
+    let d = c .before .before .before .before .before .before .before .before .dimensions-of .result in
     let r = c .before .open-first in
-    let s = store (run (a .values .now) (a .history .now) (a .n .now)) (a .marks .now) in
+    let s = store (run (a .values .now) (a .marks .now) (a .history .now) (a .n .now)) (a .buffer .now) in
     let o = out-length (c .before .before) in
     let v = values-length (c .before .before) in
-    let t = marks-length (c .before .before) in
-    let m = c .before .before .before .before .before .before .before .before .first .result .now in
-    let model = c .before .before .before .before .before .before .before .before .first .ensures in
-    let sizes = c .before .before .before .before .before .before .before .dimensions-of .ensures in
-    let long = r .kept .1 .1 .1 .1 .1 .1 .0 ∙ o in
+    let t = buffer-length (c .before .before) in
+    let m = c .before .before .before .before .before .before .before .before .before .first .result .now in
+    let model = c .before .before .before .before .before .before .before .before .before .first .ensures in
+    let sizes = c .before .before .before .before .before .before .before .before .dimensions-of .ensures in
+    let long = r .kept .1 .1 .1 .1 .1 .1 .1 .0 ∙ o in
     let line =
     told (a .out .now) d s o v t (opening m (inUse d s)) (c .length-of .ensures) (r .ensures .1 .0)
     ∙ ap (λ m. into (a .out .now) (opening m (inUse d s))) model in (
       (
-        file-length (c .before .before .before .before .before .before .before .before .before),
-        r .kept .1 .1 .1 .0 ∙ history-length (c .before .before),
+        file-length (c .before .before .before .before .before .before .before .before .before .before),
+        r .kept .1 .1 .1 .1 .0 ∙ history-length (c .before .before),
         long,
         r .kept .1 .1 .0 ∙ v,
-        r .kept .1 .1 .1 .1 .1 .0 ∙ t,
+        r .kept .1 .1 .1 .0 ∙ marks-length (c .before .before),
+        r .kept .1 .1 .1 .1 .1 .1 .0 ∙ t,
       ),
       (
         sizes .1,

@@ -24,15 +24,15 @@ empty-requires c κs = search needs
 
 returns : tie.Need-returns
 returns c =
-    let a = c .before .before .before .before .before .before .before .before .before .before .before .before .args in
+    let a = c .before .before .before .before .before .before .before .before .before .before .before .before .before .args in
     let m = take (a .dimensions .bytes) (a .file .now) in
-    let s = inUse (a .dimensions) (store (run (a .values .now) (a .history .now) (a .n .now)) (a .marks .now)) in
-    let short = kept-short (a .line .bytes) (array-length (a .line .bytes) (c .before .before .before .before .before .before .before .before .before .before .before .before .good .0 .1 .1 .0 .1 .0 .1)) (a .line .length) in
-    let scanned = c .before .before .before .before .before .before .before .before .before .before .scan .ensures in (
+    let s = inUse (a .dimensions) (store (run (a .values .now) (a .marks .now) (a .history .now) (a .n .now)) (a .buffer .now)) in
+    let short = kept-short (a .line .bytes) (array-length (a .line .bytes) (c .before .before .before .before .before .before .before .before .before .before .before .before .before .good .0 .1 .1 .0 .1 .0 .1)) (a .line .length) in
+    let scanned = c .before .before .before .before .before .before .before .before .before .before .before .scan .ensures in (
       scanned .1 .0,
       (
-        ended-into m s (a .out .now) (keptOf (c .before .before .before .before .before .before .before .before .before .before .scan .result .line)) (c .empty .ensures) (c .before .answer .ensures .0) (c .before .before .before .before .before .before .before .command .ensures)
-            (line-answered m (drop (a .from) (a .part .now)) (keptOf (a .line)) s short (scanned .0) (scanned .1 .1) (c .before .before .before .before .before .before .before .before .if1 .taken)),
+        ended-into m s (a .out .now) (keptOf (c .before .before .before .before .before .before .before .before .before .before .before .scan .result .line)) (c .empty .ensures) (c .before .answer .ensures .0) (c .before .before .before .before .before .before .before .before .command .ensures)
+            (line-answered m (drop (a .from) (a .part .now)) (keptOf (a .line)) s short (scanned .0) (scanned .1 .1) (c .before .before .before .before .before .before .before .before .before .if1 .taken)),
         c .before .answer .ensures .1,
       ),
     )
@@ -41,7 +41,7 @@ returns-2 : tie.Need-returns-2
 returns-2 c =
     let a = c .before .before .before .before .args in
     let m = take (a .dimensions .bytes) (a .file .now) in
-    let s = inUse (a .dimensions) (store (run (a .values .now) (a .history .now) (a .n .now)) (a .marks .now)) in
+    let s = inUse (a .dimensions) (store (run (a .values .now) (a .marks .now) (a .history .now) (a .n .now)) (a .buffer .now)) in
     let short = kept-short (a .line .bytes) (array-length (a .line .bytes) (c .before .before .before .before .good .0 .1 .1 .0 .1 .0 .1)) (a .line .length) in
     let scanned = c .before .before .scan .ensures in (
       scanned .1 .0,

@@ -6,7 +6,8 @@ use borrow.Author.Needs.{needs}
 use Rattle.model.specs.declared.Model.{Model}
 use Rattle.decoding.specs.Decoding.{Arrays, arrays}
 use Rattle.standing.specs.Runs.{run}
-use Rattle.steps.specs.Calls.{stepOn, valuesOf}
+use Rattle.steps.specs.Calls.{stepOn}
+use Rattle.steps.specs.Replays.{cellsLeft}
 use Rattle.steps.specs.Answers.{seen}
 use Rattle.decoding.proofs.InUse.{InUse, in-use, part-within}
 use Rattle.steps.proofs.Parts.{refused-file, loaded-parts, on-loaded}
@@ -22,10 +23,10 @@ left c =
     let last = c .before .before .before .before .prepare .last in
     arrays (last .1 .0) (last .1 .1 .0) (last .1 .1 .1 .0) (last .1 .1 .1 .1 .0) (last .1 .1 .1 .1 .1 .0)
 
-used : (c : tie.After-struct-known) → InUse (c .before .before .before .before .before .before .before .before .before .before .before .before .args .model .now) (left c) (model c)
+used : (c : tie.After-struct-known) → InUse (c .before .before .before .before .before .before .before .before .before .before .before .before .before .args .model .now) (left c) (model c)
 used c =
     let prepared = c .before .before .before .before .prepare in
-    in-use (c .before .before .before .before .before .before .before .before .before .before .before .before .args .model .now) (c .before .before .before .before .before .before .before .before .before .before .before .shared-slice-known .given) _ (left c) (prepared .result) (model c) (prepared .ensures) (c .before .before .loaded .given .1)
+    in-use (c .before .before .before .before .before .before .before .before .before .before .before .before .before .args .model .now) (c .before .before .before .before .before .before .before .before .before .before .before .before .shared-slice-known .given) _ (left c) (prepared .result) (model c) (prepared .ensures) (c .before .before .loaded .given .1)
 
 prepare-requires : tie.Need-prepare-requires
 prepare-requires c κs = tt
@@ -68,31 +69,34 @@ slice-aggregate-dispatch-4 c = used (c .before .before .before .before .before) 
 
 dispatch-requires : tie.Need-dispatch-requires
 dispatch-requires c κs =
-    let here = c .before .before .before .before .before .before in
-    let start = c .before .before .before .before .before .before .before .before .before .before .before .before .before .before .before .before .before .before .args in
-    let kinds = c .before .before .before .before .before .kinds-of in
+    let here = c .before .before .before .before .before .before .before in
+    let start = c .before .before .before .before .before .before .before .before .before .before .before .before .before .before .before .before .before .before .before .before .args in
+    let kinds = c .before .before .before .before .before .before .kinds-of in
     loaded-parts (start .model .now) (left here) (model here) (used here) (kinds .result .now) (kinds .ensures)
 
 returns : tie.Need-returns
 unfolding seen
 returns c =
-    let start = c .before .before .before .before .before .before .before .before .before .before .before .args in
+    let start = c .before .before .before .before .before .before .before .before .before .before .before .before .args in
     let prepared = c .before .before .before .prepare in
-    ap valuesOf
+    ap cellsLeft
     (refused-file (start .model .now) _ _ (prepared .result) (c .before .number .given .0 .0) (prepared .ensures) (c .before .number .given .1)
-    (λ m. stepOn m (start .step) (run (start .values .now) (start .history .now) (start .n))) (run (start .values .now) (start .history .now) (start .n)))
+    (λ m. stepOn m (start .step) (run (start .values .now) (start .marks .now) (start .history .now) (start .n))) (run (start .values .now) (start .marks .now) (start .history .now) (start .n)))
 
 same-length : tie.Need-same-length
-same-length c = c .before .dispatch .kept .1 .1 .1 .1 .1 .1 .0
+same-length c = c .before .before .before .dispatch .kept .1 .1 .1 .1 .1 .1 .0
+
+same-length-2 : tie.Need-same-length-2
+same-length-2 c = c .before .before .before .dispatch .kept .1 .1 .1 .1 .1 .1 .1 .0
 
 returns-2 : tie.Need-returns-2
 returns-2 c =
-    let here = c .before .before .before .before .before .before .before .before in
-    let start = c .before .before .before .before .before .before .before .before .before .before .before .before .before .before .before .before .before .before .before .before .args in
-    let kinds = c .before .before .before .before .before .before .before .kinds-of in
-    c .before .dispatch .ensures (loaded-parts (start .model .now) (left here) (model here) (used here) (kinds .result .now) (kinds .ensures))
-    ∙ ap valuesOf (sym (on-loaded (start .model .now) (left here) (model here) (used here) (kinds .result .now) (kinds .ensures)
-    (λ m. stepOn m (start .step) (run (start .values .now) (start .history .now) (start .n))) (run (start .values .now) (start .history .now) (start .n))))
+    let here = c .before .before .before .before .before .before .before .before .before .before .before in
+    let start = c .before .before .before .before .before .before .before .before .before .before .before .before .before .before .before .before .before .before .before .before .before .before .before .before .args in
+    let kinds = c .before .before .before .before .before .before .before .before .before .before .kinds-of in
+    c .before .before .before .dispatch .ensures (loaded-parts (start .model .now) (left here) (model here) (used here) (kinds .result .now) (kinds .ensures))
+    ∙ ap cellsLeft (sym (on-loaded (start .model .now) (left here) (model here) (used here) (kinds .result .now) (kinds .ensures)
+    (λ m. stepOn m (start .step) (run (start .values .now) (start .marks .now) (start .history .now) (start .n))) (run (start .values .now) (start .marks .now) (start .history .now) (start .n))))
 
 pub advance-spec : {M : Type 1} → statement M
 advance-spec =
@@ -114,4 +118,5 @@ advance-spec =
     dispatch-requires
     returns
     same-length
+    same-length-2
     returns-2)

@@ -6,7 +6,8 @@ use lib.ListN.{length-take}
 use lib.Seq.{length-take-le}
 use Rattle.semantics.specs.Firing.{begun}
 use Rattle.decoding.proofs.InUse.{part-within}
-use Rattle.steps.proofs.Slices.{meaning, few-variables, states-within, initial-count, initial-part}
+use Rattle.engine.proofs.Counts.{meaning, few-rows}
+use Rattle.steps.proofs.Slices.{states-within, initial-count, initial-part}
 use Rattle.steps.proofs.moves.begin.Statement.{statement}
 use Rattle.steps.proofs.moves.begin.Tie as tie
 
@@ -19,7 +20,7 @@ slice-aggregate-first-values-2 c = search needs
 
 first-values-requires : tie.Need-first-values-requires
 first-values-requires c κs =
-    let start = c .before .before .before .before .before in omega (arith, length-take (start .args .loaded .sizes .states) (start .args .variables .now), few-variables (start .pre))
+    let start = c .before .before .before .before .before in omega (arith, length-take (start .args .loaded .sizes .states) (start .args .variables .now), few-rows (start .pre))
 
 array-share-prefix-initial : tie.Need-array-share-prefix-initial
 array-share-prefix-initial c =

@@ -1,24 +1,35 @@
 -- `moves::fire` meets its contract.
 use mathlib.Core.Path.{refl}
+use native.Mathlib.Omega.{arith}
+use Rattle.standing.specs.Runs.{run}
+use Rattle.engine.proofs.Counts.{meaning}
 use Rattle.steps.specs.Answers.{seen}
-use Rattle.steps.proofs.Slices.{meaning, short-values, enough-values, unknown-transition, known-transition, stale, held}
-use Rattle.steps.proofs.StepTests.{fire-short, fire-unknown, fire-stale, fire-full, fire-done}
+use Rattle.steps.proofs.Slices.{short-values, enough-values, from-transitions, below-transitions, stale, held}
+use Rattle.steps.proofs.StepTests.{fire-short, fire-few, fire-unknown, fire-stale, fire-full, fire-done}
 use Rattle.steps.proofs.moves.fire.Statement.{statement}
 use Rattle.steps.proofs.moves.fire.Tie as tie
 
 returns : tie.Need-returns
 unfolding seen
 returns c =
-    let start = c .before .before .before .before .before in
-    λ d. fire-short (meaning d) (start .args .values .now) (start .args .history .now) (start .args .n) (start .args .transition) (short-values d (start .args .values .now) (c .if1 .taken))
+    let a = c .before .before .before .before .before .before .args in
+    λ d. fire-short (meaning d) (run (a .values .now) (a .marks .now) (a .history .now) (a .n)) (short-values d (a .values .now) (c .if1 .taken)) (a .transition)
 
 returns-2 : tie.Need-returns-2
 unfolding seen
 returns-2 c =
-    let start = c .before .before .before .before .before .before in
+    let a = c .before .before .before .before .before .before .before .args in
     λ d.
-    fire-unknown (meaning d) (start .args .values .now) (start .args .history .now) (start .args .n) (enough-values d (start .args .values .now) (c .before .if1 .left)) (start .args .transition)
-    (unknown-transition d (start .args .transition) (c .if2 .taken))
+    fire-few (meaning d) (run (a .values .now) (a .marks .now) (a .history .now) (a .n)) (enough-values d (a .values .now) (c .before .if1 .left))
+    (below-transitions d _ (c .if2 .taken)) (a .transition)
+
+returns-3 : tie.Need-returns-3
+unfolding seen
+returns-3 c =
+    let a = c .before .before .before .before .before .before .before .before .args in
+    λ d.
+    fire-unknown (meaning d) (run (a .values .now) (a .marks .now) (a .history .now) (a .n)) (enough-values d (a .values .now) (c .before .before .if1 .left))
+    (from-transitions d _ (c .before .if2 .left)) (a .transition) (from-transitions d (a .transition) (c .if3 .taken))
 
 holds-requires : tie.Need-holds-requires
 holds-requires c κs = tt
@@ -26,45 +37,55 @@ holds-requires c κs = tt
 same-length : tie.Need-same-length
 same-length c = refl
 
-returns-3 : tie.Need-returns-3
-unfolding seen
-returns-3 c =
-    let start = c .before .before .before .before .before .before .before .before .before in
-    let test = c .before .holds in
-    λ d.
-    fire-stale (meaning d) (start .args .values .now) (start .args .history .now) (start .args .n) (enough-values d (start .args .values .now) (c .before .before .before .before .if1 .left)) (start .args .transition)
-    (known-transition d (start .args .transition) (c .before .before .before .if2 .left)) (stale d (start .args .values .now) (start .args .history .now) (start .args .n) (test .result) (test .ensures) (c .if3 .taken))
-
 same-length-2 : tie.Need-same-length-2
 same-length-2 c = refl
 
 returns-4 : tie.Need-returns-4
 unfolding seen
 returns-4 c =
-    let start = c .before .before .before .before .before .before .before .before .before .before in
-    let test = c .before .before .holds in
+    let a = c .before .before .before .before .before .before .before .before .before .before .before .before .args in
+    let r = run (a .values .now) (a .marks .now) (a .history .now) (a .n) in
     λ d.
-    fire-full (meaning d) (start .args .values .now) (start .args .history .now) (start .args .n) (enough-values d (start .args .values .now) (c .before .before .before .before .before .if1 .left)) (start .args .transition)
-    (known-transition d (start .args .transition) (c .before .before .before .before .if2 .left)) (held d (start .args .values .now) (start .args .history .now) (start .args .n) (test .result) (test .ensures) (c .before .if3 .left)) (c .if4 .taken)
-
-fire-requires : tie.Need-fire-requires
-fire-requires c κs = c .before .before .before .before .before .before .before .before .before .before .before .pre
-
-answer-of-requires : tie.Need-answer-of-requires
-answer-of-requires c κs = tt
+    fire-stale (meaning d) r (enough-values d (a .values .now) (c .before .before .before .before .before .before .if1 .left)) (from-transitions d _ (c .before .before .before .before .before .if2 .left)) (a .transition)
+    (below-transitions d (a .transition) (c .before .before .before .before .if3 .left)) (stale d r (c .before .holds .result) (c .before .holds .ensures) (c .if4 .taken))
 
 same-length-3 : tie.Need-same-length-3
-same-length-3 c = c .before .before .fire .kept .1 .1 .1 .1 .1 .1 .0
+same-length-3 c = refl
+
+same-length-4 : tie.Need-same-length-4
+same-length-4 c = refl
 
 returns-5 : tie.Need-returns-5
+unfolding seen
 returns-5 c =
-    let start = c .before .before .before .before .before .before .before .before .before .before .before .before .before .before in
-    let test = c .before .before .before .before .before .before .holds in
-    let called = c .before .before .fire in
+    let a = c .before .before .before .before .before .before .before .before .before .before .before .before .before .args in
+    let r = run (a .values .now) (a .marks .now) (a .history .now) (a .n) in
     λ d.
-    fire-done (meaning d) (start .args .values .now) (start .args .history .now) (start .args .n) (enough-values d (start .args .values .now) (c .before .before .before .before .before .before .before .before .before .if1 .left)) (start .args .transition)
-    (known-transition d (start .args .transition) (c .before .before .before .before .before .before .before .before .if2 .left)) (held d (start .args .values .now) (start .args .history .now) (start .args .n) (test .result) (test .ensures) (c .before .before .before .before .before .if3 .left)) (c .before .before .before .before .if4 .left)
-    (called .result) (called .last .1 .1 .1 .1 .1 .1 .0) (called .ensures d) (seen (c .answer-of .result)) (c .answer-of .ensures)
+    fire-full (meaning d) r (enough-values d (a .values .now) (c .before .before .before .before .before .before .before .if1 .left)) (from-transitions d _ (c .before .before .before .before .before .before .if2 .left)) (a .transition)
+    (below-transitions d (a .transition) (c .before .before .before .before .before .if3 .left)) (held d r (c .before .before .holds .result) (c .before .before .holds .ensures) (c .before .if4 .left)) (c .if5 .taken)
+
+fire-requires : tie.Need-fire-requires
+fire-requires c κs = c .before .before .before .before .before .before .before .before .before .before .before .before .before .before .pre
+
+conclude-requires : tie.Need-conclude-requires
+conclude-requires c κs = (c .before .before .before .before .before .before .before .before .before .before .before .before .before .before .before .before .before .before .pre, (omega (arith, c .before .before .before .before .before .before .before .before .before .before .before .before .if1 .left, c .before .before .before .fire .kept .1 .1 .1 .1 .1 .1 .0), c .before .before .before .before .before .before .before .before .before .before .before .if2 .left))
+
+same-length-5 : tie.Need-same-length-5
+same-length-5 c = c .before .before .before .before .before .before .fire .kept .1 .1 .1 .1 .1 .1 .0
+
+same-length-6 : tie.Need-same-length-6
+same-length-6 c = c .before .before .conclude .kept .1 .1 .1 .1 .1 .1 .1 .1 .0
+
+returns-6 : tie.Need-returns-6
+returns-6 c =
+    let a = c .before .before .before .before .before .before .before .before .before .before .before .before .before .before .before .before .before .before .before .before .before .args in
+    let r = run (a .values .now) (a .marks .now) (a .history .now) (a .n) in
+    let fired = c .before .before .before .before .before .before .fire in
+    let called = c .before .before .conclude in
+    λ d.
+    fire-done (meaning d) r (enough-values d (a .values .now) (c .before .before .before .before .before .before .before .before .before .before .before .before .before .before .before .if1 .left)) (from-transitions d _ (c .before .before .before .before .before .before .before .before .before .before .before .before .before .before .if2 .left))
+    (fired .result) (fired .last .1 .1 .1 .1 .1 .1 .0) (seen (called .result)) (called .last .1 .1 .1 .1 .1 .1 .1 .1 .0) (called .ensures d) (a .transition)
+    (below-transitions d (a .transition) (c .before .before .before .before .before .before .before .before .before .before .before .before .before .if3 .left)) (held d r (c .before .before .before .before .before .before .before .before .before .before .holds .result) (c .before .before .before .before .before .before .before .before .before .before .holds .ensures) (c .before .before .before .before .before .before .before .before .before .if4 .left)) (c .before .before .before .before .before .before .before .before .if5 .left) (fired .ensures d)
 
 pub fire-spec : {M : Type 1} → statement M
 fire-spec =
@@ -72,12 +93,16 @@ fire-spec =
     (tie.spec
     returns
     returns-2
+    returns-3
     holds-requires
     same-length
-    returns-3
     same-length-2
     returns-4
-    fire-requires
-    answer-of-requires
     same-length-3
-    returns-5)
+    same-length-4
+    returns-5
+    fire-requires
+    conclude-requires
+    same-length-5
+    same-length-6
+    returns-6)

@@ -3,7 +3,7 @@ use mathlib.Core.Path.{sym, _∙_}
 use borrow.Author.Tests.{not-true, not-false}
 use lib.ListN.{take}
 use Rattle.steps.specs.Calls.{initial}
-use Rattle.steps.proofs.Slices.{meaning}
+use Rattle.engine.proofs.Counts.{meaning}
 use Rattle.steps.proofs.Refiring.{restart-stops, restart-goes}
 use Rattle.steps.proofs.moves.restart.Statement.{statement}
 use Rattle.steps.proofs.moves.restart.Tie as tie

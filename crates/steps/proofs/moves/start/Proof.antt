@@ -1,29 +1,58 @@
 -- `moves::start` meets its contract.
+use native.Mathlib.Omega.{arith}
+use borrow.Author.Needs.{needs}
+use Rattle.standing.specs.Runs.{run}
+use Rattle.engine.proofs.Counts.{meaning}
 use Rattle.steps.specs.Answers.{seen}
-use Rattle.steps.proofs.Slices.{meaning, short-values, enough-values}
-use Rattle.steps.proofs.StepTests.{start-short, start-done}
+use Rattle.steps.proofs.Slices.{short-values, enough-values, below-transitions, from-transitions}
+use Rattle.steps.proofs.StepTests.{start-short, start-few, start-done}
 use Rattle.steps.proofs.moves.start.Statement.{statement}
 use Rattle.steps.proofs.moves.start.Tie as tie
 
 returns : tie.Need-returns
 unfolding seen
-returns c = λ d history n. start-short (meaning d) (c .before .before .before .before .args .values .now) history n (short-values d (c .before .before .before .before .args .values .now) (c .if1 .taken))
-
-begin-requires : tie.Need-begin-requires
-begin-requires c κs = c .before .before .before .before .before .pre
-
-answer-of-requires : tie.Need-answer-of-requires
-answer-of-requires c κs = tt
-
-same-length : tie.Need-same-length
-same-length c = c .before .before .begin .kept .1 .1 .1 .1 .1 .1 .0
+returns c =
+    let a = c .before .before .before .before .before .args in
+    λ d history n. start-short (meaning d) (run (a .values .now) (a .marks .now) history n) (short-values d (a .values .now) (c .if1 .taken))
 
 returns-2 : tie.Need-returns-2
+unfolding seen
 returns-2 c =
-    let called = c .before .before .begin in
+    let a = c .before .before .before .before .before .before .args in
     λ d history n.
-    start-done (meaning d) (c .before .before .before .before .before .before .before .before .args .values .now) history n (enough-values d (c .before .before .before .before .before .before .before .before .args .values .now) (c .before .before .before .before .if1 .left))
-    (called .result) (called .last .1 .1 .1 .1 .1 .1 .0) (called .ensures d) (seen (c .answer-of .result)) (c .answer-of .ensures)
+    start-few (meaning d) (run (a .values .now) (a .marks .now) history n) (enough-values d (a .values .now) (c .before .if1 .left))
+    (below-transitions d _ (c .if2 .taken))
+
+begin-requires : tie.Need-begin-requires
+begin-requires c κs = search needs
+
+conclude-requires : tie.Need-conclude-requires
+conclude-requires c κs = (c .before .before .before .before .before .before .before .before .before .before .before .pre, (omega (arith, c .before .before .before .before .before .before .if1 .left, c .before .before .before .begin .kept .1 .1 .1 .1 .1 .1 .0), c .before .before .before .before .before .if2 .left))
+
+same-length : tie.Need-same-length
+same-length c = search needs
+
+same-length-2 : tie.Need-same-length-2
+same-length-2 c = search needs
+
+returns-3 : tie.Need-returns-3
+returns-3 c =
+    let a = c .before .before .before .before .before .before .before .before .before .before .before .before .before .before .args in
+    let fired = c .before .before .before .before .before .before .begin in
+    let called = c .before .before .conclude in
+    λ d history n.
+    start-done (meaning d) (run (a .values .now) (a .marks .now) history n) (enough-values d (a .values .now) (c .before .before .before .before .before .before .before .before .before .if1 .left))
+    (from-transitions d _ (c .before .before .before .before .before .before .before .before .if2 .left)) (fired .result) (fired .last .1 .1 .1 .1 .1 .1 .0) (seen (called .result)) (called .last .1 .1 .1 .1 .1 .1 .1 .1 .0)
+    (called .ensures d) (fired .ensures d)
 
 pub start-spec : {M : Type 1} → statement M
-start-spec = tie.close (tie.spec returns begin-requires answer-of-requires same-length returns-2)
+start-spec =
+    tie.close
+    (tie.spec
+    returns
+    returns-2
+    begin-requires
+    conclude-requires
+    same-length
+    same-length-2
+    returns-3)

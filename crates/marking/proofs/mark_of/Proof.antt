@@ -3,9 +3,9 @@ use borrow.Author.Needs.{needs}
 use mir.Syntax.{w32}
 use lib.IntN.{pos}
 use Rattle.evaluation.proofs.Signed.{one-fits, equal-bits, other-bits}
-use Rattle.inspection.specs.Queries.{markOf}
-use Rattle.inspection.proofs.mark_of.Statement.{statement}
-use Rattle.inspection.proofs.mark_of.Tie as tie
+use Rattle.marking.specs.Marks.{markOf}
+use Rattle.marking.proofs.mark_of.Statement.{statement}
+use Rattle.marking.proofs.mark_of.Tie as tie
 
 enum-told : tie.Need-enum-told
 enum-told c = search needs
