@@ -196,25 +196,24 @@ fn is_equal(file: &[u8; Program::FILE_BYTES], bytes: usize, input: &[u8], wanted
         &mut out,
     );
     let begun = with_line(nothing, wanted, &out, opening.length);
-    if opening.is_started {
-        let dimensions = opening.dimensions;
-        let output = answer_all(
-            begun,
-            input,
-            wanted,
-            file,
-            dimensions,
-            &mut values,
-            &mut marks,
-            &mut history,
-            &mut n,
-            &mut buffer,
-            &mut out,
-        );
-        is_whole(output, wanted)
-    } else {
-        is_whole(begun, wanted)
+    if !opening.is_started {
+        return is_whole(begun, wanted);
     }
+    let dimensions = opening.dimensions;
+    let output = answer_all(
+        begun,
+        input,
+        wanted,
+        file,
+        dimensions,
+        &mut values,
+        &mut marks,
+        &mut history,
+        &mut n,
+        &mut buffer,
+        &mut out,
+    );
+    is_whole(output, wanted)
 }
 
 // Stores the first bytes of a model, as gtsrun keeps them of its file; how many.
