@@ -1,4 +1,4 @@
-/* The calls on a run of a guarded transition system, and on a text (libcapi.a, made by `rt staticlib capi`).
+/* The calls on a run of a guarded transition system, on a text and on a model (libcapi.a, made by `rt staticlib capi`).
  *
  * A model is a file of S states, F flows, E events, T transitions and N nodes, lent as bytes to every call. A run is
  *   values   int32_t, at least S + F of them: states, then flows; a Boolean is 0 or 1
@@ -14,6 +14,11 @@
  * gts_text is no call on a run: beside the model it takes a text, bytes of any content, and two slices for its nodes
  *   kinds       uint8_t, at least GTS_TEXT_NODES of them
  *   parameters  int32_t, likewise: those of the same nodes
+ *
+ * gts_synchronise is no call on a run either: from a model and two lists of transitions it writes a model
+ *   mandatory   size_t, numbers of transitions
+ *   optional    size_t, likewise
+ *   out         uint8_t, for the new model; GTS_MAX_BYTES of them are enough for every model
  *
  * Each call answers 0 and its results, or one of the numbers below, and then nothing that was lent has changed, results
  * included. Cells past those in use are neither looked at nor written, but for place n of the history, which gts_fire
@@ -37,9 +42,9 @@ extern "C" {
  * promises more. 1.1: gts_pick answers the lowest. 1.2: gts_text. 1.3: gts_first_outside. 2.0: a run holds its marks, so
  * that showing them works no guard out. gts_start, gts_fire, gts_undo, gts_marks, gts_value and gts_pick are lent them after
  * the values. Each refuses by 10 where they are too short, and each but gts_start by 20 where one of the first T is above 2.
- * gts_marks copies them to `buffer`. */
+ * gts_marks copies them to `buffer`. 2.1: gts_synchronise. */
 #define GTS_VERSION_MAJOR 2
-#define GTS_VERSION_MINOR 0
+#define GTS_VERSION_MINOR 1
 
 /* The largest model. */
 #define GTS_MAX_NODES 4000
@@ -55,9 +60,13 @@ extern "C" {
 #define GTS_SIZES 5        /* of `sizes`; of `values` it is S + F, of `marks` and `buffer` T, of `history` none */
 #define GTS_TEXT_NODES 400 /* of `kinds` and of `parameters`: no text has more nodes */
 
-/* The stack that a call on a run needs, in bytes: the most that was measured is 61,704 (README), rounded up. It does not
+/* The stack that a call on a run needs, in bytes: the most that was measured is 61,656 (README), rounded up. It does not
  * grow with the model: recursion goes by depth, at most GTS_MAX_DEPTH. */
 #define GTS_STACK_BYTES 65536
+
+/* The stack that gts_synchronise needs: the most that was measured is 75,592 (README), rounded up. Recursion goes by depth,
+ * at most GTS_MAX_DEPTH. */
+#define GTS_SYNCHRONISE_STACK_BYTES 81920
 
 /* The stack that gts_text needs: the most that was measured is 110,776 (README), rounded up. Recursion goes by parts of a
  * text that stand in one another, in at most GTS_MAX_TEXT bytes. */
@@ -78,7 +87,7 @@ enum gts_refusal {
     /* what is lent */
     GTS_VALUES_TOO_SHORT = 9,    /* under S + F */
     GTS_SLICE_TOO_SHORT = 10,    /* marks or buffer under T, sizes under GTS_SIZES, kinds or parameters under GTS_TEXT_NODES */
-    GTS_NO_SUCH_TRANSITION = 11, /* T or above */
+    GTS_NO_SUCH_TRANSITION = 11, /* T or above; also a member of a list */
     GTS_NO_SUCH_VARIABLE = 12,   /* S + F or above; also one in a text */
     /* the run */
     GTS_RUN_NOT_VALID = 20,      /* n above the history's length, one of the first n entries T or above, one of the first T marks
@@ -98,7 +107,11 @@ enum gts_refusal {
     /* the text */
     GTS_TEXT_NOT_IN_GRAMMAR = 32,
     GTS_TYPES_DO_NOT_FIT = 33,
-    GTS_TEXT_TOO_LONG_OR_DEEP = 34 /* over GTS_MAX_TEXT bytes; or nodes deeper than GTS_MAX_DEPTH, which is tried last */
+    GTS_TEXT_TOO_LONG_OR_DEEP = 34, /* over GTS_MAX_TEXT bytes; or nodes deeper than GTS_MAX_DEPTH, which is tried last */
+    /* the new model */
+    GTS_NO_MEMBERS = 35,         /* mandatory and optional are both empty */
+    GTS_NEW_MODEL_TOO_LARGE = 36 /* E or T would not fit its byte, N would be above GTS_MAX_NODES, a depth above GTS_MAX_DEPTH, or
+                                    `out` is shorter than the new model */
 };
 
 /* The sizes S F E T N into the first five cells of `sizes`. Refuses by 1 to 8, 10. */
@@ -142,6 +155,16 @@ uint8_t gts_first_outside(const uint8_t *model, size_t len, const int32_t *value
  * sign no node, but it wants a number; a > b and a >= b give b < a and b <= a; != gives not of equal.
  * Refuses by 1 to 8, 34 (too long), 10, 32, 12, 33, 34 (too deep). */
 uint8_t gts_text(const uint8_t *model, size_t len, const uint8_t *text, size_t text_len, uint8_t *kinds, size_t kinds_len, int32_t *parameters, size_t parameters_len, size_t *count);
+
+/* The model with one transition more, for events that happen together: number T, under the new event E. Its guard: the
+ * mandatory guards joined by `and`; where there are none, the optional guards joined by `or`; nested to the right, and one
+ * guard stands alone. Its action: a block of the mandatory actions, then each optional action under its own guard, each in
+ * the order of its list. A transition may be named several times, in both lists too. Variables, the other transitions with
+ * their numbers and events, and the assertion stay. The new model goes into the first `new_len` cells of `out`.
+ * A run goes on under the new model if its marks have a cell for the new transition, with a mark from 0 to 2 in it. That mark
+ * is the guard's once a gts_start, gts_fire or gts_undo is done.
+ * Refuses by 1 to 8, 35, 11 (a member of either list), 36. */
+uint8_t gts_synchronise(const uint8_t *model, size_t len, const size_t *mandatory, size_t mandatory_len, const size_t *optional, size_t optional_len, uint8_t *out, size_t out_len, size_t *new_len);
 
 #ifdef __cplusplus
 }

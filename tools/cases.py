@@ -1,9 +1,10 @@
 #!/usr/bin/env python3
 """cases.py: writes the stored cases of the test programs, from the files of bench/cases.
 
-check_cases: checks.txt and the edges below; call_cases: calls.txt, values.txt, the extremes, the picks, the ranges and the held
-marks below; program_cases: programs.txt; text_cases: texts.txt. The cases of NAME go to crates/NAME/data/cases and the expected
-output to crates/NAME/stdout. The byte format is described in crates/NAME/src/main.rt.
+check_cases: checks.txt and the edges below; call_cases: calls.txt, joined_calls.txt, values.txt, the extremes, the picks, the
+ranges and the held marks below; program_cases: programs.txt; text_cases: texts.txt; join_cases: joins.txt and the edges of joins
+below. The cases of NAME go to crates/NAME/data/cases and the expected output to crates/NAME/stdout. The byte format is described in
+crates/NAME/src/main.rt.
 """
 import os
 from collections import namedtuple
@@ -836,6 +837,204 @@ def stored_texts(path):
     return cases
 
 
+def join_case(file, mandatory, optional, out, answer, new):
+    """A join in a model; `out` is the length and the fill of the slice, `new` the new model, empty where it is refused."""
+    lengths = (len(file), len(mandatory), len(optional), out[0], len(new))
+    header = bytes([answer, out[1]]) + b''.join(little(x, 2) for x in lengths) + bytes(4)
+    return header + file + b''.join(little(k, 8) for k in mandatory + optional) + new
+
+
+def stored_joins(path):
+    """The cases of joins.txt."""
+    cases = []
+    for words in words_of(path):
+        if words[0] == 'model':
+            file = bytes(numbers(words))
+        elif words[0] == 'mandatory':
+            mandatory = numbers(words)
+        elif words[0] == 'optional':
+            optional = numbers(words)
+        elif words[0] == 'out':
+            out = (int(words[1]), int(words[2]))
+        elif words[0] == 'cells':
+            assert length == int(words[1])
+            cases.append(join_case(file, mandatory, optional, out, 0, bytes(numbers(words))))
+        elif words[1] == 'no':
+            cases.append(join_case(file, mandatory, optional, out, int(words[2]), b''))
+        else:
+            length = int(words[2])
+    return cases
+
+
+# A model in parts; each transition is its event, the nodes of its guard and those of its action.
+Parts = namedtuple('Parts', 'states flows events head transitions assertion')
+
+
+def file_of(parts):
+    transitions = [node for event, guard, action in parts.transitions for node in [(5, event)] + guard + action]
+    nodes = parts.head + transitions + parts.assertion
+    return model(parts.states, parts.flows, parts.events, len(parts.transitions), nodes)
+
+
+def nested(operator, guards):
+    return guards[0] if len(guards) == 1 else [(operator, 0)] + guards[0] + nested(operator, guards[1:])
+
+
+def joined(parts, mandatory, optional):
+    """The model with one transition more, for these members."""
+    guards = lambda members: [parts.transitions[k][1] for k in members]
+    guard = nested(36, guards(mandatory)) if mandatory else nested(37, guards(optional))
+    branches = [parts.transitions[k][2] for k in mandatory]
+    branches += [[(18, 0)] + parts.transitions[k][1] + parts.transitions[k][2] for k in optional]
+    new = (parts.events, guard, block(branches))
+    return parts._replace(events=parts.events + 1, transitions=parts.transitions + [new])
+
+
+# More cells than any model needs, so that the slice is not the reason of a refusal.
+ENOUGH = 20480
+
+
+def join_answer(parts, mandatory, optional, answer, cells=ENOUGH, fill=7):
+    """A join that is accepted where the answer is 0."""
+    new = b'' if answer else file_of(joined(parts, mandatory, optional))
+    return join_case(file_of(parts), mandatory, optional, (cells, fill), answer, new)
+
+
+def shop(join):
+    """A Boolean b, a number x from 0 to 5 and a flow that is x. The transitions: b, which clears it; x below 3, which raises it;
+    not b, which sets x to 5; 6 div x = 3, which sets x to 0; true, which sets b and nothing else."""
+    b, x, number = [(34, 0)], [(34, 1)], [(2, 0), (3, 5), (4, 2)]
+    transitions = [
+        (0, b, [(17, 0), (33, 0)]),
+        (1, [(39, 0)] + x + [(32, 3)], [(17, 1), (41, 0)] + join(x, [(32, 1)])),
+        (2, [(35, 0)] + b, [(17, 1), (32, 5)]),
+        (3, [(38, 0)] + join([(44, 0), (32, 6)] + x, [(32, 3)]), [(17, 1), (32, 0)]),
+        (0, [TRUE], [(19, 2)] + join(ASSIGN, [SKIP])),
+    ]
+    return Parts(2, 1, 4, [(1, 1)] + 2 * number, transitions, [(19, 2)] + join([(17, 2)] + x, [SKIP]))
+
+
+SHOP, SHOP_TWIN = both_ways(shop)
+
+
+def with_first(guard, action):
+    """The shop whose first transition has this guard and this action, and whose second has `true` and skip."""
+    return SHOP._replace(transitions=[(0, guard, action), (1, [TRUE], [SKIP])] + SHOP.transitions[2:])
+
+
+def join_lengths():
+    """0, 1, 2, 31, 32, 33 and 60 members of each kind; a guard of two nodes at the first and the last places."""
+    cases = []
+    for m in (0, 1, 2, 31, 32, 33, 60):
+        for n in (0, 1, 2, 31, 32, 33, 60):
+            answer = 35 if m + n == 0 else 36 if m > 32 or m == 0 and n > 32 else 0
+            cases.append(join_answer(SHOP, m * [0], n * [2], 36 if m == 0 and n == 32 else answer))
+            cases.append(join_answer(SHOP_TWIN, m * [0], n * [4], answer))
+    for count in (31, 32):
+        for place in (0, 1, 28, 29, 30, 31)[:count - 26]:
+            members = place * [0] + [2] + (count - 1 - place) * [0]
+            answer = 36 if count == 32 and place >= 30 else 0
+            cases += [join_answer(SHOP, members, [], answer), join_answer(SHOP, [], members, answer), join_answer(SHOP, [0], members, 0)]
+    return cases
+
+
+def join_depths():
+    """Depth 32 and 33: a mandatory guard, an optional guard, a mandatory and an optional action; joined or alone."""
+    nots = lambda depth: (depth - 1) * [(35, 0)] + [(34, 0)]
+    cases = []
+    for depth, members, answer in [
+        (32, [0], 0), (31, [0, 1], 0), (31, [1, 0], 0), (32, [0, 1], 36), (32, [1, 0], 36),
+        (31, [0, 1, 1], 0), (31, [1, 0, 1], 36), (31, [1, 1, 0], 36), (30, [1, 0, 1], 0), (30, [1, 1, 0], 0),
+    ]:
+        cases.append(join_answer(with_first(nots(depth), [SKIP]), members, [], answer))
+    for depth, members, answer in [
+        (30, [0], 0), (31, [0], 36), (30, [1, 1, 0], 0), (30, [1, 1, 0, 1], 36), (30, [1, 0, 1, 1], 0), (29, [1, 1, 0, 1], 0),
+    ]:
+        parts = with_first(nots(depth), [SKIP])
+        cases += [join_answer(parts, [], members, answer), join_answer(parts, [1], members, 36 if depth == 31 else 0)]
+    for depth, mandatory, optional in [(30, 0, 0), (31, 0, 36), (32, 36, 36)]:
+        for action in [
+            (depth - 1) * [(19, 1)] + [SKIP], (depth - 1) * [(18, 0), TRUE] + [SKIP],
+            [(17, 0)] + nots(depth - 1), [(18, 0)] + nots(depth - 1) + [SKIP], (depth - 1) * [(19, 1)] + [(19, 0)],
+        ]:
+            parts = with_first([TRUE], action)
+            cases += [join_answer(parts, [0], [], mandatory), join_answer(parts, [1, 0], [1], mandatory)]
+            cases += [join_answer(parts, [], [0], optional), join_answer(parts, [1], [1, 0], optional)]
+    return cases
+
+
+def join_sizes():
+    """E and T of 254 and 255; new models of 3,999 to 4,001 nodes, with slices up to the longest."""
+    cases = []
+    for events, count in [(254, 1), (255, 1), (254, 254), (255, 254), (254, 255), (1, 255)]:
+        parts = SHOP._replace(events=events, transitions=count * [(0, [TRUE], [SKIP])])
+        answer = 36 if 255 in (events, count) else 0
+        cases += [join_answer(parts, [count - 1], [], answer), join_answer(parts, [], [0], answer)]
+        cases += [join_answer(parts, [], [], 35, 0), join_answer(parts, [0], [count], 11, 0)]
+    filled = lambda skips: SHOP._replace(assertion=block(skips * [[SKIP]]))
+    for mandatory, optional in [([0], []), ([], [3, 1]), ([1], [3, 0])]:
+        # So many skips give the new model exactly 4,000 nodes.
+        skips = 4000 - (len(file_of(joined(filled(0), mandatory, optional))) - 6) // 5
+        for more, answer, cells in [(-1, 0, 20006), (0, 0, 20006), (0, 36, 20005), (1, 36, 20006), (1, 36, ENOUGH)]:
+            cases.append(join_answer(filled(skips + more), mandatory, optional, answer, cells))
+    full = filled(4000 - (len(file_of(filled(0))) - 6) // 5)
+    return cases + [join_answer(full, [0], [], 36), join_answer(full, [], [5], 11), join_answer(full, [], [], 35)]
+
+
+def join_slices():
+    """Slices of exactly the new length, shorter and longer, with each fill."""
+    cases = []
+    for mandatory, optional in [([0], []), ([], [1]), ([3, 2], [0, 0]), ([1, 1, 1], [1])]:
+        length = len(file_of(joined(SHOP, mandatory, optional)))
+        for fill in (0, 19, 255):
+            for cells in (0, 5, 6, len(file_of(SHOP)), length - 5, length - 1):
+                cases.append(join_answer(SHOP, mandatory, optional, 36, cells, fill))
+            for cells in (length, length + 1, length + 5, ENOUGH):
+                cases.append(join_answer(SHOP, mandatory, optional, 0, cells, fill))
+    return cases
+
+
+def join_orders():
+    """1 to 8 before 35, 35 before 11, 11 before 36, in either list and at any place of it."""
+    bad = [
+        (1, bytes(5)), (2, bytes([0, 0, 0, 0, 161, 15])), (3, file_of(SHOP)[:-1]), (4, bytes(6)),
+        (5, file_of(with_first(32 * [(35, 0)] + [TRUE], [SKIP]))), (6, file_of(with_first([SKIP], [SKIP]))),
+        (7, file_of(with_first([(34, 9)], [SKIP]))), (8, model(0, 0, 0, 0, [SKIP, SKIP])),
+    ]
+    cases = []
+    for answer, file in bad:
+        for mandatory, optional in [([], []), ([9], []), ([0], [0]), (60 * [0], [2 ** 64 - 1])]:
+            cases += [join_case(file, mandatory, optional, (cells, 7), answer, b'') for cells in (0, ENOUGH)]
+    for number in (5, 6, 255, 256, 2 ** 16, 2 ** 32, 2 ** 63, 2 ** 64 - 1):
+        lists = [([number], []), ([], [number]), ([number, 0], [0]), ([0, number], [0]), ([0], [number, 0]), ([0], [0, number])]
+        lists += [([number], 60 * [0]), (59 * [0] + [number], []), (60 * [0], 59 * [0] + [number])]
+        cases += [join_answer(SHOP, *both, 11, cells) for both in lists for cells in (0, ENOUGH)]
+    none = Parts(0, 0, 0, [], [], [SKIP])
+    cases += [join_answer(none, [], [], 35), join_answer(none, [0], [], 11), join_answer(none, [], [0], 11)]
+    return cases
+
+
+def join_contents():
+    """Members in any order, twice, in both lists; every kind of node and the ends of its parameters; models without variables."""
+    lists = [([3, 1, 0], []), ([0, 1, 3], []), ([], [2, 1, 0]), ([], [0, 1, 2])]
+    lists += [([4, 4], [4, 4]), ([0], [0]), ([1, 2], [2, 1]), ([4], [3, 2, 1, 0])]
+    cases = [join_answer(parts, *both, 0) for parts in (SHOP, SHOP_TWIN) for both in lists]
+    least, most, x = [(32, -2147483648)], [(32, 2147483647)], [(34, 1)]
+    relation = [(39, 0)] + least + x + [(40, 0)] + x + most
+    guard = [(46, 0), (47, 0), (35, 0), TRUE, (37, 0)] + relation + [(36, 0), (33, 0), (38, 0)] + x + least + [(34, 0)]
+    value = [(41, 0), (42, 0)] + x + least + [(43, 0), (44, 0)] + most + x + [(45, 0), (46, 0), TRUE, (32, -1)] + x + x
+    action = [(19, 4), SKIP, (19, 0), (18, 0), (34, 0), (17, 1)] + value + [(17, 0), (33, 1)]
+    every = with_first(guard, action)
+    cases += [join_answer(every, *both, 0) for both in [([0], []), ([], [0]), ([0, 1], [0, 2]), ([2, 0], [])]]
+    bare = Parts(0, 0, 200, [], [(199, [TRUE], [SKIP]), (7, [(33, 0)], [(19, 0)])], [(19, 0)])
+    return cases + [join_answer(bare, *both, 0) for both in [([0], []), ([], [1]), ([1, 0], [1])]]
+
+
+def join_edges():
+    """Joins at the edges of the rules, with the answers that they demand."""
+    return join_lengths() + join_depths() + join_sizes() + join_slices() + join_orders() + join_contents()
+
+
 def write(crate, cases, output):
     folder = os.path.join(ROOT, 'crates', crate)
     os.makedirs(os.path.join(folder, 'data'), exist_ok=True)
@@ -850,7 +1049,7 @@ def main():
     vectors = lambda name: os.path.join(ROOT, 'bench', 'cases', name)
     checks = stored_checks(vectors('checks.txt')) + edges()
     write('check_cases', checks, f'{len(checks)} cases, 0 differ')
-    lists = stored_calls(vectors('calls.txt')) + stored_values(vectors('values.txt'))
+    lists = stored_calls(vectors('calls.txt')) + stored_calls(vectors('joined_calls.txt')) + stored_values(vectors('values.txt'))
     lists += extremes() + picks() + ranges() + held_marks()
     calls = sum(number for _, number in lists)
     write('call_cases', [each for each, _ in lists], f'{len(lists)} lists, {2 * calls} calls, 0 differ')
@@ -858,6 +1057,8 @@ def main():
     write('program_cases', programs, f'{len(programs)} programs, 0 differ')
     texts = stored_texts(vectors('texts.txt'))
     write('text_cases', texts, f'{len(texts)} texts, 0 differ')
+    joins = stored_joins(vectors('joins.txt')) + join_edges()
+    write('join_cases', joins, f'{len(joins)} joins, 0 differ')
 
 
 main()

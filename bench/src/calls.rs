@@ -1,10 +1,10 @@
-//! The calls on a run as one table, over one set of all that is lent; and the call on a text.
+//! The calls on a run as one table, over one set of all that is lent; and the calls on a text and on two lists of members.
 
 use std::fmt::Debug;
 
 use crate::guarded::{Cell, Guarded};
 
-/// An implementation: the nine C calls with slices for pointers and lengths. Each answers 0 and its results, or
+/// An implementation: the ten C calls with slices for pointers and lengths. Each answers 0 and its results, or
 /// a refusal number and leaves everything lent as it was.
 pub struct Engine {
     pub name: &'static str,
@@ -17,6 +17,7 @@ pub struct Engine {
     pub pick: Pick,
     pub first_outside: FirstOutside,
     pub text: Text,
+    pub synchronise: Synchronise,
 }
 
 pub type Start =
@@ -78,6 +79,14 @@ pub type Text = fn(
     kinds: &mut [u8],
     parameters: &mut [i32],
     count: &mut usize,
+) -> u8;
+
+pub type Synchronise = fn(
+    model: &[u8],
+    mandatory: &[usize],
+    optional: &[usize],
+    out: &mut [u8],
+    length: &mut usize,
 ) -> u8;
 
 /// All that is lent to the calls on a run beside the model, results included, each between guard cells.
@@ -161,6 +170,13 @@ fn part<T: Cell + Debug>(name: &str, one: &Guarded<T>, two: &Guarded<T>) -> Opti
     (one != two).then(|| format!("{name}: {:?} / {:?}", one.cells(), two.cells()))
 }
 
+/// The first cell in which a long part differs.
+fn first_cell<T: Cell + Debug>(name: &str, one: &Guarded<T>, two: &Guarded<T>) -> Option<String> {
+    let mut pairs = one.cells().iter().zip(two.cells()).enumerate();
+    let (place, (one, two)) = pairs.find(|(_, (one, two))| one != two)?;
+    Some(format!("{name}: cell {place} is {one:?} / {two:?}"))
+}
+
 /// All that is lent to the call on a text beside the model, each between guard cells.
 #[derive(Clone, PartialEq)]
 pub struct Typed {
@@ -201,6 +217,63 @@ impl Typed {
             part("kinds", &self.kinds, &other.kinds),
             part("parameters", &self.parameters, &other.parameters),
             part("count", &self.count, &other.count),
+        ]
+        .into_iter()
+        .flatten()
+        .collect()
+    }
+}
+
+/// All that is lent to a join, which is a call of `synchronise`, beside the model, each between guard cells.
+#[derive(Clone, PartialEq)]
+pub struct Join {
+    pub mandatory: Guarded<usize>,
+    pub optional: Guarded<usize>,
+    /// What the new model is written to.
+    pub out: Guarded<u8>,
+    pub length: Guarded<usize>,
+}
+
+impl Join {
+    pub fn new(mandatory: &[usize], optional: &[usize], out: &[u8], length: usize) -> Self {
+        Join {
+            mandatory: Guarded::new(mandatory),
+            optional: Guarded::new(optional),
+            out: Guarded::new(out),
+            length: Guarded::new(&[length]),
+        }
+    }
+
+    pub fn perform(&mut self, engine: &Engine, model: &[u8]) -> u8 {
+        (engine.synchronise)(
+            model,
+            self.mandatory.cells(),
+            self.optional.cells(),
+            self.out.cells_mut(),
+            self.length.get_mut(),
+        )
+    }
+
+    /// The new model, after a join that was accepted.
+    pub fn written(&self) -> &[u8] {
+        let cells = self.out.cells();
+        &cells[..self.length.get().min(cells.len())]
+    }
+
+    pub fn intact(&self) -> bool {
+        self.mandatory.intact()
+            && self.optional.intact()
+            && self.out.intact()
+            && self.length.intact()
+    }
+
+    /// The parts in which two of them differ, in words.
+    pub fn differences(&self, other: &Join) -> Vec<String> {
+        [
+            first_cell("mandatory", &self.mandatory, &other.mandatory),
+            first_cell("optional", &self.optional, &other.optional),
+            first_cell("out", &self.out, &other.out),
+            part("length", &self.length, &other.length),
         ]
         .into_iter()
         .flatten()

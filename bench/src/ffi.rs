@@ -97,6 +97,17 @@ extern "C" {
         parameters_len: usize,
         count: *mut usize,
     ) -> u8;
+    fn gts_synchronise(
+        model: *const u8,
+        len: usize,
+        mandatory: *const usize,
+        mandatory_len: usize,
+        optional: *const usize,
+        optional_len: usize,
+        out: *mut u8,
+        out_len: usize,
+        length: *mut usize,
+    ) -> u8;
 }
 
 /// The library in the form of the calls' table.
@@ -111,6 +122,7 @@ pub const LIBRARY: Engine = Engine {
     pick,
     first_outside,
     text,
+    synchronise,
 };
 
 // In each wrapper the pointers and lengths are those of slices and references that are lent for the call alone.
@@ -303,6 +315,28 @@ pub fn text(
             parameters.as_mut_ptr(),
             parameters.len(),
             count,
+        )
+    }
+}
+
+pub fn synchronise(
+    model: &[u8],
+    mandatory: &[usize],
+    optional: &[usize],
+    out: &mut [u8],
+    length: &mut usize,
+) -> u8 {
+    unsafe {
+        gts_synchronise(
+            model.as_ptr(),
+            model.len(),
+            mandatory.as_ptr(),
+            mandatory.len(),
+            optional.as_ptr(),
+            optional.len(),
+            out.as_mut_ptr(),
+            out.len(),
+            length,
         )
     }
 }

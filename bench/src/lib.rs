@@ -3,6 +3,7 @@
 
 pub mod calls;
 pub mod guarded;
+pub mod joined;
 pub mod model_gen;
 pub mod program;
 pub mod random;

@@ -1,12 +1,14 @@
-//! Random models, damaged files, and all that is lent to lists of calls and to texts.
+//! Random models, damaged files, and all that is lent to lists of calls, to texts and to joins.
 
 mod damage;
+mod joins;
 mod lists;
 mod shapes;
 mod texts;
 mod writer;
 
 pub use damage::damaged;
+pub use joins::{join, joined};
 pub use lists::{calls, store};
 pub use texts::typed;
 

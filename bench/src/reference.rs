@@ -1,16 +1,18 @@
-//! Guarded transition systems: a model file is parsed into a tree, and the calls work on that tree; and texts read as
-//! expressions.
+//! Guarded transition systems: a model file is parsed into a tree, and the calls work on that tree; texts read as
+//! expressions; and models with a transition for events that happen together.
 
 mod evaluation;
 mod instructions;
 mod model;
 mod refusal;
 mod run;
+mod synchronisation;
 mod texts;
 
 pub use model::{Limits, Model, Sizes, Type};
 pub use refusal::Refusal;
 pub use run::{check, check_expression, fire, first_outside, marks, pick, start, undo, value};
+pub use synchronisation::synchronise;
 pub use texts::write_nodes;
 
 use crate::calls::Engine;
@@ -71,6 +73,12 @@ pub const ENGINE: Engine = Engine {
     text: |model, text, kinds, parameters, count| {
         answer(write_nodes(model, text, kinds, parameters), |nodes| {
             *count = nodes;
+            Ok(())
+        })
+    },
+    synchronise: |model, mandatory, optional, out, length| {
+        answer(synchronise(model, mandatory, optional, out), |written| {
+            *length = written;
             Ok(())
         })
     },

@@ -1,11 +1,11 @@
-//! The stored cases under cases/: checks.txt, calls.txt, programs.txt, texts.txt, values.txt. Each line is a word and
-//! decimal numbers.
+//! The stored cases under cases/: checks.txt, calls.txt, joined_calls.txt, programs.txt, texts.txt, values.txt, joins.txt.
+//! Each line is a word and decimal numbers.
 
 use std::iter::Peekable;
 use std::path::Path;
 use std::str::Lines;
 
-use crate::calls::{Call, Store, Typed, TABLE};
+use crate::calls::{Call, Join, Store, Typed, TABLE};
 use crate::guarded::Guarded;
 use crate::reference::Type;
 
@@ -116,6 +116,14 @@ pub struct ValuesCase {
     pub lent: Store,
     pub want: u8,
     pub after: Store,
+}
+
+/// A join in a model, what is lent to it, and what must be answered and lie there afterwards.
+pub struct JoinCase {
+    pub model: Vec<u8>,
+    pub lent: Join,
+    pub want: u8,
+    pub after: Join,
 }
 
 /// A file of the folder cases/.
@@ -400,6 +408,45 @@ fn values_case(source: &mut Source, model: &[u8]) -> ValuesCase {
         other => panic!("what values want: {other:?}"),
     };
     ValuesCase {
+        model: model.to_vec(),
+        lent,
+        want,
+        after,
+    }
+}
+
+pub fn joins(text: &str) -> Vec<JoinCase> {
+    let mut source = Source::new(text);
+    let mut cases = Vec::new();
+    while !source.ended() {
+        let model: Vec<u8> = source.list("model");
+        while source.sees("mandatory") {
+            cases.push(join_case(&mut source, &model));
+        }
+    }
+    cases
+}
+
+fn join_case(source: &mut Source, model: &[u8]) -> JoinCase {
+    /// What the length's cell holds before the call.
+    const LENGTH: usize = 99_999;
+    let mandatory = source.list("mandatory");
+    let optional = source.list("optional");
+    let out: Vec<u8> = source.filled("out");
+    let lent = Join::new(&mandatory, &optional, &out, LENGTH);
+    let mut after = lent.clone();
+    let mut words = source.words("want");
+    let want = match words.next() {
+        Some("length") => {
+            let length: usize = number(words.next());
+            *after.length.get_mut() = length;
+            after.out.cells_mut()[..length].copy_from_slice(&source.list("cells"));
+            0
+        }
+        Some("no") => number(words.next()),
+        other => panic!("what a join wants: {other:?}"),
+    };
+    JoinCase {
         model: model.to_vec(),
         lent,
         want,

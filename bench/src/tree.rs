@@ -167,6 +167,13 @@ impl Instr {
         }
     }
 
+    /// Kinds and parameters in prefix order.
+    pub fn nodes(&self) -> Vec<Node> {
+        let mut nodes = Vec::new();
+        self.write(&mut nodes);
+        nodes
+    }
+
     fn write(&self, nodes: &mut Vec<Node>) {
         match self {
             Instr::Skip => nodes.push((16, 0)),
@@ -293,4 +300,35 @@ pub fn decode(file: &[u8]) -> Option<([u8; 4], Vec<Node>)> {
         .map(|bytes| i32::from_le_bytes(bytes.try_into().expect("four bytes")));
     let nodes = kinds.iter().copied().zip(parameters).collect();
     Some(([states, flows, events, transitions], nodes))
+}
+
+/// A file as its sizes and as text, the branches of blocks and the operands of symmetric operators sorted: two accepted
+/// files are shuffles of each other exactly if this is the same for both.
+pub fn sorted(file: &[u8]) -> Option<([u8; 4], Vec<String>)> {
+    let (sizes, nodes) = decode(file)?;
+    let mut place = 0;
+    let mut parts = Vec::new();
+    while place < nodes.len() {
+        parts.push(sorted_subtree(&nodes, &mut place)?);
+    }
+    Some((sizes, parts))
+}
+
+/// None if a node is missing.
+fn sorted_subtree(nodes: &[Node], place: &mut usize) -> Option<String> {
+    let &(kind, parameter) = nodes.get(*place)?;
+    *place += 1;
+    let count = match kind {
+        5 | 18 | 36..=45 | 47 => 2,
+        17 | 35 => 1,
+        19 => parameter as usize,
+        46 => 3,
+        _ => 0,
+    };
+    let children = (0..count).map(|_| sorted_subtree(nodes, place));
+    let mut children: Vec<String> = children.collect::<Option<_>>()?;
+    if matches!(kind, 19 | 36 | 37 | 38 | 41 | 43 | 47) {
+        children.sort();
+    }
+    Some(format!("{kind},{parameter}({})", children.join(" ")))
 }

@@ -1,5 +1,9 @@
 //! The models and call sequences that are timed.
 
+mod joins;
+
+pub use joins::deep_joins;
+
 use crate::calls::Engine;
 use crate::reference;
 use crate::tree::{Expr, Instr, Model, Operator, Transition, Variable};
@@ -43,6 +47,8 @@ pub enum Work {
     FirstOutside(Option<usize>),
     /// Each text once, accepted or not.
     Text(Vec<String>),
+    /// The model with these mandatory and these optional transitions joined.
+    Synchronise(Vec<usize>, Vec<usize>),
 }
 
 /// A workload with its buffers, to be carried out many times.
@@ -53,6 +59,8 @@ pub struct Prepared<'w> {
     /// What a text's nodes are written to.
     kinds: Vec<u8>,
     parameters: Vec<i32>,
+    /// What a new model is written to.
+    out: Vec<u8>,
 }
 
 #[derive(Clone)]
@@ -184,6 +192,7 @@ impl Workload {
             run,
             kinds: vec![0; 400],
             parameters: vec![0; 400],
+            out: vec![0; 20_006],
         }
     }
 }
@@ -205,7 +214,25 @@ impl Prepared<'_> {
             Work::Pick => run.pick(engine, model),
             Work::FirstOutside(outside) => run.first_outside(engine, model, *outside),
             Work::Text(texts) => self.write_nodes(engine, model, texts),
+            Work::Synchronise(mandatory, optional) => {
+                self.synchronise(engine, model, mandatory, optional)
+            }
         }
+    }
+
+    /// The length and the first cells of the new model, which are its sizes, summed.
+    fn synchronise(
+        &mut self,
+        engine: &Engine,
+        model: &[u8],
+        mandatory: &[usize],
+        optional: &[usize],
+    ) -> u64 {
+        let mut length = 0;
+        let answer = (engine.synchronise)(model, mandatory, optional, &mut self.out, &mut length);
+        assert_eq!(answer, 0, "{} refuses a join", engine.name);
+        let sizes = self.out[..6].iter().map(|&size| u64::from(size));
+        length as u64 + sizes.sum::<u64>()
     }
 
     /// Each text's answer and nodes, summed.
@@ -249,10 +276,18 @@ pub fn all() -> Vec<Workload> {
         COUNTER.to_vec(),
         Work::Text(GUARDS.map(String::from).into()),
     );
-    [vec![check], runs(), undos(), readings(), vec![deep, text]]
-        .into_iter()
-        .flatten()
-        .collect()
+    let others = vec![deep, text];
+    [
+        vec![check],
+        runs(),
+        undos(),
+        readings(),
+        others,
+        joins::timed(),
+    ]
+    .into_iter()
+    .flatten()
+    .collect()
 }
 
 /// Transitions of the model of 4,000 nodes that can be fired again and again.
@@ -389,6 +424,8 @@ pub fn growing() -> Vec<(&'static str, Vec<Workload>)> {
         ("nodes", start.into()),
         ("rounds", rounds.into()),
         ("steps", steps.into()),
+        ("nodes", joins::of_growing_models()),
+        ("members", joins::of_growing_lists()),
     ]
 }
 

@@ -32,7 +32,18 @@ fn checks() {
 
 #[test]
 fn lists_of_calls() {
-    let cases = stored::lists(&stored::text("calls.txt"));
+    assert_eq!(lists_as_stored("calls.txt"), (250, 2 * 3644));
+}
+
+/// On models that a join wrote.
+#[test]
+fn lists_of_calls_after_joins() {
+    assert_eq!(lists_as_stored("joined_calls.txt"), (60, 2 * 817));
+}
+
+/// Every list of a file, with its model and with its twin; gives how many lists and calls there are.
+fn lists_as_stored(name: &str) -> (usize, usize) {
+    let cases = stored::lists(&stored::text(name));
     let mut calls = 0;
     for (place, case) in cases.iter().enumerate() {
         for model in [&case.model, &case.twin] {
@@ -58,7 +69,7 @@ fn lists_of_calls() {
             }
         }
     }
-    assert_eq!((cases.len(), calls), (250, 2 * 3644));
+    (cases.len(), calls)
 }
 
 #[test]
@@ -110,4 +121,19 @@ fn values() {
     let outside = |case: &&stored::ValuesCase| case.after.found.get() == 1;
     let outside = cases.iter().filter(outside).count();
     assert_eq!((cases.len(), accepted, outside), (406, 347, 190));
+}
+
+#[test]
+fn joins() {
+    let cases = stored::joins(&stored::text("joins.txt"));
+    for (place, case) in cases.iter().enumerate() {
+        let mut join = case.lent.clone();
+        let answer = join.perform(&ENGINE, &case.model);
+        assert_eq!(answer, case.want, "join {place}");
+        let wrong = case.after.differences(&join);
+        assert_eq!(wrong, [""; 0], "join {place}");
+        assert!(join.intact(), "join {place}");
+    }
+    let accepted = cases.iter().filter(|case| case.want == 0).count();
+    assert_eq!((cases.len(), accepted), (308, 179));
 }

@@ -4,7 +4,7 @@ use std::path::Path;
 
 use bench::program::gtsrun;
 use bench::reference::{self, ENGINE};
-use bench::workloads::{self, Work};
+use bench::workloads::{self, Work, Workload};
 
 fn rounds(model: &[u8]) -> usize {
     let (mut values, mut marks, mut n) = ([0; 510], [0; 255], 0);
@@ -34,8 +34,10 @@ fn sizes_and_rounds() {
 fn workloads_repeat() {
     let growing = workloads::growing();
     let growing = growing.iter().flat_map(|(_, workloads)| workloads);
-    let nested = workloads::nested_texts();
-    for workload in workloads::all().iter().chain(growing).chain(&nested) {
+    let (nested, deep) = (workloads::nested_texts(), workloads::deep_joins());
+    let workloads = workloads::all();
+    let workloads = workloads.iter().chain(growing).chain(&nested).chain(&deep);
+    for workload in workloads {
         let mut prepared = workload.prepare();
         let first = prepared.perform(&ENGINE);
         assert_eq!(prepared.perform(&ENGINE), first, "{}", workload.name);
@@ -78,6 +80,36 @@ fn texts() {
     }
 }
 
+/// The file that a join workload writes, as a model's sizes.
+fn sizes_after(workload: &Workload) -> [u32; 5] {
+    let Work::Synchronise(mandatory, optional) = &workload.work else {
+        panic!("{} is no join", workload.name);
+    };
+    let mut out = [0; 20_006];
+    let length = reference::synchronise(&workload.model, mandatory, optional, &mut out);
+    let length = length.unwrap_or_else(|refusal| panic!("{}: {refusal:?}", workload.name));
+    let sizes = reference::check(&out[..length]).expect("accepted");
+    sizes.to_array()
+}
+
+/// The joins for the stack have new models of 4,000 nodes; the timed ones have the sizes of their names.
+#[test]
+fn joins() {
+    for workload in workloads::deep_joins() {
+        let sizes = sizes_after(&workload);
+        assert_eq!(sizes, [1, 1, 2, 2, 4_000], "{}", workload.name);
+    }
+    let all = workloads::all();
+    let joins = all.iter().filter(|each| each.name.contains("synchronise"));
+    let sizes: Vec<[u32; 5]> = joins.map(sizes_after).collect();
+    assert_eq!(sizes.len(), 3);
+    let counter = reference::check(workloads::COUNTER).expect("accepted");
+    let transitions = counter.transitions as u32 + 1;
+    assert_eq!(sizes[0][3], transitions);
+    assert_eq!(sizes[1][4], 4_000);
+    assert_eq!(sizes[2], [1, 1, 2, 2, 3_911]);
+}
+
 #[test]
 fn counter_gives_its_transcript() {
     let folder = Path::new(env!("CARGO_MANIFEST_DIR")).join("../examples/counter");
@@ -96,31 +128,7 @@ fn counter_is_reordered_by_exchanges_alone() {
     let folder = Path::new(env!("CARGO_MANIFEST_DIR")).join("../examples/counter");
     let sorted = |name: &str| {
         let file = std::fs::read(folder.join(name)).expect(name);
-        let (sizes, nodes) = bench::tree::decode(&file).expect("a model file");
-        let mut place = 0;
-        let mut parts = Vec::new();
-        while place < nodes.len() {
-            parts.push(sorted_subtree(&nodes, &mut place));
-        }
-        (sizes, parts)
+        bench::tree::sorted(&file).expect("a model file")
     };
     assert_eq!(sorted("model.gts"), sorted("reordered/model.gts"));
-}
-
-/// The subtree as text, the branches of blocks and the operands of symmetric operators sorted.
-fn sorted_subtree(nodes: &[(u8, i32)], place: &mut usize) -> String {
-    let (kind, parameter) = nodes[*place];
-    *place += 1;
-    let count = match kind {
-        5 | 18 | 36..=45 | 47 => 2,
-        17 | 35 => 1,
-        19 => parameter as usize,
-        46 => 3,
-        _ => 0,
-    };
-    let mut children: Vec<String> = (0..count).map(|_| sorted_subtree(nodes, place)).collect();
-    if matches!(kind, 19 | 36 | 37 | 38 | 41 | 43 | 47) {
-        children.sort();
-    }
-    format!("{kind},{parameter}({})", children.join(" "))
 }

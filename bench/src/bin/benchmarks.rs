@@ -80,16 +80,33 @@ fn main() {
         .next()
         .map_or(61, |word| word.parse().expect("a number of samples"));
     let word = arguments.next().unwrap_or_default();
-    let chosen = |workload: &&Workload| workload.name.contains(&word);
-    let (library, reference) = (LIBRARY.name, ENGINE.name);
+    let chosen = |workloads: Vec<Workload>| -> Vec<Workload> {
+        let workloads = workloads.into_iter();
+        workloads
+            .filter(|workload| workload.name.contains(&word))
+            .collect()
+    };
 
+    print_ratios(&chosen(workloads::all()), samples);
+    print_stacks("texts that nest", &chosen(workloads::nested_texts()));
+    print_stacks("joins that nest", &chosen(workloads::deep_joins()));
+    let growing = workloads::growing().into_iter();
+    let growing: Vec<(&str, Vec<Workload>)> = growing
+        .map(|(grows, workloads)| (grows, chosen(workloads)))
+        .collect();
+    print_growth(&growing, samples);
+}
+
+/// Times, their ratio and the stack of each workload.
+fn print_ratios(workloads: &[Workload], samples: usize) {
+    let (library, reference) = (LIBRARY.name, ENGINE.name);
     println!("Medians of {samples} samples, microseconds of processor time; bytes of stack of the deepest call.\n");
     println!(
         "| workload | {library} µs | {reference} µs | {library}/{reference} | {library} stack | {reference} stack |"
     );
     println!("|---|---:|---:|---:|---:|---:|");
     let mut highest: f64 = 0.0;
-    for workload in workloads::all().iter().filter(chosen) {
+    for workload in workloads {
         let medians = measure(workload, samples);
         highest = highest.max(medians.ratio);
         println!(
@@ -103,12 +120,16 @@ fn main() {
         );
     }
     println!("\nHighest ratio: {highest:.2}\n");
+}
 
-    println!("Bytes of stack of texts that nest.\n");
-    println!("| text | {library} stack | {reference} stack |");
+/// The stack of each workload, and the most that the library takes.
+fn print_stacks(what: &str, workloads: &[Workload]) {
+    let (library, reference) = (LIBRARY.name, ENGINE.name);
+    println!("Bytes of stack of {what}.\n");
+    println!("| workload | {library} stack | {reference} stack |");
     println!("|---|---:|---:|");
     let mut most = 0;
-    for workload in workloads::nested_texts().iter().filter(chosen) {
+    for workload in workloads {
         let mut prepared = workload.prepare();
         let results = [&LIBRARY, &ENGINE].map(|engine| prepared.perform(engine));
         assert_eq!(results[0], results[1], "{}: results differ", workload.name);
@@ -117,13 +138,17 @@ fn main() {
         println!("| {} | {one} | {two} |", workload.name);
     }
     println!("\nMost: {most}\n");
+}
 
+/// How the times of workloads of growing size grow.
+fn print_growth(growing: &[(&str, Vec<Workload>)], samples: usize) {
+    let (library, reference) = (LIBRARY.name, ENGINE.name);
     println!("How the costs grow; the factor is to the line before.\n");
     println!("| grows | workload | {library} µs | factor | {reference} µs | factor | {library}/{reference} |");
     println!("|---|---|---:|---:|---:|---:|---:|");
-    for (grows, workloads) in &workloads::growing() {
+    for (grows, workloads) in growing {
         let mut before: Option<Medians> = None;
-        for workload in workloads.iter().filter(chosen) {
+        for workload in workloads {
             let medians = measure(workload, samples);
             let factor = |now: f64, before: Option<f64>| {
                 before.map_or(String::new(), |before| format!("{:.2}", now / before))

@@ -134,7 +134,7 @@ fn history(random: &mut Random, transitions: usize) -> (Vec<u8>, usize) {
 }
 
 /// What cutting a number to 8, 16 or 32 bits takes away; and nearly the largest number.
-const CUT: [usize; 4] = [256, 65_536, 1 << 32, usize::MAX - 1_000];
+pub(super) const CUT: [usize; 4] = [256, 65_536, 1 << 32, usize::MAX - 1_000];
 
 /// The wanted length, often more, at times less, and then often one less.
 fn fitting_length(random: &mut Random, wanted: usize) -> usize {

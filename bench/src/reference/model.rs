@@ -15,7 +15,7 @@ impl Limits {
 }
 
 /// Length of the sizes at the head of a file.
-const HEADER: usize = 6;
+pub(super) const HEADER: usize = 6;
 
 #[derive(Clone, Copy, Debug, PartialEq, Eq)]
 pub enum Type {
@@ -119,6 +119,16 @@ pub enum Instr {
 pub struct Transition {
     pub guard: ExprId,
     pub action: InstrId,
+    pub places: Places,
+}
+
+/// Where a transition's nodes stand in the file: those of its guard from `guard` up to `action`, those of its action
+/// from there up to `end`.
+#[derive(Clone, Copy, Debug)]
+pub struct Places {
+    pub guard: usize,
+    pub action: usize,
+    pub end: usize,
 }
 
 #[derive(Debug)]
@@ -127,6 +137,8 @@ pub struct Model {
     pub variables: Vec<Variable>,
     pub transitions: Vec<Transition>,
     pub assertion: InstrId,
+    /// Where the nodes of the assertion begin.
+    pub assertion_place: usize,
     tree: Tree,
 }
 
@@ -152,6 +164,7 @@ impl Model {
         for _ in 0..sizes.transitions {
             transitions.push(walk.transition(sizes.events)?);
         }
+        let assertion_place = walk.place;
         let assertion = walk.instruction(Context::Assertion, 1)?;
         walk.finish()?;
         Ok(Model {
@@ -159,6 +172,7 @@ impl Model {
             variables: walk.variables,
             transitions,
             assertion,
+            assertion_place,
             tree: walk.tree,
         })
     }
@@ -315,9 +329,20 @@ impl<'a> Walk<'a> {
     fn transition(&mut self, events: usize) -> Result<Transition, Refusal> {
         let event = self.node_of(5)?;
         allow_parameter(usize::try_from(event).is_ok_and(|event| event < events))?;
+        let guard_place = self.place;
         let guard = self.expression(Type::Boolean, 1)?;
+        let action_place = self.place;
         let action = self.instruction(Context::Action, 1)?;
-        Ok(Transition { guard, action })
+        let places = Places {
+            guard: guard_place,
+            action: action_place,
+            end: self.place,
+        };
+        Ok(Transition {
+            guard,
+            action,
+            places,
+        })
     }
 
     fn instruction(&mut self, context: Context, depth: usize) -> Result<InstrId, Refusal> {

@@ -33,6 +33,9 @@ pub enum Refusal {
     TypesDoNotFit = 33,
     /// A text over 200 bytes, or nodes deeper than 32.
     TooLongOrDeep = 34,
+    NoMembers = 35,
+    /// A limit of sizes, nodes or depth, or the slice that is lent for it.
+    NewModelTooLarge = 36,
 }
 
 impl Refusal {

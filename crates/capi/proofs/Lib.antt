@@ -2,5 +2,5 @@
 pub mod Coding
 pub mod Forms
 pub mod Reached
+pub mod Results
 pub mod Sizing
-pub mod Typing

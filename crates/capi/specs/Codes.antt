@@ -13,6 +13,8 @@ use Rattle.standing.specs.Runs.{Answer, Done}
 use Rattle.standing.specs.Runs.Answer.{refused, rounds, done, number, sizes, picked, outside}
 use Rattle.texts.specs.declared.Typed.{Typed}
 use Rattle.texts.specs.declared.Typed.the-variants.{Refused, Nodes}
+use Rattle.synchronisation.specs.declared.Synchronised.{Synchronised}
+use Rattle.synchronisation.specs.declared.Synchronised.the-variants as synchronised
 
 -- the number of the refusal, else 0
 unfoldable pub codeOf : Answer → ℕ
@@ -44,13 +46,17 @@ numberOr old (sizes z) = old
 numberOr old (picked t) = old
 numberOr old (outside x looked) = old
 
+-- a call with one result, over what stood there
+abbrev pub codedResult : {R A B : Type 0} → (R → ℕ) → (B → R → B) → B → Answered R A → Answered ℕ (A × B)
+codedResult code result old d = answered (code (d .answer)) (d .left, result old (d .answer))
+
 -- a call without results: undo, marks
 abbrev pub codedBy : {A : Type 0} → Done A → Answered ℕ A
 codedBy d = answered (codeOf (d .answer)) (d .left)
 
 -- a call whose result is the round count, over what stood there: start, fire
 abbrev pub codedRounds : {A : Type 0} → ℕ → Done A → Answered ℕ (A × ℕ)
-codedRounds old d = answered (codeOf (d .answer)) (d .left, roundsOr old (d .answer))
+codedRounds = codedResult codeOf roundsOr
 
 -- a call whose result is a number, over what stood there: value
 abbrev pub codedNumber : ℤ → Answer → Answered ℕ ℤ
@@ -120,4 +126,18 @@ nodesOr old (Nodes n) = n
 
 -- a call whose result is a count of nodes, over what stood there: text
 abbrev pub codedText : {A : Type 0} → ℕ → Answered Typed A → Answered ℕ (A × ℕ)
-codedText old d = answered (codeOfText (d .answer)) (d .left, nodesOr old (d .answer))
+codedText = codedResult codeOfText nodesOr
+
+-- the answer of synchronise: the number of the refusal, else 0
+unfoldable pub codeOfSynchronised : Synchronised → ℕ
+codeOfSynchronised (synchronised.Refused n) = n
+codeOfSynchronised (synchronised.Length n) = 0
+
+-- the new model's length in bytes, else what stood there
+unfoldable pub lengthOr : ℕ → Synchronised → ℕ
+lengthOr old (synchronised.Refused n) = old
+lengthOr old (synchronised.Length n) = n
+
+-- a call whose result is a length, over what stood there: synchronise
+abbrev pub codedLength : {A : Type 0} → ℕ → Answered Synchronised A → Answered ℕ (A × ℕ)
+codedLength = codedResult codeOfSynchronised lengthOr

@@ -12,7 +12,8 @@ use Rattle.steps.specs.Calls as calls
 use Rattle.inspection.specs.Queries as queries
 use Rattle.run.specs.Promises.{seenCheck}
 use Rattle.texts.specs.Texts.{slices, typedIn}
-use Rattle.capi.specs.Codes.{codedBy, codedRounds, codedNumber, codedSizes, codedPick, codedOutside, codedText}
+use Rattle.synchronisation.specs.Synchronisations.{synchronisedBy}
+use Rattle.capi.specs.Codes.{codedBy, codedRounds, codedNumber, codedSizes, codedPick, codedOutside, codedText, codedLength}
 
 -- the cell of the round count, by the code. 01: "so it is at most F + 1"
 unfoldable pub CellBounded : Verdict → ℕ → ℕ → Type 0
@@ -63,3 +64,7 @@ FirstOutsideCoded m values variable found looked code variable′ found′ looke
 abbrev pub TextCoded : List ℕ → List ℕ → List ℕ → List ℤ → ℕ → ℕ → List ℕ → List ℤ → ℕ → Type 0
 TextCoded m text kinds parameters count code kinds′ parameters′ count′ =
     answered code (slices kinds′ parameters′, count′) ≡ codedText count (typedIn (verdict m) text (slices kinds parameters))
+
+abbrev pub SynchroniseCoded : List ℕ → List ℕ → List ℕ → List ℕ → ℕ → ℕ → List ℕ → ℕ → Type 0
+SynchroniseCoded m mandatory optional out newLength code out′ newLength′ =
+    answered code (out′, newLength′) ≡ codedLength newLength (synchronisedBy (verdict m) mandatory optional out)

@@ -1,13 +1,14 @@
-// The calls on a run and on a text for C: 0 and the results, or the number of the refusal and nothing that was lent changed.
+// The calls on a run, on a text and on a model for C: 0 and the results, or the number of the refusal and nothing that was lent changed.
 
 ghost use mathlib.Core.Path.{_≡_};
 ghost use Rattle.results.specs.Results as results;
 ghost use Rattle.steps.specs.Answers.{seen};
 ghost use Rattle.capi.specs.Codes.{codeOf, roundsOr, numberOr, foundOver};
-ghost use Rattle.capi.specs.Promises.{CheckCoded, StartCoded, FireCoded, UndoCoded, MarksCoded, ValueCoded, PickCoded, FirstOutsideCoded, TextCoded};
+ghost use Rattle.capi.specs.Promises.{CheckCoded, StartCoded, FireCoded, UndoCoded, MarksCoded, ValueCoded, PickCoded, FirstOutsideCoded, TextCoded, SynchroniseCoded};
 use model::Checked;
 use results::Found;
 use steps::Answer;
+use synchronisation::Synchronised;
 use texts::Typed;
 
 // The cells of the sizes S F E T N.
@@ -242,6 +243,27 @@ pub extern "C" fn gts_text(
         Typed::Refused(number) => number,
         Typed::Nodes(written) => {
             *count = written;
+            0
+        }
+    }
+}
+
+// The model with one transition more, which fires others together, with its length in bytes.
+#[no_mangle]
+pub extern "C" fn gts_synchronise(
+    model: &[u8],
+    mandatory: &[usize],
+    optional: &[usize],
+    out: &mut [u8],
+    new_len: &mut usize,
+) -> u8
+    ensures { λ r. ⌜ SynchroniseCoded (now (model .entry)) (now (mandatory .entry)) (now (optional .entry)) (now (out .entry)) (now («new_len» .entry)) r
+        (now (out .exit)) (now («new_len» .exit)) ⌝ }
+{
+    match synchronisation::synchronise(model, mandatory, optional, out) {
+        Synchronised::Refused(number) => number,
+        Synchronised::Length(bytes) => {
+            *new_len = bytes;
             0
         }
     }

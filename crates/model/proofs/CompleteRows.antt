@@ -110,7 +110,7 @@ module _ (ks : List ℕ) (ps : List ℤ) where
 
   -- ---- transitions
 
-  complete-transition : (events : ℕ) (s : Scope) (t : Transition) (at : ℕ) → NodeAt ks ps at 5 (pos (t .event)) → ExpressionAt ks ps (t .guard) (at + 1)
+  pub complete-transition : (events : ℕ) (s : Scope) (t : Transition) (at : ℕ) → NodeAt ks ps at 5 (pos (t .event)) → ExpressionAt ks ps (t .guard) (at + 1)
       → InstructionAt ks ps (t .action) (at + 1 + sizeOfExpression (t .guard)) → GuardedBy events s t
       → transitionAt ks ps events s maxDepth at ≡ found t (at + 1 + sizeOfExpression (t .guard) + sizeOf (t .action))
   unfolding transitionAt transitionRefusal unlessRefused andThen placeOf

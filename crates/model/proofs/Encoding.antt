@@ -96,7 +96,7 @@ read-sized m s h =
 
 -- ---- kinds and parameters
 
-parameters-map : (ns : List Node) → flatMap (λ n. parameterBytes (n .parameter)) ns ≡ flatMap parameterBytes (map (λ n. n .parameter) ns)
+pub parameters-map : (ns : List Node) → flatMap (λ n. parameterBytes (n .parameter)) ns ≡ flatMap parameterBytes (map (λ n. n .parameter) ns)
 unfolding flatMap
 parameters-map [] = refl
 parameters-map (n ∷ ns) = ap (λ r. parameterBytes (n .parameter) ++ r) (parameters-map ns)

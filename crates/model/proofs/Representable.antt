@@ -61,7 +61,7 @@ between-representable low v high l h p q =
     let b = both (leZ least high) (leZ high greatest) (T-true (representable high) h) .1 in
     holds-T (all-true (leZ least v) (leZ v greatest) (leZ-trans least low v (holds-T a) p) (leZ-trans v high greatest q (holds-T b)))
 
-expression-parameters : (sorts : List ℕ) → length sorts ≤ 510 → (e : Expression) (wanted : ℕ) → Sorted sorts wanted e → All Representable (nodesOfExpression e)
+pub expression-parameters : (sorts : List ℕ) → length sorts ≤ 510 → (e : Expression) (wanted : ℕ) → Sorted sorts wanted e → All Representable (nodesOfExpression e)
 unfolding Sorted nodesOfExpression All
 expression-parameters sorts few (numeral v) wanted h = (h .1, tt)
 expression-parameters sorts few (truth v) wanted h = (truth-representable v (h .1), tt)
@@ -82,7 +82,7 @@ instruction-nonempty (assign x e) = omega arith
 instruction-nonempty (ifThen c i) = omega arith
 instruction-nonempty (block is) = omega arith
 
-count-size : (is : Instructions) → count is ≤ sizeOfAll is
+pub count-size : (is : Instructions) → count is ≤ sizeOfAll is
 unfolding count sizeOfAll
 count-size none = omega arith
 count-size (more i is) = omega (arith, instruction-nonempty i, count-size is)
@@ -91,7 +91,7 @@ module _ (s : Scope) (few : length (s .sorts) ≤ 510) (narrow : s .past ≤ 510
   mutual
     unfolding Scoped AllScoped nodesOf nodesOfAll sizeOf sizeOfAll All
 
-    instruction-parameters : (i : Instruction) → Scoped i s → sizeOf i ≤ 4000 → All Representable (nodesOf i)
+    pub instruction-parameters : (i : Instruction) → Scoped i s → sizeOf i ≤ 4000 → All Representable (nodesOf i)
     instruction-parameters skip h z = (tt, tt)
     instruction-parameters (assign x e) h z = (representable-pos x (omega (arith, h .1)), expression-parameters (s .sorts) few e _ (h .2))
     instruction-parameters (ifThen c i) h z =

@@ -37,7 +37,7 @@ operands-size (inCondition x) = omega (arith, operands-size x)
 operands-size (inThen x) = omega (arith, operands-size x)
 operands-size (inElse x) = omega (arith, operands-size x)
 
-operands-depth : {e e′ : Expression} → OperandsExchanged e e′ → depthOfExpression e ≡ depthOfExpression e′
+pub operands-depth : {e e′ : Expression} → OperandsExchanged e e′ → depthOfExpression e ≡ depthOfExpression e′
 unfolding depthOfExpression
 operands-depth (here q) = omega arith
 operands-depth (inNegation x) = omega (arith, operands-depth x)
@@ -94,7 +94,7 @@ mutual
 mutual
   unfolding depthOf depthOfAll
 
-  exchanged-depth : {i i′ : Instruction} → Exchanged i i′ → depthOf i ≡ depthOf i′
+  pub exchanged-depth : {i i′ : Instruction} → Exchanged i i′ → depthOf i ≡ depthOf i′
   exchanged-depth (inAssigned x) = omega (arith, operands-depth x)
   exchanged-depth (inTest x) = omega (arith, operands-depth x)
   exchanged-depth (inBody x) = omega (arith, exchanged-depth x)

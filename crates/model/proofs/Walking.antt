@@ -1,7 +1,7 @@
 -- The laws that the functions of the walk share: one walk after another, the node that is due, walks in a row.
 use mathlib.Core.Path.{_≡_, refl, sym, ap, subst, _∙_}
 use mathlib.Core.Bool.{Bool, true, false, cond}
-use mathlib.Core.List.{List, _∷_}
+use mathlib.Core.List.{List, [], _∷_}
 use Prim.Native.Nat.{ℕ, zero, suc, _+_, _-_, _≤_, _<_}
 use native.Mathlib.Omega.{arith}
 use lib.Dec.{leb}
@@ -130,6 +130,11 @@ branches-row ks ps child = record { join = more; none = λ at. refl; step = λ n
 pub list-row : {A : Type 0} (item : ℕ → Walk A) → RowOf item (rowAt item)
 unfolding rowAt outcome
 list-row item = record { join = _∷_; none = λ at. refl; step = λ n at. refl }
+
+-- a row of one
+pub row-of-one : {A : Type 0} (item : ℕ → Walk A) (at : ℕ) → outcome (item at) ≡ outcome (rowAt item 1 at)
+unfolding rowAt andThen
+row-of-one item at = then-found (item at) (λ a. a ∷ [])
 
 -- `x` is the outcome of the whole row, of which n are left
 module _ {A B : Type 0} {item : ℕ → Walk A} {row : ℕ → ℕ → Walk B} (R : RowOf item row) where

@@ -35,6 +35,10 @@ nodeWidth = 5
 abbrev pub sizeWidth : ℕ
 sizeWidth = 1
 
+-- each of S, F, E, T is below it
+abbrev pub sizeBound : ℕ
+sizeBound = 256
+
 -- the layout of document 01
 abbrev pub byteLayout : Layout
 byteLayout = record { width = sizeWidth; «max_nodes» = maxNodes }

@@ -15,7 +15,7 @@ use Rattle.model.specs.Trees.Expression.{numeral, truth, variable, negat
 use Rattle.model.specs.Trees.Instruction.{skip, assign, ifThen, block}
 use Rattle.model.specs.Trees.Instructions.{none, more}
 use Rattle.model.specs.Nodes.{nodesOfSystem, parameterBytes}
-use Rattle.model.specs.Sizes.{byteLayout, headerBytes, maxNodes}
+use Rattle.model.specs.Sizes.{byteLayout, headerBytes, maxNodes, sizeBound}
 use Rattle.model.specs.Walk.{Scope}
 use Rattle.syntax.specs.Readings.{isTruth}
 use Rattle.model.specs.Check.{actionScope, assertionScope, maxDepth}
@@ -78,10 +78,10 @@ encode t =
 
 -- 01's list, as a whole; the sizes fit their bytes
 pub record WellFormed (t : System) : Type 0 where
-  pub states : length (t .states) < 256
-  pub flows : length (t .flows) < 256
-  pub events : t .events < 256
-  pub transitions : length (t .transitions) < 256
+  pub states : length (t .states) < sizeBound
+  pub flows : length (t .flows) < sizeBound
+  pub events : t .events < sizeBound
+  pub transitions : length (t .transitions) < sizeBound
   pub nodes : length (nodesOfSystem t) ≤ maxNodes
   pub declared : All Declared (variables t)
   pub guarded : All (GuardedBy (t .events) (actionScope (sizesOf t) (variables t))) (t .transitions)

@@ -3,8 +3,8 @@
 ghost use mathlib.Core.Path.{_≡_};
 ghost use Rattle.model.specs.Sizes.{byteLayout, sized};
 ghost use Rattle.model.specs.declared.Sized.the-variants.{Read};
-ghost use Rattle.model.specs.Walk.{outcome};
-ghost use Rattle.model.specs.Check.{walkedIn, verdict, answerOf, sortOf, expressionGiven, givenAnswer};
+ghost use Rattle.model.specs.Walk.{outcome, scopeOf, transitionAt};
+ghost use Rattle.model.specs.Check.{maxDepth, walkedIn, verdict, answerOf, sortOf, expressionGiven, givenAnswer};
 use super::Checked;
 use super::Given;
 use super::Layout;
@@ -89,4 +89,28 @@ pub fn check_over_sorts(kinds: &[u8], parameters: &[i32], sorts: &[u8], wanted: 
             }
         }
     }
+}
+
+// The check of a transition that stands at place `at` among these nodes, over variables of these sorts, the first `states` of
+// them states: the refusal's number, or the place after it.
+pub fn check_transition(
+    kinds: &[u8],
+    parameters: &[i32],
+    sorts: &[u8],
+    events: usize,
+    states: usize,
+    at: usize,
+) -> Walked
+    ensures { λ r. ⌜ r ≡ outcome (transitionAt (now (kinds .entry)) (now (parameters .entry)) events (scopeOf (now (sorts .entry)) 0 states) maxDepth at) ⌝ }
+{
+    let rows = kinds::rows();
+    // As a row of one, so that `transition` keeps its one caller and is compiled into it. F and N are not looked at.
+    let sizes = Sizes {
+        states,
+        flows: 0,
+        events,
+        transitions: 1,
+        nodes: 0,
+    };
+    walk::transitions(&rows, kinds, parameters, sorts, sizes, Cursor { at })
 }

@@ -53,6 +53,9 @@ impl Model {
     // The bytes of each of S, F, E, T.
     pub const SIZE_WIDTH: usize = 1;
 
+    // Each of S, F, E, T is below it.
+    pub const SIZE_BOUND: usize = 256;
+
     // The bytes before the kinds.
     pub const HEADER: usize = 6;
 }

@@ -354,7 +354,7 @@ fn transition(
 }
 
 // All transitions.
-fn transitions(
+pub fn transitions(
     rows: &[u8; 256],
     kinds: &[u8],
     parameters: &[i32],

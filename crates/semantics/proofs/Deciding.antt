@@ -22,15 +22,19 @@ use Rattle.evaluation.specs.Meaning.{operated, negated, chosen, calculated, dec
 use Rattle.evaluation.proofs.Laws.{eqZ-true}
 use Rattle.kinds.specs.Kinds.{booleanSort, kindOf, resultOf}
 use Rattle.syntax.specs.Readings.{isTruth}
+use Rattle.model.specs.declared.Sizes.{Sizes}
 use Rattle.model.specs.Trees.{Expression, Variable, System, variables, sortsOf}
 use Rattle.model.specs.Trees.Expression.{numeral, truth, variable, negation, binary, ifThenElse}
+use Rattle.model.specs.Check.{verdict}
+use Rattle.model.specs.Check.Verdict.{accepted}
 use Rattle.model.specs.WellFormed.{WellFormed, Sorted, Declared}
+use Rattle.model.specs.Theorems.{Bytes}
 use Rattle.model.proofs.CheckExact.{check-exact}
 use Rattle.expressions.specs.Expressions.{Valuation, evaluationOf, evaluate, knownFrom}
 use Rattle.interpreter.specs.Instructions.{isWithin}
 use Rattle.semantics.specs.Meanings.{guardIn, meaningOf}
 use Rattle.semantics.specs.Theorems.{VariableValues, GuardsDecide}
-use Rattle.semantics.proofs.Knowing.{element-below, element-all, known-evaluates}
+use Rattle.semantics.proofs.Knowing.{element-below, element-all, all-known, known-evaluates}
 
 -- ---- evaluations
 
@@ -163,11 +167,19 @@ decided (Value v) u h = by (eqZ v (pos 0)) (eqZ v (pos 1)) refl refl h
     by false true p q k = inr (inr (ap Value (eqZ-true v (pos 1) q)))
     by false false p q k = absurd k
 
+-- any Boolean expression over the variables
+module _ (m : List ℕ) (s : Sizes) (t : System) (b : Bytes m) (e : verdict m ≡ accepted s t) (values : List ℤ) (inside : VariableValues t values) where
+  pub expression-decides : (g : Expression) → Sorted (sortsOf (variables t)) booleanSort g
+      → (evaluate g (knownFrom values) ≡ Failed)
+      ⊎ ((evaluate g (knownFrom values) ≡ Value (boolean false)) ⊎ (evaluate g (knownFrom values) ≡ Value (boolean true)))
+  expression-decides g h =
+      let w = check-exact m b s t .0 e .2 in
+      decided _ (known-evaluates m s t b e .expressions g booleanSort h (knownFrom values) (all-known (variables t) values (inside .long)))
+      (truthful-expression (sortsOf (variables t)) (knownFrom values) (booleans-within t w values inside) g h)
+
 pub guards-decide : GuardsDecide
 unfolding meaningOf guardIn
 guards-decide m s t b e k l values inside =
     let w = check-exact m b s t .0 e .2 in
     let u = element-below (t .transitions) k l in
-    decided _ (known-evaluates m s t b e .guards k l values (inside .long))
-    (rw (u .1) (truthful-expression (sortsOf (variables t)) (knownFrom values) (booleans-within t w values inside) (u .0 .guard)
-    (element-all _ (t .transitions) k (u .0) (w .guarded) (u .1) .guard)))
+    rw (u .1) (expression-decides m s t b e values inside (u .0 .guard) (element-all _ (t .transitions) k (u .0) (w .guarded) (u .1) .guard))

@@ -135,7 +135,7 @@ module _ (vs : List Variable) (σ : Valuation) (known : AllKnown vs σ) where
 
 -- ---- valuations that know every variable
 
-all-known : (vs : List Variable) (values : List ℤ) → length values ≡ length vs → AllKnown vs (knownFrom values)
+pub all-known : (vs : List Variable) (values : List ℤ) → length values ≡ length vs → AllKnown vs (knownFrom values)
 unfolding isKnown
 all-known vs values e x l = rw (element-below values x (omega arith) .1)
 

@@ -2,7 +2,7 @@
 use borrow.Author.Needs.{needs}
 use Rattle.texts.specs.declared.Typed.the-variants.{Refused, Nodes}
 use Rattle.capi.specs.Codes.{codeOfText, nodesOr}
-use Rattle.capi.proofs.Typing.{text-coded}
+use Rattle.capi.proofs.Results.{result-coded}
 use Rattle.capi.proofs.gts_text.Statement.{statement}
 use Rattle.capi.proofs.gts_text.Tie as tie
 
@@ -23,7 +23,7 @@ same-length-2 c = search needs
 
 returns : tie.Need-returns
 unfolding codeOfText nodesOr
-returns c = text-coded (c .before .before .before .before .before .before .before .before .before .before .before .before .args .count .now) (c .before .before .before .before .before .before .write-nodes .ensures) (Refused (c .before .number .given .0 .0)) (c .before .number .given .1)
+returns c = result-coded codeOfText nodesOr (c .before .before .before .before .before .before .before .before .before .before .before .before .args .count .now) (c .before .before .before .before .before .before .write-nodes .ensures) (Refused (c .before .number .given .0 .0)) (c .before .number .given .1)
 
 same-length-3 : tie.Need-same-length-3
 same-length-3 c = search needs
@@ -33,7 +33,7 @@ same-length-4 c = search needs
 
 returns-2 : tie.Need-returns-2
 unfolding codeOfText nodesOr
-returns-2 c = text-coded (c .before .before .before .before .before .before .before .before .before .before .before .before .args .count .now) (c .before .before .before .before .before .before .write-nodes .ensures) (Nodes (c .before .written .given .0 .0)) (c .before .written .given .1)
+returns-2 c = result-coded codeOfText nodesOr (c .before .before .before .before .before .before .before .before .before .before .before .before .args .count .now) (c .before .before .before .before .before .before .write-nodes .ensures) (Nodes (c .before .written .given .0 .0)) (c .before .written .given .1)
 
 pub gts-text-spec : {M : Type 1} → statement M
 gts-text-spec =

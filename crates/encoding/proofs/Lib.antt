@@ -1,0 +1,4 @@
+-- Proofs of crate `encoding`.
+pub mod Tapes
+pub mod Numbers
+pub mod Files
