@@ -34,7 +34,7 @@ use Rattle.marking.specs.Marks.{refreshed}
 use Rattle.marking.proofs.Refreshed.{refreshed-holds, marks-within}
 use Rattle.steps.specs.Calls.{initial, refire, replay}
 use Rattle.run.specs.Theorems.{NoStaleRun}
-use Rattle.steps.proofs.Tests.{clash, by-test, passed, neither, both, each}
+use Rattle.steps.proofs.Tests.{clash, by-test, passed, neither, both, each, below-take}
 use Rattle.steps.proofs.Written.{Complete, rest-written}
 use Rattle.steps.proofs.Ends.{Within, initial-within, act-within, settle-complete, settle-within}
 use Rattle.run.proofs.Replay.{goes-on}
@@ -80,15 +80,6 @@ below-append t [] k h b = both (ltb k t) true b tt
 below-append t (j ∷ ks) k h b =
     let parts : T (ltb j t) × T (allBelow t ks) = each (ltb j t) (allBelow t ks) h in
     both (ltb j t) (allBelow t (ks ++ (k ∷ []))) (parts .0) (below-append t ks k (parts .1) b)
-
-below-take : (t k n : ℕ) (ks : List ℕ) → k ≤ n → T (allBelow t (take n ks)) → T (allBelow t (take k ks))
-unfolding allBelow
-below-take t zero n ks h b = tt
-below-take t (suc k) zero ks h b = absurd (not-suc-le-zero h)
-below-take t (suc k) (suc n) [] h b = tt
-below-take t (suc k) (suc n) (j ∷ ks) h b =
-    let parts : T (ltb j t) × T (allBelow t (take n ks)) = each (ltb j t) (allBelow t (take n ks)) b in
-    both (ltb j t) (allBelow t (take k ks)) (parts .0) (below-take t k n ks (le-of-suc-le-suc h) (parts .1))
 
 -- ---- firing over a meaning
 

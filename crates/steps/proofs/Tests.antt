@@ -1,7 +1,12 @@
--- Tests: by their outcome, and tests made of two.
+-- Tests: by their outcome, tests made of two, and one on every number of a list.
 use mathlib.Core.Path.{_≡_, refl}
 use mathlib.Core.Bool.{Bool, true, false, true≢false, cond, _&&_, _||_}
-use lib.Dec.{T}
+use mathlib.Core.List.{List, [], _∷_}
+use Prim.Native.Nat.{ℕ, zero, suc, _≤_}
+use native.Mathlib.Nat.{le-of-suc-le-suc, not-suc-le-zero}
+use lib.Dec.{T, ltb}
+use lib.ListN.{take}
+use Rattle.standing.specs.Holding.{allBelow}
 
 -- two constructors that are told apart: `cc` proves the premise
 pub clash : {X : Type 0} → true ≡ false → X
@@ -27,3 +32,13 @@ both false b p q = p
 pub each : (a b : Bool) → T (a && b) → T a × T b
 each true b t = (tt, t)
 each false b t = absurd t
+
+-- numbers that are all below t in a beginning of a list are so in a shorter one
+pub below-take : (t k n : ℕ) (ks : List ℕ) → k ≤ n → T (allBelow t (take n ks)) → T (allBelow t (take k ks))
+unfolding allBelow
+below-take t zero n ks h b = tt
+below-take t (suc k) zero ks h b = absurd (not-suc-le-zero h)
+below-take t (suc k) (suc n) [] h b = tt
+below-take t (suc k) (suc n) (j ∷ ks) h b =
+    let parts : T (ltb j t) × T (allBelow t (take n ks)) = each (ltb j t) (allBelow t (take n ks)) b in
+    both (ltb j t) (allBelow t (take k ks)) (parts .0) (below-take t k n ks (le-of-suc-le-suc h) (parts .1))

@@ -3,14 +3,14 @@ use mathlib.Core.Path.{_≡_, refl, ap, fun-ext}
 use mathlib.Core.Bool.{true, false, _&&_, and-eq-true-iff}
 use mathlib.Core.List.{List, [], _∷_}
 use mathlib.Core.Option.{Option, some, none}
-use Prim.Native.Nat.{ℕ, zero, suc, _-_}
+use Prim.Native.Nat.{ℕ, _-_}
 use native.Mathlib.Omega.{arith}
 use borrow.Author.Tests.{ltb-true}
 use lib.Dec.{eqb, leb, ltb}
 use lib.IntN.{ℤ}
 use lib.ListN.{length, take}
-use lib.Seq.{take-take}
 use Rattle.model.specs.Trees.{Transition, System, variables}
+use Rattle.model.proofs.Complete.{T-true}
 use Rattle.semantics.specs.Propagation.{settle}
 use Rattle.semantics.specs.Meanings.{Meaning, meaningOf}
 use Rattle.semantics.specs.Firing.{fired, begun}
@@ -18,17 +18,10 @@ use Rattle.standing.specs.Runs.{Run}
 use Rattle.standing.specs.Runs.Answer.{done}
 use Rattle.standing.specs.Holding.{tooShort, tooFew, holds, allBelow, historyHolds, marksWithin, isNone, firstOutside}
 use Rattle.steps.specs.Calls.{initial, start, goOn, refire, replay, undoneBy, undo}
-use Rattle.steps.proofs.Tests.{clash}
+use Rattle.steps.proofs.Tests.{clash, below-take}
 use Rattle.synchronisation.specs.Synchronisations.{extendedBy, together}
 use Rattle.synchronisation.specs.Theorems.{SameButLastMark, Stays, OldCallsStay}
 use Rattle.synchronisation.proofs.OldTransitions.{same-done, same-tests, fired-stays, accepted-same, by-firing}
-
--- what is below t is so in a beginning
-below-take : (t : ℕ) (ks : List ℕ) (n : ℕ) → allBelow t ks ≡ true → allBelow t (take n ks) ≡ true
-unfolding allBelow
-below-take t ks zero e = refl
-below-take t [] (suc n) e = refl
-below-take t (k ∷ ks) (suc n) e = let h = and-eq-true-iff (ltb k t) (allBelow t ks) .0 e in rw (h .0) (below-take t ks n (h .1))
 
 module _ (t : System) (u : Transition) where
   -- the old meaning and the new one
@@ -50,7 +43,7 @@ module _ (t : System) (u : Transition) where
       let standing = marksWithin T (r .marks) && isNone (firstOutside (variables t) (r .values) 0) in
       let recorded = and-eq-true-iff (historyHolds T n (r .history)) standing .0 e .0 in
       let below = and-eq-true-iff (leb n (length (r .history))) (allBelow T (take n (r .history))) .0 recorded .1 in
-      rw (take-take (n - 1) n (r .history) (omega arith)) at (below-take T (take n (r .history)) (n - 1) below)
+      T-true (allBelow T (take (n - 1) (r .history))) (below-take T (n - 1) n (r .history) (omega arith) (rw below tt))
 
   -- a start comes to the same
   begun-stays : (old : List ℤ) → begun m′ (initial m′) old ≡ begun m (initial m) old
