@@ -38,13 +38,16 @@
 extern "C" {
 #endif
 
-/* The version of this header: the first number rises when a caller must change, the second when a call is added or
- * promises more. 1.1: gts_pick answers the lowest. 1.2: gts_text. 1.3: gts_first_outside. 2.0: a run holds its marks, so
- * that showing them works no guard out. gts_start, gts_fire, gts_undo, gts_marks, gts_value and gts_pick are lent them after
- * the values. Each refuses by 10 where they are too short, and each but gts_start by 20 where one of the first T is above 2.
- * gts_marks copies them to `buffer`. 2.1: gts_synchronise. */
+/* The version of this header: the first number rises when a caller must change, the second when a call is added,
+ * promises more or goes by a changed rule. 1.1: gts_pick answers the lowest. 1.2: gts_text. 1.3: gts_first_outside. 2.0: a
+ * run holds its marks, so that showing them works no guard out. gts_start, gts_fire, gts_undo, gts_marks, gts_value and
+ * gts_pick are lent them after the values. Each refuses by 10 where they are too short, and each but gts_start by 20 where
+ * one of the first T is above 2. gts_marks copies them to `buffer`. 2.1: gts_synchronise. 2.2: an if-then-else whose
+ * branches have one and the same value has it whatever its condition is, and under a failed condition it waits for an
+ * unknown branch: gts_start, gts_fire and gts_undo accept more, and marks, picks, round counts and the numbers of refusals
+ * may be others. */
 #define GTS_VERSION_MAJOR 2
-#define GTS_VERSION_MINOR 1
+#define GTS_VERSION_MINOR 2
 
 /* The largest model. */
 #define GTS_MAX_NODES 4000
@@ -60,7 +63,7 @@ extern "C" {
 #define GTS_SIZES 5        /* of `sizes`; of `values` it is S + F, of `marks` and `buffer` T, of `history` none */
 #define GTS_TEXT_NODES 400 /* of `kinds` and of `parameters`: no text has more nodes */
 
-/* The stack that a call on a run needs, in bytes: the most that was measured is 61,656 (README), rounded up. It does not
+/* The stack that a call on a run needs, in bytes: the most that was measured is 64,536 (README), rounded up. It does not
  * grow with the model: recursion goes by depth, at most GTS_MAX_DEPTH. */
 #define GTS_STACK_BYTES 65536
 

@@ -1,16 +1,18 @@
 #!/usr/bin/env python3
 """cases.py: writes the stored cases of the test programs, from the files of bench/cases.
 
-check_cases: checks.txt and the edges below; call_cases: calls.txt, joined_calls.txt, values.txt, the extremes, the picks, the
-ranges and the held marks below; program_cases: programs.txt; text_cases: texts.txt; join_cases: joins.txt and the edges of joins
-below. The cases of NAME go to crates/NAME/data/cases and the expected output to crates/NAME/stdout. The byte format is described in
-crates/NAME/src/main.rt.
+check_cases: checks.txt and the edges below; call_cases: those of CALL_FILES, values.txt, the extremes, the picks, the ranges, the
+held marks and the conditionals below; program_cases: those of PROGRAM_FILES; text_cases: texts.txt; join_cases: joins.txt and the
+edges of joins below. The cases of NAME go to crates/NAME/data/cases and the expected output to crates/NAME/stdout. The byte format
+is described in crates/NAME/src/main.rt.
 """
 import os
 from collections import namedtuple
 
 ROOT = os.path.dirname(os.path.dirname(os.path.abspath(__file__)))
 BOOLEAN, NUMBER = 1, 2
+CALL_FILES = ['calls.txt', 'earlier_calls.txt', 'joined_calls.txt']
+PROGRAM_FILES = ['programs.txt', 'earlier_programs.txt']
 
 
 def little(number, width):
@@ -303,7 +305,7 @@ def stored_store(part):
 
 
 def stored_calls(path):
-    """The lists of calls.txt, each with its number of calls."""
+    """The lists of one of CALL_FILES, each with its number of calls."""
     lists, part, calls = [], {}, []
     for words in words_of(path):
         if words[0] == 'call':
@@ -344,10 +346,37 @@ def stored_values(path):
 
 ASSIGN = [(17, 0), TRUE]
 TOGGLE = [(17, 0), (35, 0), (34, 0)]
+ONE_OVER_ZERO = [(44, 0), (32, 1), (32, 0)]
+
+
+def equals(join, expression, number):
+    return [(38, 0)] + join(expression, [(32, number)])
+
+
+def failed_condition(join):
+    return equals(join, ONE_OVER_ZERO, 1)
+
+
+def conditional(condition, chosen, other):
+    """An if-then-else."""
+    return [(46, 0)] + condition + chosen + other
+
+
+def assignment(variable, expression):
+    return [(17, variable)] + expression
+
+
+def when(condition, instruction):
+    return [(18, 0)] + condition + instruction
 
 
 def block(branches):
     return [(19, len(branches))] + [node for branch in branches for node in branch]
+
+
+def transition_nodes(guards, actions):
+    """Transitions of event 0."""
+    return [node for guard, action in zip(guards, actions) for node in [(5, 0)] + guard + action]
 
 
 def stepped(action, twin, rounds=1, assertion=[SKIP], other=[SKIP], flows=0):
@@ -460,7 +489,7 @@ def extremes():
     choice = 30 * [(46, 0), (34, 0), TRUE] + [(34, 0)]
     both = 30 * [(36, 0), (34, 0)] + [TRUE]
     crossed = 30 * [(36, 0)] + [TRUE] + 30 * [(34, 0)]
-    failed = [(38, 0), (32, 0), (44, 0), (32, 1), (32, 0)]
+    failed = [(38, 0), (32, 0)] + ONE_OVER_ZERO
     return [
         stepped(block(3989 * skips + [ASSIGN]), block([ASSIGN] + 3989 * skips)),
         stepped(block(1990 * [ASSIGN]), block(1990 * [ASSIGN])),
@@ -487,8 +516,7 @@ def extremes():
 
 def guarded_by(head, guards, action):
     """A model with one state and a transition for each guard, all with this action."""
-    transitions = [node for guard in guards for node in [(5, 0)] + guard + action]
-    return model(1, 0, 1, len(guards), head + transitions + [SKIP])
+    return model(1, 0, 1, len(guards), head + transition_nodes(guards, len(guards) * [action]) + [SKIP])
 
 
 def lowest():
@@ -699,15 +727,15 @@ def refusing(first, join):
     """A number x from 0 to 5 and a flow. Transitions 0 to 7 are refused by 23 to 30, transition 8 sets x to 4; a start with x at
     1, 2, 3 is refused by 28, 29, 30."""
     number = lambda first: [(2, 0), (3, 5), (4, first)]
-    failed, one = [(44, 0), (32, 1), (32, 0)], [(32, 1)]
-    state, flow = lambda k: [(17, 0), (32, k)], lambda k: [(17, 1), (32, k)]
+    state, flow = lambda k: assignment(0, [(32, k)]), lambda k: assignment(1, [(32, k)])
     both = lambda a, b: [(19, 2)] + join(a, b)
-    where = lambda k, body: [(18, 0), (38, 0)] + join([(34, 0)], [(32, k)]) + body
-    guards = [[(33, 0)], [(38, 0)] + join(failed, one)] + 7 * [[TRUE]]
-    actions = [[SKIP], [SKIP], [(17, 0)] + failed, state(9), both(state(1), state(2)), state(1), state(2), state(3), state(4)]
-    transitions = [node for guard, action in zip(guards, actions) for node in [(5, 0)] + guard + action]
+    where = lambda k, body: when(equals(join, [(34, 0)], k), body)
+    guards = [[(33, 0)], failed_condition(join)] + 7 * [[TRUE]]
+    failed = assignment(0, ONE_OVER_ZERO)
+    actions = [[SKIP], [SKIP], failed, state(9), both(state(1), state(2)), state(1), state(2), state(3), state(4)]
     faults = where(2, flow(9)), where(3, both(flow(1), flow(2)))
-    return model(1, 1, 1, 9, number(first) + number(0) + transitions + both(where(1, [(17, 1)] + failed), both(*faults)))
+    assertion = both(where(1, assignment(1, ONE_OVER_ZERO)), both(*faults))
+    return model(1, 1, 1, 9, number(first) + number(0) + transition_nodes(guards, actions) + assertion)
 
 
 def refused_on_made_up():
@@ -795,8 +823,320 @@ def held_marks():
     ]
 
 
+# The sort of a conditional: a variable of it, the kind of its constants, two values; and nodes that give the first of these too: an
+# operator over two constants.
+Sort = namedtuple('Sort', 'variable constant same other again')
+NUMBERS = Sort([(2, 0), (3, 9), (4, 0)], 32, 4, 7, (41, 1, 3))
+TRUES = Sort([FLAG], 33, 1, 0, (37, 0, 1))
+FALSES = Sort([FLAG], 33, 0, 1, (36, 1, 0))
+
+# The three states of a model with a conditional, and its flows. FIRST becomes true in the first round; LATER becomes true and BRANCH
+# gets the value `same` in the second.
+PLACE, CLASHES, KEPT, RESULT, BRANCH, LATER, FIRST, CLASH = range(8)
+
+
+def condition_nodes(join, tree):
+    """A condition: a word, or three conditions for an if-then-else."""
+    if isinstance(tree, tuple):
+        return conditional(*[condition_nodes(join, part) for part in tree])
+    return {'true': [(33, 1)], 'false': [(33, 0)], 'unknown': [(34, LATER)], 'failed': failed_condition(join)}[tree]
+
+
+def branch_nodes(join, sort, tree):
+    """A branch: a word, or a condition and two branches for an if-then-else."""
+    if isinstance(tree, tuple):
+        return conditional(condition_nodes(join, tree[0]), *[branch_nodes(join, sort, part) for part in tree[1:]])
+    constant = lambda value: [(sort.constant, value)]
+    operator, one, two = sort.again
+    words = {
+        'same': constant(sort.same),
+        'again': [(operator, 0)] + join(constant(one), constant(two)),
+        'other': constant(sort.other),
+        'unknown': [(34, BRANCH)],
+        'failed': ONE_OVER_ZERO if sort == NUMBERS else failed_condition(join),
+    }
+    return words[tree]
+
+
+def has_value(join, sort, nodes, value):
+    """Whether an expression has this value; unknown or failed where the expression is."""
+    if sort == NUMBERS:
+        return equals(join, nodes, value)
+    return nodes if value else [(35, 0)] + nodes
+
+
+def conditional_transitions(join, nodes, test, constant):
+    """0 and 1: to place 1, to place 2; 2 and 3: the same with a clash; 4: a guard; 5 and 6: actions, assigned and as a condition."""
+    to = lambda place: assignment(PLACE, [(32, place)])
+    clashing = lambda place: [(19, 2)] + join(to(place), assignment(CLASHES, [TRUE]))
+    actions = [to(1), to(2), clashing(1), clashing(2), [SKIP], assignment(KEPT, nodes), when(test, assignment(KEPT, constant))]
+    return transition_nodes(4 * [[TRUE]] + [test] + 2 * [[TRUE]], actions)
+
+
+def conditional_model(join, sort, tree, value):
+    """A model with a conditional. Where PLACE is 1 the assertion assigns it to a flow, where PLACE is 2 this value if the conditional
+    has it. Where CLASHES is true, another flow gets two values in the second round."""
+    nodes, constant = branch_nodes(join, sort, tree), [(sort.constant, value)]
+    test = has_value(join, sort, nodes, value)
+    at_place = lambda place, body: when(equals(join, [(34, PLACE)], place), body)
+    clash = [(19, 2)] + join(assignment(CLASH, [(33, 0)]), assignment(CLASH, [(33, 1)]))
+    branches = [
+        assignment(FIRST, [TRUE]),
+        assignment(LATER, [(34, FIRST)]),
+        when([(34, FIRST)], assignment(BRANCH, [(sort.constant, sort.same)])),
+        at_place(1, assignment(RESULT, nodes)),
+        at_place(2, when(test, assignment(RESULT, constant))),
+        when([(36, 0)] + join([(34, CLASHES)], [(34, FIRST)]), clash),
+    ]
+    head = [(2, 0), (3, 2), (4, 0), FLAG] + 3 * sort.variable + 3 * [FLAG]
+    transitions = conditional_transitions(join, nodes, test, constant)
+    return model(3, 5, 1, 7, head + transitions + block(join(branches[:2], branches[2:])))
+
+
+def conditional_list(sort, tree, at_first, at_last):
+    """Calls on a model with a conditional that is this in the first round, and this once LATER and BRANCH are known."""
+    fails, value = at_last == 'failed', sort.other if at_last == 'other' else sort.same
+    files = both_ways(lambda join: conditional_model(join, sort, tree, value))
+    store = Store([2, 1, 0, 0, 0, 0, 0, 1], 7 * [2], [4, 5, 6, 0, 1, 9], 5, 7 * [9])
+
+    def left(n, place, state, result):
+        marks = [1, 1, 1, 1, 2 if fails else 1, 1, 1]
+        return store._replace(values=[place, 0, state, result, sort.same, 1, 1, 0], marks=marks, n=n)
+
+    begun, rounds = left(0, 0, 0, 0), 4 if at_first == 'unknown' else 3
+    if fails:
+        calls = [(('back',), ('no', 31), store), (('start',), ('ok', 3), begun)]
+        calls += kept(begun, [(('fire', t), ('no', number)) for t, number in ((4, 24), (5, 25), (6, 25), (0, 28), (1, 28))])
+    else:
+        calls = [
+            (('back',), ('done',), left(4, 1, value, value)),
+            (('start',), ('ok', 3), begun),
+            (('fire', 4), ('ok', 3), left(1, 0, 0, 0)),
+            (('fire', 5), ('ok', 3), left(2, 0, value, 0)),
+            (('fire', 6), ('ok', 3), left(3, 0, value, 0)),
+            (('fire', 0), ('ok', rounds), left(4, 1, value, value)),
+            (('fire', 1), ('ok', rounds), left(5, 2, value, value)),
+        ]
+    clashing = ('no', 28 if at_first == 'failed' else 30)
+    calls += kept(calls[-1][2], [(('fire', 2), clashing), (('fire', 3), clashing), (('pick',), ('pick', 0))])
+    return listed(files, store, calls)
+
+
+# Conditionals: the condition and the branches, what they are in the first round, and what they are when all is known. `unknown` is LATER
+# in a condition, which becomes true, and BRANCH in a branch, which becomes `same`.
+CONDITIONALS = [
+    # A known condition chooses, and the other branch is not looked at.
+    (('true', 'same', 'other'), 'same', 'same'),
+    (('true', 'same', 'failed'), 'same', 'same'),
+    (('true', 'same', 'unknown'), 'same', 'same'),
+    (('true', 'failed', 'same'), 'failed', 'failed'),
+    (('true', 'unknown', 'other'), 'unknown', 'same'),
+    (('false', 'same', 'other'), 'other', 'other'),
+    (('false', 'failed', 'other'), 'other', 'other'),
+    (('false', 'unknown', 'other'), 'other', 'other'),
+    (('false', 'same', 'failed'), 'failed', 'failed'),
+    (('false', 'other', 'unknown'), 'unknown', 'same'),
+    # An unknown condition: the value that both branches have, else unknown.
+    (('unknown', 'same', 'same'), 'same', 'same'),
+    (('unknown', 'same', 'again'), 'same', 'same'),
+    (('unknown', 'again', 'same'), 'same', 'same'),
+    (('unknown', 'same', 'other'), 'unknown', 'same'),
+    (('unknown', 'other', 'same'), 'unknown', 'other'),
+    (('unknown', 'same', 'unknown'), 'unknown', 'same'),
+    (('unknown', 'unknown', 'same'), 'unknown', 'same'),
+    (('unknown', 'unknown', 'unknown'), 'unknown', 'same'),
+    (('unknown', 'same', 'failed'), 'unknown', 'same'),
+    (('unknown', 'failed', 'same'), 'unknown', 'failed'),
+    (('unknown', 'failed', 'unknown'), 'unknown', 'failed'),
+    (('unknown', 'unknown', 'failed'), 'unknown', 'same'),
+    (('unknown', 'failed', 'failed'), 'unknown', 'failed'),
+    # A failed condition: the value that both branches have; unknown if a branch is; else failed.
+    (('failed', 'same', 'same'), 'same', 'same'),
+    (('failed', 'same', 'again'), 'same', 'same'),
+    (('failed', 'again', 'same'), 'same', 'same'),
+    (('failed', 'same', 'unknown'), 'unknown', 'same'),
+    (('failed', 'unknown', 'same'), 'unknown', 'same'),
+    (('failed', 'other', 'unknown'), 'unknown', 'failed'),
+    (('failed', 'unknown', 'other'), 'unknown', 'failed'),
+    (('failed', 'unknown', 'unknown'), 'unknown', 'same'),
+    (('failed', 'failed', 'unknown'), 'unknown', 'failed'),
+    (('failed', 'unknown', 'failed'), 'unknown', 'failed'),
+    (('failed', 'same', 'other'), 'failed', 'failed'),
+    (('failed', 'same', 'failed'), 'failed', 'failed'),
+    (('failed', 'failed', 'same'), 'failed', 'failed'),
+    (('failed', 'failed', 'failed'), 'failed', 'failed'),
+]
+
+# The same for conditionals in one another.
+NESTED_CONDITIONALS = [
+    # Branches agree inside.
+    (('true', ('unknown', 'same', 'again'), 'other'), 'same', 'same'),
+    (('false', 'failed', ('failed', 'other', 'other')), 'other', 'other'),
+    # Outside.
+    (('unknown', ('true', 'same', 'other'), ('false', 'other', 'again')), 'same', 'same'),
+    (('failed', ('true', 'same', 'failed'), 'again'), 'same', 'same'),
+    # Inside and outside.
+    (('unknown', ('unknown', 'same', 'again'), 'same'), 'same', 'same'),
+    (('failed', ('unknown', 'same', 'same'), ('failed', 'again', 'same')), 'same', 'same'),
+    # The one inside waits.
+    (('unknown', ('unknown', 'same', 'other'), 'same'), 'unknown', 'same'),
+    (('failed', ('unknown', 'same', 'other'), 'same'), 'unknown', 'same'),
+    (('failed', 'same', ('unknown', 'other', 'same')), 'unknown', 'failed'),
+    (('failed', ('unknown', 'failed', 'failed'), 'same'), 'unknown', 'failed'),
+    (('failed', 'failed', ('failed', 'unknown', 'same')), 'unknown', 'failed'),
+    # The one inside fails.
+    (('unknown', ('failed', 'same', 'other'), 'same'), 'unknown', 'failed'),
+    (('unknown', 'same', ('failed', 'same', 'other')), 'unknown', 'same'),
+    (('failed', ('failed', 'same', 'other'), 'same'), 'failed', 'failed'),
+    # The condition is one.
+    ((('unknown', 'true', 'true'), 'same', 'other'), 'same', 'same'),
+    ((('failed', 'true', 'true'), 'same', 'failed'), 'same', 'same'),
+    ((('failed', 'false', 'false'), 'failed', 'other'), 'other', 'other'),
+    ((('unknown', 'true', 'false'), 'same', 'again'), 'same', 'same'),
+    ((('unknown', 'true', 'false'), 'same', 'other'), 'unknown', 'same'),
+    ((('unknown', 'false', 'true'), 'same', 'other'), 'unknown', 'other'),
+    ((('unknown', 'failed', 'failed'), 'same', 'again'), 'same', 'same'),
+    ((('unknown', 'failed', 'failed'), 'same', 'other'), 'unknown', 'failed'),
+    ((('failed', 'true', 'false'), 'same', 'again'), 'same', 'same'),
+    ((('failed', 'true', 'false'), 'same', 'other'), 'failed', 'failed'),
+    ((('failed', 'unknown', 'true'), 'same', 'other'), 'unknown', 'same'),
+    ((('failed', 'unknown', 'false'), 'same', 'other'), 'unknown', 'failed'),
+]
+
+
+# What the starts below read: STATE is 4, X and W are flows that are numbers, Y and Z flows that are Booleans.
+STATE, X, W, Y, Z = [[(34, variable)] for variable in range(5)]
+
+
+def gives(flow, expression):
+    """An assignment to the flow that is read by these nodes."""
+    return assignment(flow[0][1], expression)
+
+
+def started(reset, branches, wanted, flows=None):
+    """A start where X has this reset value; `branches` gets the way to join two parts. A refused start leaves the flows as they were."""
+    number = lambda first: [(2, 0), (3, 9), (4, first)]
+    head = number(4) + number(reset) + number(0) + 2 * [FLAG]
+    turned = lambda join: block(join(branches(join)[:1], branches(join)[1:]))
+    files = both_ways(lambda join: model(1, 4, 0, 0, head + turned(join)))
+    store = Store([9, 9, 9, 9, 9], [], [], 7, [])
+    left = store if flows is None else store._replace(values=[4] + flows, n=0)
+    return listed(files, store, [(('start',), wanted, left)])
+
+
+def four_if(condition):
+    """4 in both branches."""
+    return conditional(condition, [(32, 4)], [(32, 4)])
+
+
+def no_longer_refused():
+    """Starts that gave 30 twice, 28 and 29."""
+    either_way = lambda condition: conditional(condition, [TRUE], [TRUE])
+    return [
+        started(1, lambda join: [when(either_way(Y), gives(X, STATE)), gives(Y, equals(join, X, 4))], ('ok', 3), [4, 0, 1, 0]),
+        started(1, lambda join: [gives(Y, conditional(Z, [TRUE], equals(join, STATE, 4))), gives(Z, Y)], ('ok', 3), [1, 0, 1, 1]),
+        started(1, lambda join: [gives(X, four_if(failed_condition(join)))], ('ok', 2), [4, 0, 0, 0]),
+        started(9, lambda join: [gives(X, four_if(Y)), gives(W, [(41, 0)] + join(X, [(32, 5)]))], ('ok', 3), [4, 9, 0, 0]),
+    ]
+
+
+def refused_otherwise():
+    """Starts that gave 30, then 28 three times, and now give another number: a later round fails, outside, two values, a value unlike a
+    known one."""
+    over_zero = [(44, 0), (32, 1), (42, 0)] + X + [(32, 4)]
+    return [
+        started(1, lambda join: [gives(X, four_if(Y)), gives(Y, equals(join, over_zero, 1))], ('no', 28)),
+        started(1, lambda join: [gives(X, conditional(failed_condition(join), [(32, 12)], [(32, 12)]))], ('no', 29)),
+        started(1, lambda join: [gives(X, four_if(failed_condition(join))), gives(X, [(32, 5)])], ('no', 30)),
+        started(1, lambda join: [gives(X, four_if(failed_condition(join))), when(equals(join, X, 4), gives(X, [(32, 5)]))], ('no', 30)),
+    ]
+
+
+def other_counts():
+    """Starts with fewer rounds than before, 3 for 4, and with more, 2 for 1; beside each one whose branches do not agree."""
+    late = [gives(Y, Z), gives(Z, [TRUE])]
+    return [
+        started(1, lambda join: [gives(X, four_if(Y))] + late, ('ok', 3), [4, 0, 1, 1]),
+        started(1, lambda join: [gives(X, conditional(Y, [(32, 4)], [(32, 5)]))] + late, ('ok', 4), [4, 0, 1, 1]),
+        started(4, lambda join: [gives(X, four_if(Y))], ('ok', 2), [4, 0, 0, 0]),
+        started(4, lambda join: [gives(X, conditional(Y, [(32, 5)], [(32, 4)]))], ('ok', 1), [4, 0, 0, 0]),
+    ]
+
+
+def fours(join):
+    """Five expressions that are 4, no two of the same nodes."""
+    sum_of, product = [(41, 0)] + join([(32, 1)], [(32, 3)]), [(43, 0)] + join([(32, -1)], [(32, -4)])
+    return [STATE, [(32, 4)], sum_of, product, [(44, 0), (32, 9), (32, 2)]]
+
+
+def four_by(one, two):
+    """A start that gave 30: its branches are two of the expressions that are 4."""
+    value = lambda join: conditional(Y, fours(join)[one], fours(join)[two])
+    return started(1, lambda join: [gives(X, value(join)), gives(Y, equals(join, X, 4))], ('ok', 3), [4, 0, 1, 0])
+
+
+def values_and_nodes():
+    """Branches that agree by the same nodes and by others; branches of the same nodes that are known later or never."""
+    lists = [four_by(one, two) for one in range(5) for two in range(5)]
+    same_nodes = lambda join: [gives(X, conditional(Y, W, W)), gives(Y, equals(join, X, 4))]
+    lists.append(started(0, lambda join: same_nodes(join) + [gives(W, STATE)], ('ok', 4), [4, 4, 1, 0]))
+    return lists + [started(0, same_nodes, ('ok', 1), [0, 0, 0, 0])]
+
+
+def guards_and_actions():
+    """24 before: accepted, over a state that is toggled, and 23. 25 before: accepted, 27, and 26. Beside them branches that differ: still
+    24 and 25."""
+    failing = lambda one, two: both_ways(lambda join: conditional(failed_condition(join), one, two))
+    true, false, toggled = [TRUE], [(33, 0)], [(34, 0)]
+    assigned = lambda nodes: assignment(0, nodes)
+    truly = lambda join: assigned(conditional(failed_condition(join), true, true))
+    outside = lambda join: assigned(conditional(failed_condition(join), [(32, 6)], [(32, 6)]))
+    files = both_ways(lambda join: model(1, 0, 1, 1, RANGE + [(5, 0), TRUE] + outside(join) + [SKIP]))
+    store = Store([4], [2], [3], 0, [])
+    return [
+        guard_nest(*failing(true, true), 1, 1),
+        guard_nest(*failing(toggled, toggled), 1, 0),
+        guard_nest(*failing(true, toggled), 1, 2),
+        guard_nest(*failing(false, false), 0),
+        guard_nest(*failing(false, toggled), 2),
+        stepped(*both_ways(truly)),
+        stepped(*[when(nodes, ASSIGN) for nodes in failing(true, true)]),
+        refused_step(25, *map(assigned, failing(true, toggled))),
+        refused_step(27, *both_ways(lambda join: block(join([truly(join)], [assigned(false)])))),
+        listed(files, store, kept(store, [(('fire', 0), ('no', 26))])),
+    ]
+
+
+def deep_conditionals():
+    """Conditionals 29 deep under a condition that waits for them, in each part of one another, and under one that fails; a chain of 255
+    flows whose condition is known last."""
+    waits, lists = [(34, 2)], []
+    for nodes in [29 * ([(46, 0)] + waits + [TRUE]) + [TRUE], 29 * ([(46, 0)] + waits) + 30 * [TRUE], 29 * [(46, 0)] + waits + 58 * [TRUE]]:
+        branches = [assignment(1, nodes), assignment(2, [(34, 1)])]
+        lists.append(stepped(ASSIGN, ASSIGN, 3, block(branches), block(branches[::-1]), 2))
+    nest = lambda join: 29 * ([(46, 0)] + failed_condition(join) + [TRUE]) + [TRUE]
+    lists.append(guard_nest(*both_ways(nest), 1, 1))
+    either = lambda nodes: conditional([(34, 1)], nodes, nodes)
+    chain = [assignment(1 + i, either([(34, 2 + i)]) if i < 254 else [TRUE]) for i in range(255)]
+    return lists + [stepped(ASSIGN, ASSIGN, 256, block(chain), block(chain[::-1]), 255)]
+
+
+def conditionals():
+    """Lists for if-then-else: each way its condition and its branches can be, alone and in one another, and what changed by that."""
+    return [
+        *[conditional_list(sort, *row) for sort in (NUMBERS, TRUES, FALSES) for row in CONDITIONALS],
+        *[conditional_list(sort, *row) for sort in (NUMBERS, TRUES) for row in NESTED_CONDITIONALS],
+        *no_longer_refused(),
+        *refused_otherwise(),
+        *other_counts(),
+        *values_and_nodes(),
+        *guards_and_actions(),
+        *deep_conditionals(),
+    ]
+
+
 def stored_programs(path):
-    """The cases of programs.txt: three lengths of four bytes, the model file, the input, the output."""
+    """The cases of one of PROGRAM_FILES: three lengths of four bytes, the model file, the input, the output."""
     parts, cases = [], []
     for words in words_of(path):
         parts.append(bytes(numbers(words)))
@@ -885,7 +1225,7 @@ def joined(parts, mandatory, optional):
     guards = lambda members: [parts.transitions[k][1] for k in members]
     guard = nested(36, guards(mandatory)) if mandatory else nested(37, guards(optional))
     branches = [parts.transitions[k][2] for k in mandatory]
-    branches += [[(18, 0)] + parts.transitions[k][1] + parts.transitions[k][2] for k in optional]
+    branches += [when(*parts.transitions[k][1:]) for k in optional]
     new = (parts.events, guard, block(branches))
     return parts._replace(events=parts.events + 1, transitions=parts.transitions + [new])
 
@@ -1049,11 +1389,11 @@ def main():
     vectors = lambda name: os.path.join(ROOT, 'bench', 'cases', name)
     checks = stored_checks(vectors('checks.txt')) + edges()
     write('check_cases', checks, f'{len(checks)} cases, 0 differ')
-    lists = stored_calls(vectors('calls.txt')) + stored_calls(vectors('joined_calls.txt')) + stored_values(vectors('values.txt'))
-    lists += extremes() + picks() + ranges() + held_marks()
+    lists = [each for name in CALL_FILES for each in stored_calls(vectors(name))] + stored_values(vectors('values.txt'))
+    lists += extremes() + picks() + ranges() + held_marks() + conditionals()
     calls = sum(number for _, number in lists)
     write('call_cases', [each for each, _ in lists], f'{len(lists)} lists, {2 * calls} calls, 0 differ')
-    programs = stored_programs(vectors('programs.txt'))
+    programs = [each for name in PROGRAM_FILES for each in stored_programs(vectors(name))]
     write('program_cases', programs, f'{len(programs)} programs, 0 differ')
     texts = stored_texts(vectors('texts.txt'))
     write('text_cases', texts, f'{len(texts)} texts, 0 differ')
@@ -1061,4 +1401,5 @@ def main():
     write('join_cases', joins, f'{len(joins)} joins, 0 differ')
 
 
-main()
+if __name__ == '__main__':
+    main()

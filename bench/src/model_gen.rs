@@ -5,6 +5,7 @@ mod joins;
 mod lists;
 mod shapes;
 mod texts;
+mod undecided;
 mod writer;
 
 pub use damage::damaged;
@@ -39,9 +40,11 @@ pub enum Shape {
     Ends,
     /// Several faults in one action and in one round.
     Faulty,
+    /// If-then-else over flows that become known one round after another.
+    Undecided,
 }
 
-pub const SHAPES: [Shape; 9] = [
+pub const SHAPES: [Shape; 10] = [
     Shape::Small,
     Shape::Ordered,
     Shape::Cyclic,
@@ -51,6 +54,7 @@ pub const SHAPES: [Shape; 9] = [
     Shape::Full,
     Shape::Ends,
     Shape::Faulty,
+    Shape::Undecided,
 ];
 
 /// A random shape; large models are rarer.
@@ -60,10 +64,11 @@ pub fn shape(random: &mut Random) -> Shape {
         1 => Shape::Full,
         2 | 3 => Shape::Chain,
         4..=7 => Shape::Deep,
-        8..=14 => Shape::Ends,
-        15..=19 => Shape::Cyclic,
-        20..=23 => Shape::Faulty,
-        24..=29 => Shape::Small,
+        8..=13 => Shape::Ends,
+        14..=18 => Shape::Undecided,
+        19..=22 => Shape::Cyclic,
+        23..=25 => Shape::Faulty,
+        26..=30 => Shape::Small,
         _ => Shape::Ordered,
     }
 }
@@ -77,6 +82,7 @@ pub fn model(random: &mut Random, shape: Shape) -> Model {
             Shape::Full => shapes::full(random),
             Shape::Wide => shapes::wide(random),
             Shape::Faulty => shapes::faulty(random),
+            Shape::Undecided => undecided::undecided(random),
             _ => shapes::plain(random, shape),
         };
         if model.nodes().len() <= MAX_NODES && model.depth() <= MAX_DEPTH {

@@ -1,4 +1,4 @@
-//! The stored cases under cases/: checks.txt, calls.txt, joined_calls.txt, programs.txt, texts.txt, values.txt, joins.txt.
+//! The stored cases under cases/: checks.txt, CALL_FILES, PROGRAM_FILES, texts.txt, values.txt, joins.txt.
 //! Each line is a word and decimal numbers.
 
 use std::iter::Peekable;
@@ -8,6 +8,12 @@ use std::str::Lines;
 use crate::calls::{Call, Join, Store, Typed, TABLE};
 use crate::guarded::Guarded;
 use crate::reference::Type;
+
+/// Lists of calls.
+pub const CALL_FILES: [&str; 3] = ["calls.txt", "earlier_calls.txt", "joined_calls.txt"];
+
+/// Runs of gtsrun.
+pub const PROGRAM_FILES: [&str; 2] = ["programs.txt", "earlier_programs.txt"];
 
 /// A model, and what its check must answer; and expressions handed beside it.
 pub struct CheckCase {

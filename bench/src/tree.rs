@@ -214,6 +214,27 @@ impl Instr {
 }
 
 impl Model {
+    /// A model with one transition and its event.
+    pub fn with_transition(
+        states: Vec<Variable>,
+        flows: Vec<Variable>,
+        guard: Expr,
+        action: Instr,
+        assertion: Instr,
+    ) -> Model {
+        Model {
+            states,
+            flows,
+            events: 1,
+            transitions: vec![Transition {
+                event: 0,
+                guard,
+                action,
+            }],
+            assertion,
+        }
+    }
+
     pub fn variables(&self) -> impl Iterator<Item = &Variable> {
         self.states.iter().chain(&self.flows)
     }

@@ -1,8 +1,10 @@
 //! The models and call sequences that are timed.
 
 mod joins;
+mod nests;
 
 pub use joins::deep_joins;
+pub use nests::deep_runs;
 
 use crate::calls::Engine;
 use crate::reference;
@@ -314,6 +316,11 @@ fn runs() -> Vec<Workload> {
             chain(255, 0).encode(),
             Work::Start,
         ),
+        Workload::new(
+            "if-then-else 29 deep, its condition known last, 4,000 nodes, 46 rounds, start",
+            undecided(44, 4_000).encode(),
+            Work::Start,
+        ),
     ]
 }
 
@@ -542,6 +549,30 @@ pub fn chain(flows: usize, nodes: usize) -> Model {
             guard: Expr::Boolean(true),
             action: Instr::Assign(0, Expr::Variable(0).negated()),
         }],
+        assertion: Instr::Block(branches),
+    };
+    filled(model, nodes)
+}
+
+/// A chain of so many flows, each by if-then-else in one another, 32 deep, the branches of which are the flow before it;
+/// their condition is one flow more, the last. Filled up to so many nodes.
+pub fn undecided(flows: usize, nodes: usize) -> Model {
+    let condition = Expr::Variable(flows + 1);
+    let link = |flow: usize| {
+        let before = Expr::Variable(flow - 1);
+        let value = (0..29).fold(before.clone(), |inner, _| {
+            Expr::conditional(condition.clone(), inner, before.clone())
+        });
+        Instr::Assign(flow, value)
+    };
+    let mut branches: Vec<Instr> = (1..=flows).map(link).collect();
+    branches.push(Instr::Assign(flows + 1, Expr::Variable(flows)));
+    let variable = Variable::Boolean { first: true };
+    let model = Model {
+        states: vec![variable],
+        flows: vec![variable; flows + 1],
+        events: 0,
+        transitions: Vec::new(),
         assertion: Instr::Block(branches),
     };
     filled(model, nodes)

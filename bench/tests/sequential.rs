@@ -5,7 +5,7 @@
 use bench::calls::{FIRE, MARKS, START, UNDO};
 use bench::model_gen::{self, Shape};
 use bench::random::Random;
-use bench::reference::{self, ENGINE};
+use bench::reference::{self, Refusal, ENGINE};
 use bench::tree::{Expr, Instr, Model, Operator, Transition, Variable};
 
 #[derive(Clone, Copy, PartialEq, Debug)]
@@ -19,6 +19,10 @@ use Evaluation::{Failed, Unknown, Value};
 
 type Valuation = Vec<Option<i32>>;
 
+fn all_known(values: &[i32]) -> Valuation {
+    values.iter().copied().map(Some).collect()
+}
+
 fn evaluate(expr: &Expr, over: &Valuation) -> Evaluation {
     match expr {
         Expr::Number(number) => Value(i64::from(*number)),
@@ -31,7 +35,10 @@ fn evaluate(expr: &Expr, over: &Valuation) -> Evaluation {
         Expr::Conditional(condition, chosen, other) => match evaluate(condition, over) {
             Value(1) => evaluate(chosen, over),
             Value(_) => evaluate(other, over),
-            condition => condition,
+            condition => {
+                let branches = [evaluate(chosen, over), evaluate(other, over)];
+                without_choice(condition, branches)
+            }
         },
         Expr::Binary(operator, left, right) => {
             let both = [evaluate(left, over), evaluate(right, over)];
@@ -51,6 +58,15 @@ fn evaluate(expr: &Expr, over: &Valuation) -> Evaluation {
             };
             calculate(*operator, left, right)
         }
+    }
+}
+
+/// A conditional whose condition is unknown or failed.
+fn without_choice(condition: Evaluation, branches: [Evaluation; 2]) -> Evaluation {
+    match branches {
+        [Value(one), Value(two)] if one == two => Value(one),
+        _ if condition == Unknown || branches.contains(&Unknown) => Unknown,
+        _ => Failed,
     }
 }
 
@@ -128,11 +144,20 @@ fn faultless(
         .collect())
 }
 
-/// By rounds: the values and the round count, or the refusal number.
-fn by_rounds(model: &Model, states: &[i32]) -> Result<(Vec<i32>, usize), u8> {
+/// States known, flows unknown.
+fn beginning(model: &Model, states: &[i32]) -> Valuation {
+    let mut known = all_known(states);
+    known.resize(model.variables().count(), None);
+    known
+}
+
+/// The values and the round count, or the refusal number.
+type Outcome = Result<(Vec<i32>, usize), u8>;
+
+/// By rounds.
+fn by_rounds(model: &Model, states: &[i32]) -> Outcome {
     let variables: Vec<Variable> = model.variables().copied().collect();
-    let mut known: Valuation = states.iter().copied().map(Some).collect();
-    known.resize(variables.len(), None);
+    let mut known = beginning(model, states);
     let mut rounds = 0;
     loop {
         let given = faultless(&model.assertion, &variables, &known, true).map_err(|f| 28 + f)?;
@@ -151,8 +176,7 @@ fn by_rounds(model: &Model, states: &[i32]) -> Result<(Vec<i32>, usize), u8> {
 /// One assignment at a time, any of those that are ready.
 fn one_by_one(model: &Model, states: &[i32], random: &mut Random) -> Option<Vec<i32>> {
     let variables: Vec<Variable> = model.variables().copied().collect();
-    let mut known: Valuation = states.iter().copied().map(Some).collect();
-    known.resize(variables.len(), None);
+    let mut known = beginning(model, states);
     loop {
         let mut ready = faultless(&model.assertion, &variables, &known, true).ok()?;
         ready.retain(|&(flow, _)| known[flow].is_none());
@@ -183,9 +207,9 @@ fn reset(model: &Model, variables: &[Variable], mut known: Valuation) -> Result<
 }
 
 /// What firing a transition must give.
-fn fired(model: &Model, old: &[i32], transition: usize) -> Result<(Vec<i32>, usize), u8> {
+fn fired(model: &Model, old: &[i32], transition: usize) -> Outcome {
     let variables: Vec<Variable> = model.variables().copied().collect();
-    let over: Valuation = old.iter().copied().map(Some).collect();
+    let over = all_known(old);
     let transition = &model.transitions[transition];
     match evaluate(&transition.guard, &over) {
         Value(1) => {}
@@ -210,6 +234,7 @@ fn small_model(random: &mut Random) -> Model {
         Shape::Deep,
         Shape::Ends,
         Shape::Faulty,
+        Shape::Undecided,
     ]);
     model_gen::model(random, shape)
 }
@@ -223,46 +248,175 @@ fn any_values<'v>(
     variables.into_iter().map(any).collect()
 }
 
+/// Whether an if-then-else in an expression has a value though its condition has none.
+fn agrees(expr: &Expr, over: &Valuation) -> bool {
+    let has_value = |expr| matches!(evaluate(expr, over), Value(_));
+    match expr {
+        Expr::Number(_) | Expr::Boolean(_) | Expr::Variable(_) => false,
+        Expr::Not(operand) => agrees(operand, over),
+        Expr::Binary(_, left, right) => agrees(left, over) || agrees(right, over),
+        Expr::Conditional(condition, _, _) if !has_value(condition) && has_value(expr) => true,
+        Expr::Conditional(condition, chosen, other) => {
+            let parts = [condition, chosen, other];
+            parts.iter().any(|part| agrees(part, over))
+        }
+    }
+}
+
+/// The same for an instruction.
+fn agrees_in(instr: &Instr, over: &Valuation) -> bool {
+    match instr {
+        Instr::Skip => false,
+        Instr::Assign(_, value) => agrees(value, over),
+        Instr::When(condition, body) => agrees(condition, over) || agrees_in(body, over),
+        Instr::Block(branches) => branches.iter().any(|branch| agrees_in(branch, over)),
+    }
+}
+
+/// Some orders of single assignments must end as the rounds do; gives how these end.
+fn compare_orders(model: &Model, states: &[i32], random: &mut Random) -> Outcome {
+    let rounds = by_rounds(model, states);
+    for _ in 0..3 {
+        let sequence = one_by_one(model, states, random);
+        let values = rounds.as_ref().ok().map(|(values, _)| values);
+        assert_eq!(sequence.as_ref(), values);
+    }
+    if let Ok((_, count)) = rounds {
+        assert!((1..=model.flows.len() + 1).contains(&count));
+    }
+    rounds
+}
+
 #[test]
 fn single_assignments_end_as_rounds_do() {
     let mut random = Random::new(11);
-    let (mut settled, mut refused) = (0, 0);
+    let (mut settled, mut refused, mut agreeing) = (0, 0, 0);
     for _ in 0..4_000 {
         let model = small_model(&mut random);
         let states = any_values(&mut random, &model.states);
-        let rounds = by_rounds(&model, &states);
-        for _ in 0..3 {
-            let sequence = one_by_one(&model, &states, &mut random);
-            assert_eq!(
-                sequence.as_ref(),
-                rounds.as_ref().ok().map(|(values, _)| values)
-            );
+        match compare_orders(&model, &states, &mut random) {
+            Ok(_) => settled += 1,
+            Err(_) => refused += 1,
         }
-        if let Ok((_, count)) = rounds {
-            assert!((1..=model.flows.len() + 1).contains(&count));
-            settled += 1;
-        } else {
-            refused += 1;
+        let at_first = beginning(&model, &states);
+        agreeing += usize::from(agrees_in(&model.assertion, &at_first));
+    }
+    println!("{settled} settled, {refused} refused; {agreeing} with branches that agree");
+    assert!(settled > 1_000 && refused > 200 && agreeing > 500);
+}
+
+// The flows of the next models: two numbers, two Booleans.
+const RESULT: usize = 0;
+const BRANCH: usize = 1;
+const CONDITION: usize = 2;
+const EARLIER: usize = 3;
+
+/// A flow by if-then-else, of any two of four branches, under a condition that becomes known, that fails or that is the
+/// flow's own.
+fn conditional_models() -> Vec<Model> {
+    let number = Expr::Number;
+    let failed = Expr::binary(Operator::Div, number(1), number(0));
+    let is_four = |expr| Expr::binary(Operator::EqualNumbers, expr, number(4));
+    let conditions = [
+        Expr::Variable(CONDITION),
+        is_four(failed.clone()),
+        is_four(Expr::Variable(RESULT)),
+    ];
+    let branches = [Expr::Variable(BRANCH), number(4), number(7), failed];
+    let mut models = Vec::new();
+    for condition in &conditions {
+        for chosen in &branches {
+            for other in &branches {
+                let value = Expr::conditional(condition.clone(), chosen.clone(), other.clone());
+                for (earlier, later) in [(true, 4), (true, 7), (false, 4)] {
+                    models.push(conditional_model(value.clone(), earlier, later));
+                }
+            }
+        }
+    }
+    models
+}
+
+/// A flow by this expression; beside it a condition, which is `earlier`, and a branch, which is `later` or else 9: both
+/// become known in the second round.
+fn conditional_model(value: Expr, earlier: bool, later: i32) -> Model {
+    let condition = Expr::Variable(EARLIER);
+    let [later, nine] = [later, 9].map(Expr::Number);
+    Model {
+        states: vec![],
+        flows: conditional_flows(),
+        events: 0,
+        transitions: vec![],
+        assertion: Instr::Block(vec![
+            Instr::Assign(EARLIER, Expr::Boolean(earlier)),
+            Instr::Assign(CONDITION, condition.clone()),
+            Instr::Assign(BRANCH, Expr::conditional(condition, later, nine)),
+            Instr::Assign(RESULT, value),
+        ]),
+    }
+}
+
+fn conditional_flows() -> Vec<Variable> {
+    let number = Variable::Number {
+        low: 0,
+        high: 9,
+        first: 7,
+    };
+    let boolean = Variable::Boolean { first: false };
+    vec![number, number, boolean, boolean]
+}
+
+#[test]
+fn single_assignments_beside_conditionals() {
+    let mut random = Random::new(15);
+    let (mut settled, mut refused) = (0, 0);
+    for model in conditional_models() {
+        let rounds = compare_orders(&model, &[], &mut random);
+        assert_eq!(start(&model, &mut [9; 4], &mut []), rounds);
+        match rounds {
+            Ok(_) => settled += 1,
+            Err(_) => refused += 1,
         }
     }
     println!("{settled} settled, {refused} refused");
-    assert!(settled > 1_000 && refused > 200);
+    assert!(settled > 50 && refused > 50);
+}
+
+/// What the reference implementation makes of a start.
+fn start(model: &Model, values: &mut [i32], marks: &mut [u8]) -> Outcome {
+    let mut n = 5;
+    let rounds = reference::start(&model.encode(), values, marks, &mut n);
+    rounds
+        .map(|rounds| (values.to_vec(), rounds))
+        .map_err(Refusal::number)
+}
+
+/// The same for a fire, which must be as defined.
+fn compare_fire(model: &Model, values: &mut [i32], marks: &mut [u8], transition: usize) -> Outcome {
+    let wanted = fired(model, values, transition);
+    let (file, mut history, mut n) = (model.encode(), [0; 1], 0);
+    let found = reference::fire(&file, values, marks, &mut history, &mut n, transition)
+        .map(|rounds| (values.to_vec(), rounds))
+        .map_err(Refusal::number);
+    assert_eq!(found, wanted);
+    found
+}
+
+fn are_within_ends(model: &Model, values: &[i32]) -> bool {
+    let mut cells = values.iter().zip(model.variables());
+    cells.all(|(value, variable)| (variable.ends().0..=variable.ends().1).contains(value))
 }
 
 #[test]
 fn starts_and_fires_are_as_defined() {
     let mut random = Random::new(12);
-    let (mut fires, mut refused) = (0, 0);
+    let (mut fires, mut refused, mut agreeing) = (0, 0, 0);
     for _ in 0..4_000 {
         let model = small_model(&mut random);
-        let file = model.encode();
         let initial: Vec<i32> = model.states.iter().map(first).collect();
-        let mut values = vec![0; model.states.len() + model.flows.len()];
+        let mut values = vec![0; model.variables().count()];
         let mut marks = vec![0; model.transitions.len()];
-        let mut n = 5;
-        let started = reference::start(&file, &mut values, &mut marks, &mut n)
-            .map(|rounds| (values.clone(), rounds))
-            .map_err(|refusal| refusal.number());
+        let started = start(&model, &mut values, &mut marks);
         assert_eq!(started, by_rounds(&model, &initial));
         for _ in 0..12 {
             if model.transitions.is_empty() {
@@ -272,40 +426,26 @@ fn starts_and_fires_are_as_defined() {
             if random.chance(1, 3) {
                 values = any_values(&mut random, model.variables());
             }
-            let inside = values
-                .iter()
-                .zip(model.variables())
-                .all(|(&value, variable)| variable.ends().0 <= value && value <= variable.ends().1);
-            if !inside {
+            if !are_within_ends(&model, &values) {
                 continue;
             }
             let transition = random.below(model.transitions.len());
-            let (mut history, mut n) = ([0; 1], 0);
-            let wanted = fired(&model, &values, transition);
-            let found = reference::fire(
-                &file,
-                &mut values,
-                &mut marks,
-                &mut history,
-                &mut n,
-                transition,
-            )
-            .map(|rounds| (values.clone(), rounds))
-            .map_err(|refusal| refusal.number());
-            assert_eq!(found, wanted);
-            match found {
+            let over = all_known(&values);
+            let Transition { guard, action, .. } = &model.transitions[transition];
+            agreeing += usize::from(agrees(guard, &over) || agrees_in(action, &over));
+            match compare_fire(&model, &mut values, &mut marks, transition) {
                 Ok(_) => fires += 1,
                 Err(_) => refused += 1,
             }
         }
     }
-    println!("{fires} fires, {refused} refused");
-    assert!(fires > 10_000 && refused > 3_000);
+    println!("{fires} fires, {refused} refused; {agreeing} with branches that agree");
+    assert!(fires > 10_000 && refused > 3_000 && agreeing > 500);
 }
 
 /// The mark of each guard over these values.
 fn guard_marks(model: &Model, values: &[i32]) -> Vec<u8> {
-    let over: Valuation = values.iter().copied().map(Some).collect();
+    let over = all_known(values);
     let mark = |transition: &Transition| match evaluate(&transition.guard, &over) {
         Value(value) => value as u8,
         _ => 2,

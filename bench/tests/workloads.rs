@@ -25,6 +25,9 @@ fn sizes_and_rounds() {
     assert_eq!(sizes.transitions, 255);
     let sizes = reference::check(&workloads::booleans().encode()).expect("accepted");
     assert_eq!(sizes.to_array(), [255, 255, 0, 0, 511]);
+    let undecided = workloads::undecided(44, 4_000);
+    assert_eq!((undecided.nodes().len(), undecided.depth()), (4_000, 32));
+    assert_eq!(rounds(&undecided.encode()), 46);
     let inactive = workloads::inactive(4_000);
     assert_eq!((inactive.nodes().len(), inactive.depth()), (4_000, 32));
     assert_eq!(rounds(&inactive.encode()), 3);
@@ -34,9 +37,16 @@ fn sizes_and_rounds() {
 fn workloads_repeat() {
     let growing = workloads::growing();
     let growing = growing.iter().flat_map(|(_, workloads)| workloads);
-    let (nested, deep) = (workloads::nested_texts(), workloads::deep_joins());
+    let nested = [
+        workloads::nested_texts(),
+        workloads::deep_joins(),
+        workloads::deep_runs(),
+    ];
     let workloads = workloads::all();
-    let workloads = workloads.iter().chain(growing).chain(&nested).chain(&deep);
+    let workloads = workloads
+        .iter()
+        .chain(growing)
+        .chain(nested.iter().flatten());
     for workload in workloads {
         let mut prepared = workload.prepare();
         let first = prepared.perform(&ENGINE);

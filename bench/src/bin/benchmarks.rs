@@ -88,6 +88,7 @@ fn main() {
     };
 
     print_ratios(&chosen(workloads::all()), samples);
+    print_stacks("runs that nest", &chosen(workloads::deep_runs()));
     print_stacks("texts that nest", &chosen(workloads::nested_texts()));
     print_stacks("joins that nest", &chosen(workloads::deep_joins()));
     let growing = workloads::growing().into_iter();

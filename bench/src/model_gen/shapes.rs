@@ -1,6 +1,6 @@
 //! Well-formed models of each shape.
 
-use super::writer::{edge, Writer};
+use super::writer::{edge, edge_condition, failed, Writer};
 use super::{Shape, MAX_DEPTH, MAX_NODES};
 use crate::random::Random;
 use crate::tree::{Expr, Instr, Model, Operator, Transition, Variable};
@@ -49,23 +49,10 @@ fn build(
         wild,
         ends,
     };
-    let all: Vec<usize> = (0..states + flows).collect();
     let spare = writer.random.below(3);
     let events = (transitions.max(1) + spare).min(255) as u8;
     let transitions = (0..transitions)
-        .map(|_| {
-            let guard_depth = writer.random.between(1, 4);
-            let action_depth = writer.random.between(2, 7);
-            Transition {
-                event: writer.random.below(events.into()) as u8,
-                guard: if writer.random.chance(1, 3) {
-                    Expr::Boolean(true)
-                } else {
-                    writer.boolean(&all, guard_depth)
-                },
-                action: writer.action(&all, action_depth),
-            }
-        })
+        .map(|_| transition(&mut writer, events))
         .collect();
     let assertion = match shape {
         Shape::Small | Shape::Cyclic => {
@@ -84,6 +71,22 @@ fn build(
     }
 }
 
+/// A transition with one of so many events.
+fn transition(writer: &mut Writer, events: u8) -> Transition {
+    let all: Vec<usize> = (0..writer.variables.len()).collect();
+    let guard_depth = writer.random.between(1, 5);
+    let action_depth = writer.random.between(2, 7);
+    Transition {
+        event: writer.random.below(events.into()) as u8,
+        guard: if writer.random.chance(1, 3) {
+            Expr::Boolean(true)
+        } else {
+            writer.boolean(&all, guard_depth)
+        },
+        action: writer.action(&all, action_depth),
+    }
+}
+
 /// A model of a few variables and transitions.
 pub fn plain(random: &mut Random, shape: Shape) -> Model {
     let sizes = match shape {
@@ -98,45 +101,19 @@ pub fn plain(random: &mut Random, shape: Shape) -> Model {
 pub fn chain(random: &mut Random) -> Model {
     let flows = *random.one(&[1, 2, 16, 100, 254, 255]);
     let state = variable(random, false);
-    let mut order: Vec<usize> = (1..=flows).collect();
-    if random.coin() {
-        random.shuffle(&mut order);
-    } else {
-        order.reverse();
-    }
-    let mut before = 0;
-    let mut branches: Vec<Instr> = order
-        .iter()
-        .map(|&flow| {
-            let from = std::mem::replace(&mut before, flow);
-            Instr::Assign(flow, Expr::Variable(from))
-        })
-        .collect();
-    if random.coin() {
-        branches.reverse();
-    }
-    if random.chance(1, 4) {
-        branches.remove(random.below(branches.len()));
-    }
     let (low, high) = state.ends();
-    let action = if state.is_boolean() {
-        Expr::Variable(0).negated()
+    let [action, last] = if state.is_boolean() {
+        [Expr::Variable(0).negated(), Expr::Variable(flows)]
     } else {
-        Expr::Number(random.within(low, high))
-    };
-    let last = if state.is_boolean() {
-        Expr::Variable(flows)
-    } else {
-        Expr::binary(
-            Operator::LessOrEqual,
-            Expr::Variable(flows),
-            Expr::Number(high),
-        )
+        let end = Expr::Number(high);
+        let within = Expr::binary(Operator::LessOrEqual, Expr::Variable(flows), end);
+        [Expr::Number(random.within(low, high)), within]
     };
     Model {
         states: vec![state],
         flows: vec![state; flows],
         events: 1,
+        assertion: Instr::Block(links(random, flows, &last)),
         transitions: vec![
             Transition {
                 event: 0,
@@ -149,8 +126,38 @@ pub fn chain(random: &mut Random) -> Model {
                 action: Instr::Skip,
             },
         ],
-        assertion: Instr::Block(branches),
     }
+}
+
+/// The assignments of a chain of so many flows, one of them missing at times; at times each is an if-then-else with this
+/// condition and equal branches.
+fn links(random: &mut Random, flows: usize, condition: &Expr) -> Vec<Instr> {
+    let mut order: Vec<usize> = (1..=flows).collect();
+    if random.coin() {
+        random.shuffle(&mut order);
+    } else {
+        order.reverse();
+    }
+    let is_conditional = random.chance(1, 3);
+    let mut before = 0;
+    let mut branches: Vec<Instr> = order
+        .iter()
+        .map(|&flow| {
+            let from = Expr::Variable(std::mem::replace(&mut before, flow));
+            let value = match is_conditional {
+                true => Expr::conditional(condition.clone(), from.clone(), from),
+                false => from,
+            };
+            Instr::Assign(flow, value)
+        })
+        .collect();
+    if random.coin() {
+        branches.reverse();
+    }
+    if random.chance(1, 4) {
+        branches.remove(random.below(branches.len()));
+    }
+    branches
 }
 
 /// Guards, actions and the assertion of a plain model, wrapped until they are at depth 32 or near it.
@@ -305,12 +312,6 @@ pub fn faulty(random: &mut Random) -> Model {
 
 /// Instructions that assign the variables `first` and the next one, mostly 1.
 fn collision(random: &mut Random, first: usize, depth: usize) -> Instr {
-    let condition = |random: &mut Random| match random.below(6) {
-        0 => Expr::binary(Operator::Less, edge(random), Expr::Number(0)),
-        1 => Expr::binary(Operator::EqualNumbers, Expr::Variable(2), Expr::Number(1)),
-        2 => Expr::Boolean(false),
-        _ => Expr::Boolean(true),
-    };
     if depth > 0 && random.chance(2, 3) {
         let branches = random.between(0, 4);
         return Instr::Block(
@@ -320,19 +321,63 @@ fn collision(random: &mut Random, first: usize, depth: usize) -> Instr {
         );
     }
     if depth > 0 && random.chance(1, 3) {
-        return Instr::when(condition(random), collision(random, first, depth - 1));
+        let condition = faulty_condition(random);
+        return Instr::when(condition, collision(random, first, depth - 1));
     }
-    let value = match random.below(12) {
+    Instr::Assign(first + random.below(2), faulty_value(random))
+}
+
+/// A condition that is mostly true, and may fail or wait for a flow.
+fn faulty_condition(random: &mut Random) -> Expr {
+    match random.below(8) {
+        0 => edge_condition(random),
+        1 => is_one(2),
+        2 => Expr::Boolean(false),
+        3 => {
+            let condition = undecided_condition(random);
+            let chosen = faulty_condition(random);
+            Expr::conditional(condition, chosen, faulty_condition(random))
+        }
+        _ => Expr::Boolean(true),
+    }
+}
+
+/// A value that is mostly 1, and may fail, be outside its ends or wait for a flow.
+fn faulty_value(random: &mut Random) -> Expr {
+    match random.below(18) {
         0 => edge(random),
         1 => Expr::Number(3),
         2 => Expr::Number(0),
         3 => Expr::Variable(random.below(4)),
-        4 => Expr::binary(
-            Operator::Times,
-            Expr::Variable(3),
-            Expr::binary(Operator::Div, Expr::Number(1), Expr::Number(0)),
-        ),
+        4 => Expr::binary(Operator::Times, Expr::Variable(3), failed()),
+        5..=10 => {
+            let condition = undecided_condition(random);
+            let chosen = faulty_branch(random);
+            Expr::conditional(condition, chosen, faulty_branch(random))
+        }
         _ => Expr::Number(1),
-    };
-    Instr::Assign(first + random.below(2), value)
+    }
+}
+
+/// Such a value; more of these fail or wait.
+fn faulty_branch(random: &mut Random) -> Expr {
+    match random.below(6) {
+        0 | 1 => failed(),
+        2 => Expr::Variable(random.between(2, 3)),
+        _ => faulty_value(random),
+    }
+}
+
+/// A condition that waits for a flow or that mostly fails.
+fn undecided_condition(random: &mut Random) -> Expr {
+    match random.below(4) {
+        0 => edge_condition(random),
+        1 => Expr::binary(Operator::Less, failed(), Expr::Number(0)),
+        _ => is_one(random.between(2, 3)),
+    }
+}
+
+fn is_one(variable: usize) -> Expr {
+    let one = Expr::Number(1);
+    Expr::binary(Operator::EqualNumbers, Expr::Variable(variable), one)
 }

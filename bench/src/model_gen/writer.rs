@@ -57,14 +57,10 @@ impl Writer<'_> {
         }
         use Operator::*;
         let below = depth - 1;
-        match self.random.below(12) {
+        match self.random.below(14) {
             0 | 1 => self.boolean(readable, below).negated(),
-            2 => Expr::conditional(
-                self.boolean(readable, below),
-                self.boolean(readable, below),
-                self.boolean(readable, below),
-            ),
-            3..=7 => {
+            2..=4 => self.conditional(readable, true, below),
+            5..=9 => {
                 let operator = *self.random.one(&[And, And, Or, Or, EqualBooleans]);
                 let left = self.boolean(readable, below);
                 Expr::binary(operator, left, self.boolean(readable, below))
@@ -87,12 +83,8 @@ impl Writer<'_> {
         }
         use Operator::*;
         let below = depth - 1;
-        if self.random.chance(1, 6) {
-            return Expr::conditional(
-                self.boolean(readable, below),
-                self.number(readable, below),
-                self.number(readable, below),
-            );
+        if self.random.chance(1, 4) {
+            return self.conditional(readable, false, below);
         }
         if (self.ends && self.random.chance(1, 4)) || self.is_wild() {
             return edge(self.random);
@@ -104,6 +96,79 @@ impl Writer<'_> {
         Expr::binary(operator, left, self.number(readable, below))
     }
 
+    /// An if-then-else whose parts are at most `below` deep; mostly its branches agree.
+    fn conditional(&mut self, readable: &[usize], boolean: bool, below: usize) -> Expr {
+        if self.random.chance(2, 3) {
+            let branch = self.expression(readable, boolean, below - 1);
+            return self.agreeing(branch, boolean, below);
+        }
+        let condition = if self.is_wild() {
+            self.any_condition(below)
+        } else {
+            self.boolean(readable, below)
+        };
+        let chosen = self.expression(readable, boolean, below);
+        Expr::conditional(condition, chosen, self.expression(readable, boolean, below))
+    }
+
+    /// An if-then-else whose branches are this one, at most `below` - 1 deep or a leaf, and one of the same value: so its
+    /// condition may be any.
+    fn agreeing(&mut self, branch: Expr, boolean: bool, below: usize) -> Expr {
+        let condition = self.any_condition(below);
+        let again = if below < 2 || self.random.coin() {
+            branch.clone()
+        } else {
+            self.same_value(branch.clone(), boolean)
+        };
+        if self.random.coin() {
+            Expr::conditional(condition, branch, again)
+        } else {
+            Expr::conditional(condition, again, branch)
+        }
+    }
+
+    /// A condition over all variables, whichever may be read: it often waits for a flow, and at times fails.
+    fn any_condition(&mut self, depth: usize) -> Expr {
+        if depth >= 3 && self.random.chance(1, 3) {
+            return edge_condition(self.random);
+        }
+        let flows: Vec<usize> = (self.states..self.variables.len()).collect();
+        match self.readable(&flows, true) {
+            Some(flow) if self.random.coin() => Expr::Variable(flow),
+            _ => {
+                let all: Vec<usize> = (0..self.variables.len()).collect();
+                self.boolean(&all, depth.min(3))
+            }
+        }
+    }
+
+    /// An expression of the same value by other nodes, one level deeper.
+    fn same_value(&mut self, expr: Expr, boolean: bool) -> Expr {
+        use Operator::*;
+        let (operator, neutral) = match (boolean, self.random.below(3)) {
+            (true, 0) => (EqualBooleans, Expr::Boolean(true)),
+            (true, 1) => (And, Expr::Boolean(true)),
+            (true, _) => (Or, Expr::Boolean(false)),
+            (false, 0) => (Minus, Expr::Number(0)),
+            (false, 1) => (Times, Expr::Number(1)),
+            (false, _) => (Plus, Expr::Number(0)),
+        };
+        if operator.symmetric() && self.random.coin() {
+            Expr::binary(operator, neutral, expr)
+        } else {
+            Expr::binary(operator, expr, neutral)
+        }
+    }
+
+    /// The readable numbers that never leave these ends.
+    fn inside(&self, readable: &[usize], (low, high): (i32, i32)) -> Vec<usize> {
+        let is_inside = |&other: &usize| {
+            let (least, most) = self.variables[other].ends();
+            !self.variables[other].is_boolean() && low <= least && most <= high
+        };
+        readable.iter().copied().filter(is_inside).collect()
+    }
+
     /// An expression for this variable, mostly within its ends.
     fn value_for(&mut self, target: usize, readable: &[usize], depth: usize) -> Expr {
         let variable = self.variables[target];
@@ -111,14 +176,7 @@ impl Writer<'_> {
             return self.expression(readable, variable.is_boolean(), depth);
         }
         let (low, high) = variable.ends();
-        let inside: Vec<usize> = readable
-            .iter()
-            .copied()
-            .filter(|&other| {
-                let (least, most) = self.variables[other].ends();
-                !self.variables[other].is_boolean() && low <= least && most <= high
-            })
-            .collect();
+        let inside = self.inside(readable, (low, high));
         let constant = Expr::Number(match self.random.below(4) {
             0 => low,
             1 => high,
@@ -133,11 +191,13 @@ impl Writer<'_> {
                 let next = Expr::binary(Operator::Plus, other, Expr::Number(1));
                 Expr::conditional(below, next, Expr::Number(low))
             }
-            3 if depth >= 3 => Expr::conditional(
-                self.boolean(readable, depth - 1),
-                self.value_for(target, readable, depth - 1),
-                constant,
-            ),
+            3 if depth >= 3 => {
+                let value = self.value_for(target, readable, depth - 2);
+                if self.random.coin() {
+                    return self.agreeing(value, false, depth - 1);
+                }
+                Expr::conditional(self.boolean(readable, depth - 1), value, constant)
+            }
             4 if depth >= 5 => {
                 let inner = self.number(readable, depth.min(5) - 3);
                 let above = Expr::binary(Operator::LessOrEqual, Expr::Number(low), inner.clone());
@@ -302,4 +362,14 @@ pub fn edge(random: &mut Random) -> Expr {
     ];
     let &(operator, left, right) = random.one(&EDGES);
     Expr::binary(operator, Expr::Number(left), Expr::Number(right))
+}
+
+/// An operation that fails.
+pub fn failed() -> Expr {
+    Expr::binary(Operator::Div, Expr::Number(1), Expr::Number(0))
+}
+
+/// Whether an operation at an edge is below 0.
+pub fn edge_condition(random: &mut Random) -> Expr {
+    Expr::binary(Operator::Less, edge(random), Expr::Number(0))
 }

@@ -54,7 +54,11 @@ impl Model {
                 match self.evaluate(condition, valuation) {
                     Value(0) => self.evaluate(other, valuation),
                     Value(_) => self.evaluate(chosen, valuation),
-                    waiting => waiting,
+                    condition => undecided(
+                        condition,
+                        self.evaluate(chosen, valuation),
+                        self.evaluate(other, valuation),
+                    ),
                 }
             }
         }
@@ -79,6 +83,16 @@ impl Model {
             (Failed, _) | (_, Failed) => Failed,
             _ => Value(1 - decisive),
         }
+    }
+}
+
+/// A conditional whose condition is unknown or failed: the value that both branches have; else unknown if a branch is;
+/// else as the condition.
+fn undecided(condition: Evaluation, one: Evaluation, two: Evaluation) -> Evaluation {
+    match (one, two) {
+        (Value(_), Value(_)) if one == two => one,
+        (Unknown, _) | (_, Unknown) => Unknown,
+        _ => condition,
     }
 }
 

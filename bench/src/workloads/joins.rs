@@ -1,7 +1,8 @@
 //! Joins: those that are timed, and those that take most stack.
 
-use super::{filled, large, number, Work, Workload, COUNTER};
-use crate::tree::{Expr, Instr, Model, Operator, Transition, Variable};
+use super::nests::{always, model, nests, Nest, FLOW, STATE};
+use super::{filled, large, Work, Workload, COUNTER};
+use crate::tree::Instr;
 
 /// Nodes of the largest model.
 const NODES: usize = 4_000;
@@ -45,104 +46,10 @@ pub(super) fn of_growing_lists() -> Vec<Workload> {
 
 /// So many optional members beside a mandatory one, in a small model.
 fn many_members(count: usize) -> Workload {
-    let model = model(always(), Instr::Skip, Instr::Skip);
+    let model = model(always(), Instr::Skip, Instr::Block(vec![Instr::Skip]));
     let work = Work::Synchronise(vec![0], vec![0; count]);
     let name = format!("synchronise, {count} optional members");
     Workload::new(name, model.encode(), work)
-}
-
-fn always() -> Expr {
-    Expr::Boolean(true)
-}
-
-/// A Boolean state and a Boolean flow, and a transition with this guard and this action.
-fn model(guard: Expr, action: Instr, assertion: Instr) -> Model {
-    let variable = Variable::Boolean { first: true };
-    Model {
-        states: vec![variable],
-        flows: vec![variable],
-        events: 1,
-        transitions: vec![Transition {
-            event: 0,
-            guard,
-            action,
-        }],
-        assertion: Instr::Block(vec![assertion]),
-    }
-}
-
-/// A way to nest expressions: one level around an expression.
-type Around = fn(Expr) -> Expr;
-
-/// Boolean expressions in one another.
-const EXPRESSIONS: [(&str, Around); 4] = [
-    ("not", Expr::negated),
-    ("and", |inner| Expr::binary(Operator::And, inner, always())),
-    ("equal", |inner| {
-        Expr::binary(Operator::EqualBooleans, always(), inner)
-    }),
-    ("if-then-else", |inner| {
-        Expr::conditional(always(), inner, always())
-    }),
-];
-
-/// An expression of this depth.
-fn deep_expression(around: Around, depth: usize) -> Expr {
-    (1..depth).fold(Expr::Variable(0), |inner, _| around(inner))
-}
-
-/// A relation of this depth, differences in one another at its left.
-fn deep_difference(depth: usize) -> Expr {
-    let difference = (2..depth).fold(number(1), |inner, _| {
-        Expr::binary(Operator::Minus, inner, number(1))
-    });
-    Expr::binary(Operator::Less, difference, number(1))
-}
-
-/// Blocks, or conditions, in one another around an assignment to this variable.
-fn deep_instruction(has_conditions: bool, variable: usize, depth: usize) -> Instr {
-    let assignment = Instr::Assign(variable, always());
-    (2..depth).fold(assignment, |inner, _| match has_conditions {
-        true => Instr::when(always(), inner),
-        false => Instr::Block(vec![inner]),
-    })
-}
-
-/// What a nest is made of: an expression, an instruction that assigns this variable, each of a given depth.
-struct Nest {
-    name: String,
-    expression: Box<dyn Fn(usize) -> Expr>,
-    instruction: Box<dyn Fn(usize, usize) -> Instr>,
-}
-
-fn nests() -> Vec<Nest> {
-    let mut nests: Vec<Nest> = EXPRESSIONS
-        .into_iter()
-        .map(|(name, around)| Nest {
-            name: name.into(),
-            expression: Box::new(move |depth| deep_expression(around, depth)),
-            instruction: Box::new(move |variable, depth| {
-                Instr::Assign(variable, deep_expression(around, depth - 1))
-            }),
-        })
-        .collect();
-    nests.push(Nest {
-        name: "minus".into(),
-        expression: Box::new(deep_difference),
-        instruction: Box::new(|variable, depth| {
-            Instr::Assign(variable, deep_difference(depth - 1))
-        }),
-    });
-    for (name, has_conditions) in [("blocks", false), ("if-then", true)] {
-        nests.push(Nest {
-            name: name.into(),
-            expression: Box::new(|depth| deep_expression(Expr::negated, depth)),
-            instruction: Box::new(move |variable, depth| {
-                deep_instruction(has_conditions, variable, depth)
-            }),
-        });
-    }
-    nests
 }
 
 /// Joins for the stack: new models of 4,000 nodes and of depth 32, and many members.
@@ -170,12 +77,12 @@ pub fn deep_joins() -> Vec<Workload> {
 /// A join in a model whose transition has a guard and an action of these depths, filled up to 4,000 nodes with it.
 fn deep_join(name: String, nest: &Nest, depths: [usize; 2], lists: [Vec<usize>; 2]) -> Workload {
     let guard = (nest.expression)(depths[0]);
-    let action = (nest.instruction)(0, depths[1]);
+    let action = (nest.instruction)(STATE, depths[1]);
     let [mandatory, optional] = lists;
     let copied = [guard.nodes().len(), action.nodes().len()];
     let added = added_nodes(copied, mandatory.len(), optional.len());
-    let model = model(guard, action, (nest.instruction)(1, 31));
-    let model = filled(model, NODES - added);
+    let assertion = Instr::Block(vec![(nest.instruction)(FLOW, 31)]);
+    let model = filled(model(guard, action, assertion), NODES - added);
     Workload::new(name, model.encode(), Work::Synchronise(mandatory, optional))
 }
 

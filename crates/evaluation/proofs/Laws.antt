@@ -10,7 +10,7 @@ use Rattle.evaluation.specs.declared.Evaluation.the-variants.{Unknown, F
 use Rattle.evaluation.specs.declared.Operator.{Operator}
 use Rattle.evaluation.specs.declared.Operator.the-variants.{Conjunction, Disjunction, Equality, Less, LessOrEqual, Sum, Difference, Product, Quotient, Remainder, Equivalence}
 use Rattle.evaluation.specs.Numbers.{checked, eqZ, boolean}
-use Rattle.evaluation.specs.Meaning.{operated, negated, chosen, symmetric, decides, isUnknown, isFailed, number, calculated}
+use Rattle.evaluation.specs.Meaning.{operated, negated, chosen, symmetric, decides, isUnknown, isFailed, number, calculated, agree}
 use Rattle.evaluation.specs.Laws.{EndsExact, OperandsExchange, Grows, OperatorsGrow}
 use Rattle.evaluation.specs.Laws.Grows.{stays, known}
 
@@ -45,6 +45,13 @@ eqZ-true (pos a) (pos b) e = ap pos (eqb-true a b e)
 eqZ-true (pos a) (negsuc b) e = absurd (false≢true e)
 eqZ-true (negsuc a) (pos b) e = absurd (false≢true e)
 eqZ-true (negsuc a) (negsuc b) e = ap negsuc (eqb-true a b e)
+
+pub eqZ-false : (a b : ℤ) → (a ≡ b → ⊥) → eqZ a b ≡ false
+eqZ-false a b n = by (eqZ a b) refl
+  where
+    by : (t : Bool) → eqZ a b ≡ t → t ≡ false
+    by true e = absurd (n (eqZ-true a b e))
+    by false e = refl
 
 -- ---- exchange
 
@@ -102,16 +109,73 @@ cond-grows : (t : Bool) (a a′ b b′ : Evaluation) → Grows a a′ → Grows 
 cond-grows true a a′ b b′ h k = h
 cond-grows false a a′ b b′ h k = k
 
-branches-grow : (c a a′ b b′ : Evaluation) → Grows a a′ → Grows b b′ → Grows (chosen c a b) (chosen c a′ b′)
+-- branches that agree are equal
+agree-same : (a b : Evaluation) → agree a b ≡ true → a ≡ b
+unfolding agree
+agree-same Unknown b e = absurd (false≢true e)
+agree-same Failed b e = absurd (false≢true e)
+agree-same (Value v) Unknown e = absurd (false≢true e)
+agree-same (Value v) Failed e = absurd (false≢true e)
+agree-same (Value v) (Value w) e = ap Value (eqZ-true v w e)
+
+-- an unknown second branch leaves 46 unknown, whatever the first is
+pub unknown-branch : (a : Evaluation) → (chosen Unknown a Unknown ≡ Unknown) × (chosen Failed a Unknown ≡ Unknown)
+unfolding chosen agree isUnknown
+unknown-branch Unknown = (refl, refl)
+unknown-branch Failed = (refl, refl)
+unknown-branch (Value v) = (refl, refl)
+
+-- where the branches agree, the condition does not matter
+agreed : (c a b : Evaluation) → agree a b ≡ true → chosen c a b ≡ a
 unfolding chosen
-branches-grow Unknown a a′ b b′ h k = stays
-branches-grow Failed a a′ b b′ h k = stays
+agreed Unknown a b e = rw e
+agreed Failed a b e = rw e
+agreed (Value v) a b e = by (eqZ v (boolean true))
+  where
+    by : (t : Bool) → cond t a b ≡ a
+    by true = refl
+    by false = sym (agree-same a b e)
+
+-- an unknown condition becomes known
+condition-grows : (c a b : Evaluation) → Grows (chosen Unknown a b) (chosen c a b)
+unfolding chosen
+condition-grows c a b = by (agree a b) refl
+  where
+    by : (t : Bool) → agree a b ≡ t → Grows (cond t a Unknown) (chosen c a b)
+    by true e = rw (agreed c a b e) stays
+    by false e = known
+
+-- an unknown branch becomes known
+branches-grow : (c a a′ b b′ : Evaluation) → Grows a a′ → Grows b b′ → Grows (chosen c a b) (chosen c a′ b′)
+unfolding chosen agree isUnknown
+branches-grow Unknown a a′ b b′ stays stays = stays
+branches-grow Unknown a a′ b b′ known k = known
+branches-grow Unknown a a′ b b′ stays known = rw (unknown-branch a .0) known
+branches-grow Failed a a′ b b′ stays stays = stays
+branches-grow Failed a a′ b b′ known k = known
+branches-grow Failed a a′ b b′ stays known = rw (unknown-branch a .1) known
 branches-grow (Value v) a a′ b b′ h k = cond-grows (eqZ v (boolean true)) a a′ b b′ h k
 
+grows-trans : {a b c : Evaluation} → Grows a b → Grows b c → Grows a c
+grows-trans stays k = k
+grows-trans known k = known
+
 chosen-grows : (c c′ a a′ b b′ : Evaluation) → Grows c c′ → Grows a a′ → Grows b b′ → Grows (chosen c a b) (chosen c′ a′ b′)
-unfolding chosen
 chosen-grows c c′ a a′ b b′ stays h k = branches-grow c a a′ b b′ h k
-chosen-grows c c′ a a′ b b′ known h k = known
+chosen-grows c c′ a a′ b b′ known h k = grows-trans (condition-grows c′ a b) (branches-grow c′ a a′ b b′ h k)
 
 pub operators-grow : OperatorsGrow
 operators-grow = (grows, negated-grows, chosen-grows)
+
+-- ---- what holds of unknown, of failed and of both branches holds of 46
+
+cond-keeps : (P : Evaluation → Type 0) (t : Bool) (a b : Evaluation) → P a → P b → P (cond t a b)
+cond-keeps P true a b h k = h
+cond-keeps P false a b h k = k
+
+pub chosen-keeps : (P : Evaluation → Type 0) → P Unknown → P Failed → (c a b : Evaluation) → P a → P b → P (chosen c a b)
+unfolding chosen
+chosen-keeps P u f Unknown a b h k = cond-keeps P (agree a b) a Unknown h u
+chosen-keeps P u f Failed a b h k =
+    cond-keeps P (agree a b) a _ h (cond-keeps P (isUnknown a || isUnknown b) Unknown Failed u f)
+chosen-keeps P u f (Value v) a b h k = cond-keeps P (eqZ v (boolean true)) a b h k

@@ -1,4 +1,4 @@
--- 01, "Meaning of an expression": what the operators make of their operands' evaluations (01: readings).
+-- 01, "Meaning of an expression", and 02, A6: what the operators make of their operands' evaluations (01: readings).
 use mathlib.Core.Bool.{Bool, true, false, cond, _||_}
 use lib.IntN.{ℤ, pos, _+ℤ_, _-ℤ_, _*ℤ_}
 use lib.Signed.{ltZ, leZ, quotZ, remZ}
@@ -90,10 +90,19 @@ negated Unknown = Unknown
 negated Failed = Failed
 negated (Value v) = Value (boolean (eqZ v (boolean false)))
 
--- 01: "46: unknown or failed as its condition is, else the chosen branch."
+-- 02, A6: "both branches have one and the same value"
+unfoldable pub agree : Evaluation → Evaluation → Bool
+agree Unknown b = false
+agree Failed b = false
+agree (Value v) Unknown = false
+agree (Value v) Failed = false
+agree (Value v) (Value w) = eqZ v w
+
+-- Kind 46. 01: "unknown [..] as its condition is, else the chosen branch". 02, A6: "If the condition is unknown and both branches have
+-- one and the same value, that is its value. If the condition failed: that value likewise; unknown if a branch is unknown; else failed."
 unfoldable pub chosen : Evaluation → Evaluation → Evaluation → Evaluation
-chosen Unknown a b = Unknown
-chosen Failed a b = Failed
+chosen Unknown a b = cond (agree a b) a Unknown
+chosen Failed a b = cond (agree a b) a (cond (isUnknown a || isUnknown b) Unknown Failed)
 chosen (Value v) a b = cond (eqZ v (boolean true)) a b
 
 -- 01: "Symmetric operators: 36, 37, 38, 41, 43, 47."

@@ -11,7 +11,7 @@ use mir.Syntax.{w32}
 use mir.Val.{toZ, ofZ}
 use Rattle.evaluation.proofs.Signed.{read-back}
 use Rattle.evaluation.specs.declared.Evaluation.{Evaluation}
-use Rattle.evaluation.specs.declared.Evaluation.the-variants.{Unknown, Failed, Value}
+use Rattle.evaluation.specs.declared.Evaluation.the-variants.{Value}
 use Rattle.evaluation.specs.declared.Operator.{Operator}
 use Rattle.evaluation.specs.declared.Operator.the-variants.{Conjunction, Disjunction, Equality, Less, LessOrEqual, Sum, Difference, Product, Quotient, Remainder, Equivalence}
 use Rattle.evaluation.specs.Numbers.{eqZ, boolean}
@@ -217,34 +217,40 @@ module _ (ks : List ℕ) (ps : List ℤ) where
     pub skipped-stands : {m : ℕ} → ToldPlace m at → ExpressionStands ks ps m × (at ≤ m)
     skipped-stands t = (there-stands (t ps (s .first) (s .firstStands)), omega (arith, t ps (s .first) (s .firstStands)))
 
-    pub evaluated-stands : (σ : Valuation) {r : Evaluated} → Told σ r at → ExpressionStands ks ps (r .next .at)
-    evaluated-stands σ told = there-stands (ap (λ x. x .next .at) (told (s .first) (s .firstStands)))
+    pub evaluated-stands : (σ : Valuation) {r : Evaluated} → Told σ r at → ExpressionStands ks ps (r .next .at) × (at ≤ r .next .at)
+    evaluated-stands σ {r} told =
+        let m : r .next .at ≡ at + sizeOfExpression (s .first) = ap (λ x. x .next .at) (told (s .first) (s .firstStands)) in
+        (there-stands m, omega arith)
 
   module _ (at : ℕ) (a b : Expression) (k : ExpressionAt ks ps b (at + sizeOfExpression a)) where
     -- the place after the second, from the place after the first
     after-second : {m n : ℕ} → m ≡ at + sizeOfExpression a → ToldPlace n m → n ≡ at + sizeOfExpression a + sizeOfExpression b
     after-second p t = t ps b (moved b (sym p) k) ∙ ap (λ m. m + sizeOfExpression b) p
 
-  module _ (at : ℕ) (σ : Valuation) {condition : Evaluation} where
-    module _ {m n : ℕ} (t : ToldPlace m at) (u : ToldPlace n m) where
-      pub unknown-given : condition ≡ Unknown → ToldBranches σ (evaluatedAs Unknown n) condition at
-      unfolding chosen
-      unknown-given p a b h k = rw (p, after-second at a b k (t ps a h) u)
+  -- both branches were evaluated
+  module _ (at : ℕ) (σ : Valuation) (condition : Evaluation) where
+    pub both-given : {first second : Evaluated} → Told σ first at → Told σ second (first .next .at)
+        → {r : Evaluation} → r ≡ chosen condition (first .evaluation) (second .evaluation)
+        → ToldBranches σ (evaluatedAs r (second .next .at)) condition at
+    both-given {first} told told₂ e a b h k =
+        let s = told a h in
+        let m : first .next .at ≡ at + sizeOfExpression a = ap (λ x. x .next .at) s in
+        let s₂ = told₂ b (moved b (sym m) k) in
+        ap₂ evaluatedAs
+        (e ∙ ap₂ (λ x y. chosen condition (x .evaluation) (y .evaluation)) s s₂)
+        (ap (λ x. x .next .at) s₂ ∙ omega arith)
 
-      pub failed-given : condition ≡ Failed → ToldBranches σ (evaluatedAs Failed n) condition at
-      unfolding chosen
-      failed-given p a b h k = rw (p, after-second at a b k (t ps a h) u)
+  -- one branch was evaluated
+  module _ (at : ℕ) (σ : Valuation) {condition : Evaluation} {v : ℤ} (p : condition ≡ Value v) {r : Evaluated} where
+    pub then-given : eqZ v (boolean true) ≡ true → Told σ r at → {n : ℕ} → ToldPlace n (r .next .at)
+        → ToldBranches σ (evaluatedAs (r .evaluation) n) condition at
+    unfolding chosen
+    then-given e told u a b h k =
+        let q = told a h in
+        rw (p, e) (ap₂ evaluatedAs (ap (λ x. x .evaluation) q) (after-second at a b k (ap (λ x. x .next .at) q) u))
 
-    module _ {v : ℤ} (p : condition ≡ Value v) {r : Evaluated} where
-      pub then-given : eqZ v (boolean true) ≡ true → Told σ r at → {n : ℕ} → ToldPlace n (r .next .at)
-          → ToldBranches σ (evaluatedAs (r .evaluation) n) condition at
-      unfolding chosen
-      then-given e told u a b h k =
-          let q = told a h in
-          rw (p, e) (ap₂ evaluatedAs (ap (λ x. x .evaluation) q) (after-second at a b k (ap (λ x. x .next .at) q) u))
-
-      pub else-given : eqZ v (boolean true) ≡ false → {m : ℕ} → ToldPlace m at → Told σ r m → ToldBranches σ r condition at
-      unfolding chosen
-      else-given e t told a b h k =
-          let q = t ps a h in
-          rw (p, e) (told b (moved b (sym q) k) ∙ ap (λ m. evaluatedAs (evaluate b σ) (m + sizeOfExpression b)) q)
+    pub else-given : eqZ v (boolean true) ≡ false → {m : ℕ} → ToldPlace m at → Told σ r m → ToldBranches σ r condition at
+    unfolding chosen
+    else-given e t told a b h k =
+        let q = t ps a h in
+        rw (p, e) (told b (moved b (sym q) k) ∙ ap (λ m. evaluatedAs (evaluate b σ) (m + sizeOfExpression b)) q)

@@ -128,12 +128,12 @@ pub fn evaluate(kinds: &[u8], parameters: &[i32], cells: &[i64], cursor: Cursor)
         return leaf(kinds, parameters, cells, at);
     }
     let child = at + 1;
+    let own_kinds = kinds;
+    let own_parameters = parameters;
+    let own_cells = cells;
     let first = if kinds[child] < NEGATION {
         leaf(kinds, parameters, cells, child)
     } else {
-        let own_kinds = kinds;
-        let own_parameters = parameters;
-        let own_cells = cells;
         evaluate(own_kinds, own_parameters, own_cells, Cursor { at: child })
     };
     let a = first.evaluation;
@@ -149,9 +149,6 @@ pub fn evaluate(kinds: &[u8], parameters: &[i32], cells: &[i64], cursor: Cursor)
     let second = if kinds[place] < NEGATION {
         leaf(kinds, parameters, cells, place)
     } else {
-        let own_kinds = kinds;
-        let own_parameters = parameters;
-        let own_cells = cells;
         evaluate(own_kinds, own_parameters, own_cells, next)
     };
     let b = second.evaluation;
@@ -160,7 +157,8 @@ pub fn evaluate(kinds: &[u8], parameters: &[i32], cells: &[i64], cursor: Cursor)
     Evaluated { evaluation, next }
 }
 
-// The two branches of a conditional (46) at the cursor, whose condition came to this. A branch that is not chosen is not evaluated.
+// The two branches of a conditional (46) at the cursor, whose condition came to this. Where the condition has a value, the branch that
+// is not chosen is not evaluated.
 fn conditional(
     kinds: &[u8],
     parameters: &[i32],
@@ -174,32 +172,28 @@ fn conditional(
         → r ≡ evaluatedAs (chosen condition (expressions.evaluate a (valuationOf (now (cells .entry)))) (expressions.evaluate b (valuationOf (now (cells .entry)))))
         (cursor .at + sizeOfExpression a + sizeOfExpression b)) ⌝ }
 {
-    match condition {
-        Evaluation::Unknown => Evaluated {
-            evaluation: Evaluation::Unknown,
-            next: Cursor {
-                at: past(kinds, past(kinds, cursor.at)),
-            },
-        },
-        Evaluation::Failed => Evaluated {
-            evaluation: Evaluation::Failed,
-            next: Cursor {
-                at: past(kinds, past(kinds, cursor.at)),
-            },
-        },
-        Evaluation::Value(v) => {
-            if v == 1 {
-                let first = evaluate(kinds, parameters, cells, cursor);
-                let evaluation = first.evaluation;
-                let next = Cursor {
-                    at: past(kinds, first.next.at),
-                };
-                return Evaluated { evaluation, next };
-            }
-            let second = Cursor {
-                at: past(kinds, cursor.at),
+    if let Evaluation::Value(v) = condition {
+        if v == 1 {
+            let first = evaluate(kinds, parameters, cells, cursor);
+            let evaluation = first.evaluation;
+            let next = Cursor {
+                at: past(kinds, first.next.at),
             };
-            evaluate(kinds, parameters, cells, second)
+            return Evaluated { evaluation, next };
         }
+        let second = Cursor {
+            at: past(kinds, cursor.at),
+        };
+        return evaluate(kinds, parameters, cells, second);
+    }
+    let first = evaluate(kinds, parameters, cells, cursor);
+    let a = first.evaluation;
+    let second = evaluate(kinds, parameters, cells, first.next);
+    let b = second.evaluation;
+    let evaluation = operators::choose(condition, a, b);
+    let end = second.next;
+    Evaluated {
+        evaluation,
+        next: end,
     }
 }

@@ -1,8 +1,8 @@
-// The operators on evaluations: and, or and not, and every other operator by its own arithmetic.
+// The operators on evaluations: and, or, not and if-then-else, and every other operator by its own arithmetic.
 
 ghost use mathlib.Core.Path.{_≡_};
-ghost use mathlib.Core.Bool.{cond};
-ghost use Rattle.evaluation.specs.Meaning.{calculated, decisive, decision, operated, negated};
+ghost use mathlib.Core.Bool.{cond, _||_};
+ghost use Rattle.evaluation.specs.Meaning.{calculated, decisive, decision, operated, negated, isUnknown, agree, chosen};
 use evaluation::Evaluation;
 use evaluation::Operator;
 
@@ -118,5 +118,45 @@ pub fn negate(a: Evaluation) -> Evaluation
         Evaluation::Unknown => Evaluation::Unknown,
         Evaluation::Failed => Evaluation::Failed,
         Evaluation::Value(v) => evaluation::equal(v, 0),
+    }
+}
+
+// Two branches under a condition that has no value: the value on which they agree, else unknown if one is, else `otherwise`.
+fn undecided(a: Evaluation, b: Evaluation, otherwise: Evaluation) -> Evaluation
+    ensures { λ r. ⌜ r ≡ cond (agree a b) a (cond (isUnknown a || isUnknown b) Evaluation.Unknown otherwise) ⌝ }
+{
+    match a {
+        Evaluation::Unknown => Evaluation::Unknown,
+        Evaluation::Failed => match b {
+            Evaluation::Unknown => Evaluation::Unknown,
+            Evaluation::Failed => otherwise,
+            Evaluation::Value(y) => otherwise,
+        },
+        Evaluation::Value(x) => match b {
+            Evaluation::Unknown => Evaluation::Unknown,
+            Evaluation::Failed => otherwise,
+            Evaluation::Value(y) => {
+                if x == y {
+                    return Evaluation::Value(x);
+                }
+                otherwise
+            }
+        },
+    }
+}
+
+// Kind 46.
+pub fn choose(condition: Evaluation, a: Evaluation, b: Evaluation) -> Evaluation
+    ensures { λ r. ⌜ r ≡ chosen condition a b ⌝ }
+{
+    match condition {
+        Evaluation::Unknown => undecided(a, b, Evaluation::Unknown),
+        Evaluation::Failed => undecided(a, b, Evaluation::Failed),
+        Evaluation::Value(v) => {
+            if v == 1 {
+                return a;
+            }
+            b
+        }
     }
 }

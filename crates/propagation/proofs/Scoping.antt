@@ -14,8 +14,8 @@ use Rattle.evaluation.specs.declared.Evaluation.the-variants.{Unknown, Failed, 
 use Rattle.evaluation.specs.declared.Operator.{Operator}
 use Rattle.evaluation.specs.declared.Operator.the-variants.{Conjunction, Disjunction, Equality, Less, LessOrEqual, Sum, Difference, Product, Quotient, Remainder, Equivalence}
 use Rattle.evaluation.specs.Numbers.{representable, checked, eqZ, boolean}
-use Rattle.evaluation.specs.Meaning.{operated, negated, chosen, calculated, decides, decision, divided, isUnknown, isFailed, number}
-use Rattle.evaluation.proofs.Laws.{eqZ-true}
+use Rattle.evaluation.specs.Meaning.{operated, negated, calculated, decides, decision, divided, isUnknown, isFailed, number}
+use Rattle.evaluation.proofs.Laws.{eqZ-true, chosen-keeps}
 use Rattle.model.specs.Trees.{Expression, Instruction, Instructions}
 use Rattle.model.specs.Trees.Expression.{numeral, truth, variable, negation, binary, ifThenElse}
 use Rattle.model.specs.Trees.Instruction.{skip, assign, ifThen, block}
@@ -104,12 +104,6 @@ proper-negated Unknown = tt
 proper-negated Failed = tt
 proper-negated (Value v) = proper-boolean (eqZ v (boolean false))
 
-proper-chosen : (c a b : Evaluation) → Proper a → Proper b → Proper (chosen c a b)
-unfolding chosen Proper
-proper-chosen Unknown a b h k = tt
-proper-chosen Failed a b h k = tt
-proper-chosen (Value v) a b h k = proper-cond (eqZ v (boolean true)) a b h k
-
 proper-truth : (v : ℤ) → T (isTruth v) → T (representable v)
 proper-truth v h = by (eqZ v (pos 0)) (eqZ v (pos 1)) refl refl h
   where
@@ -127,7 +121,7 @@ module _ (σ : Valuation) (known : ProperValues σ) where
   proper-evaluation (negation a) sorts wanted h = proper-negated (evaluate a σ)
   proper-evaluation (binary op a b) sorts wanted h = proper-operated op (evaluate a σ) (evaluate b σ)
   proper-evaluation (ifThenElse c a b) sorts wanted h =
-      proper-chosen (evaluate c σ) (evaluate a σ) (evaluate b σ) (proper-evaluation a sorts wanted (h .1)) (proper-evaluation b sorts wanted (h .2))
+      chosen-keeps Proper tt tt (evaluate c σ) (evaluate a σ) (evaluate b σ) (proper-evaluation a sorts wanted (h .1)) (proper-evaluation b sorts wanted (h .2))
 
 -- ---- effects
 

@@ -11,4 +11,5 @@ pub mod Reached
 pub mod Refused
 pub mod Replay
 pub mod Replayed
+pub mod Rows
 pub mod Seen

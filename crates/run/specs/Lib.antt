@@ -5,3 +5,4 @@ pub mod Lists
 pub mod Promises
 -- statements:
 pub mod Theorems
+pub mod Rows

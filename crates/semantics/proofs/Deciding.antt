@@ -18,8 +18,8 @@ use Rattle.evaluation.specs.declared.Evaluation.the-variants.{Unknown, Failed, 
 use Rattle.evaluation.specs.declared.Operator.{Operator}
 use Rattle.evaluation.specs.declared.Operator.the-variants.{Conjunction, Disjunction, Equality, Less, LessOrEqual, Sum, Difference, Product, Quotient, Remainder, Equivalence}
 use Rattle.evaluation.specs.Numbers.{eqZ, boolean}
-use Rattle.evaluation.specs.Meaning.{operated, negated, chosen, calculated, decides, decision, isUnknown, isFailed, number}
-use Rattle.evaluation.proofs.Laws.{eqZ-true}
+use Rattle.evaluation.specs.Meaning.{operated, negated, calculated, decides, decision, isUnknown, isFailed, number}
+use Rattle.evaluation.proofs.Laws.{eqZ-true, chosen-keeps}
 use Rattle.kinds.specs.Kinds.{booleanSort, kindOf, resultOf}
 use Rattle.syntax.specs.Readings.{isTruth}
 use Rattle.model.specs.declared.Sizes.{Sizes}
@@ -94,12 +94,6 @@ truthful-negated Unknown = tt
 truthful-negated Failed = tt
 truthful-negated (Value v) = truthful-boolean (eqZ v (boolean false))
 
-truthful-chosen : (c a b : Evaluation) → Truthful a → Truthful b → Truthful (chosen c a b)
-unfolding chosen Truthful
-truthful-chosen Unknown a b h k = tt
-truthful-chosen Failed a b h k = tt
-truthful-chosen (Value v) a b h k = truthful-cond (eqZ v (boolean true)) a b h k
-
 module _ (sorts : List ℕ) (σ : Valuation) (booleans : (x : ℕ) → x < length sorts → getD sorts x 0 ≡ booleanSort → Truthful (evaluationOf (σ x))) where
   truthful-expression : (e : Expression) → Sorted sorts booleanSort e → Truthful (evaluate e σ)
   unfolding evaluate Sorted Truthful
@@ -109,7 +103,7 @@ module _ (sorts : List ℕ) (σ : Valuation) (booleans : (x : ℕ) → x < lengt
   truthful-expression (negation a) h = truthful-negated (evaluate a σ)
   truthful-expression (binary op a b) h = truthful-operated op (h .0) (evaluate a σ) (evaluate b σ)
   truthful-expression (ifThenElse c a b) h =
-      truthful-chosen (evaluate c σ) (evaluate a σ) (evaluate b σ) (truthful-expression a (h .1)) (truthful-expression b (h .2))
+      chosen-keeps Truthful tt tt (evaluate c σ) (evaluate a σ) (evaluate b σ) (truthful-expression a (h .1)) (truthful-expression b (h .2))
 
 -- ---- values within their ends
 

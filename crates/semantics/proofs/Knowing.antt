@@ -13,7 +13,7 @@ use Rattle.evaluation.specs.declared.Evaluation.the-variants.{Unknown, Failed, 
 use Rattle.evaluation.specs.declared.Operator.{Operator}
 use Rattle.evaluation.specs.declared.Operator.the-variants.{Conjunction, Disjunction, Equality, Less, LessOrEqual, Sum, Difference, Product, Quotient, Remainder, Equivalence}
 use Rattle.evaluation.specs.Numbers.{representable, checked, eqZ, boolean}
-use Rattle.evaluation.specs.Meaning.{operated, negated, chosen, calculated, decides, decision, divided, isUnknown, isFailed, number}
+use Rattle.evaluation.specs.Meaning.{operated, negated, agree, chosen, calculated, decides, decision, divided, isUnknown, isFailed, number}
 use Rattle.kinds.specs.Kinds.{booleanSort}
 use Rattle.model.specs.Trees.{Expression, Instruction, Instructions, Variable, Transition, System, variables, sortsOf}
 use Rattle.model.specs.Trees.Expression.{numeral, truth, variable, negation, binary, ifThenElse}
@@ -85,8 +85,8 @@ known-negated (Value v) h = refl
 
 known-chosen : (c a b : Evaluation) → isUnknown c ≡ false → isUnknown a ≡ false → isUnknown b ≡ false → isUnknown (chosen c a b) ≡ false
 unfolding chosen isUnknown
-known-chosen Unknown a b h k l = h
-known-chosen Failed a b h k l = refl
+known-chosen Unknown a b h k l = known-cond (agree a b) a Unknown k h
+known-chosen Failed a b h k l = rw (k, l) (known-cond (agree a b) a Failed k refl)
 known-chosen (Value v) a b h k l = known-cond (eqZ v (boolean true)) a b k l
 
 known-variable : (o : Option ℤ) → isKnown o ≡ true → isUnknown (evaluationOf o) ≡ false

@@ -4,15 +4,15 @@ use bench::calls::{Call, CHECK, FIRST_OUTSIDE};
 use bench::ffi::LIBRARY;
 use bench::guarded::Guarded;
 use bench::program::gtsrun;
-use bench::stored::{self, Lent, ListCase};
+use bench::stored::{self, Lent, ListCase, CALL_FILES, PROGRAM_FILES};
 
 use crate::tally::{Tally, JOIN, TEXT};
 use crate::Pair;
 
 pub fn compare(tally: &mut Tally) {
     let checks = checks(tally);
-    let lists = lists(tally, "calls.txt") + lists(tally, "joined_calls.txt");
-    let programs = programs(tally);
+    let lists: usize = CALL_FILES.map(|file| lists(tally, file)).iter().sum();
+    let programs: usize = PROGRAM_FILES.map(|file| programs(tally, file)).iter().sum();
     let texts = texts(tally);
     let values = values(tally);
     let joins = joins(tally);
@@ -74,8 +74,8 @@ fn compare_list(tally: &mut Tally, name: &str, case: &ListCase, given: &[u8]) {
     }
 }
 
-fn programs(tally: &mut Tally) -> usize {
-    let programs = stored::programs(&stored::text("programs.txt"));
+fn programs(tally: &mut Tally, file: &str) -> usize {
+    let programs = stored::programs(&stored::text(file));
     for (place, case) in programs.iter().enumerate() {
         let model = Guarded::new(&case.model);
         let output = gtsrun(&LIBRARY, model.cells(), &case.input);
@@ -83,7 +83,7 @@ fn programs(tally: &mut Tally) -> usize {
         if output.as_bytes() != case.output || model != Guarded::new(&case.model) {
             wrong.push("another output, or the model was written".to_string());
         }
-        tally.report(&format!("stored program {place}"), &wrong);
+        tally.report(&format!("{file}, program {place}"), &wrong);
     }
     programs.len()
 }

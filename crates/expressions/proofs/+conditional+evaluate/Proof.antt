@@ -11,13 +11,14 @@ use borrow.Fn.Kinds.{In}
 use borrow.Fn.PlainCycle.{Measures, is, falls, and}
 use Rattle.evaluation.proofs.Signed.{equal-bits, other-bits, one-fits}
 use Rattle.expressions.specs.Cells.{valuationOf}
-use Rattle.expressions.proofs.Evaluating.{Told, expression-within, negation-given, conditional-given, binary-given, first-stands, second-stands, branches-stand, kinds-stand, here-stands, skipped-stands, evaluated-stands, unknown-given, failed-given, then-given, else-given}
+use Rattle.expressions.proofs.Evaluating.{Told, expression-within, negation-given, conditional-given, binary-given, first-stands, second-stands, branches-stand, kinds-stand, here-stands, skipped-stands, evaluated-stands, both-given, then-given, else-given}
 use Rattle.expressions.proofs.conditional.Reads as conditional
 use Rattle.expressions.proofs.conditional.Kinds as conditional-kinds
 use Rattle.expressions.proofs.+conditional+evaluate.Lts-conditional as conditional-lts
 use Rattle.expressions.proofs.evaluate.Reads as evaluate
 use Rattle.expressions.proofs.evaluate.Kinds as evaluate-kinds
 use Rattle.expressions.proofs.+conditional+evaluate.Lts-evaluate as evaluate-lts
+use Rattle.operators.proofs.choose.Reads as choose-reads
 use Rattle.operators.proofs.negate.Reads as negate-reads
 use Rattle.operators.proofs.operate.Reads as operate-reads
 use Rattle.expressions.proofs.leaf.Reads as leaf-reads
@@ -48,37 +49,11 @@ evaluate-below t =
     and 3 evaluate-kinds.ps (falls 3 evaluate-kinds.ps _<_ μ-evaluate t) evaluate.Pre
 
 abbrev called : ℕ → conditional-lts.Claims
-called t = (past-reads.Asked, past-reads.Learnt, evaluate-below t, evaluate.Post)
+called t = (evaluate-below t, evaluate.Post, past-reads.Asked, past-reads.Learnt, choose-reads.Asked, choose-reads.Learnt)
 
 abbrev claims : ℕ → evaluate-lts.Claims
 claims t =
     (leaf-reads.Asked, leaf-reads.Learnt, evaluate-below t, evaluate.Post, negate-reads.Asked, negate-reads.Learnt, conditional-below t, conditional.Post, operator-of-reads.Asked, operator-of-reads.Learnt, operate-reads.Asked, operate-reads.Learnt)
-
-conditional-enum-told : (t : ℕ) → conditional-lts.Need-enum-told (called t) (conditional-at t) conditional.Post
-conditional-enum-told t c = search needs
-
-conditional-past-requires : (t : ℕ) → conditional-lts.Need-past-requires (called t) (conditional-at t) conditional.Post
-conditional-past-requires t c κs =
-    let start = c .before .before .before in
-    kinds-stand (start .args .kinds .now) (start .args .parameters .now) (here-stands (start .args .kinds .now) (start .args .parameters .now) (start .args .cursor .at) (start .pre .1))
-
-conditional-past-requires-2 : (t : ℕ) → conditional-lts.Need-past-requires-2 (called t) (conditional-at t) conditional.Post
-conditional-past-requires-2 t c κs =
-    let start = c .before .before .before .before in
-    kinds-stand (start .args .kinds .now) (start .args .parameters .now) (skipped-stands (start .args .kinds .now) (start .args .parameters .now) (start .args .cursor .at) (start .pre .1) (c .past .ensures) .0)
-
-conditional-enum-told-2 : (t : ℕ) → conditional-lts.Need-enum-told-2 (called t) (conditional-at t) conditional.Post
-conditional-enum-told-2 t c = search needs
-
-conditional-past-requires-3 : (t : ℕ) → conditional-lts.Need-past-requires-3 (called t) (conditional-at t) conditional.Post
-conditional-past-requires-3 t c κs =
-    let start = c .before .before .before in
-    kinds-stand (start .args .kinds .now) (start .args .parameters .now) (here-stands (start .args .kinds .now) (start .args .parameters .now) (start .args .cursor .at) (start .pre .1))
-
-conditional-past-requires-4 : (t : ℕ) → conditional-lts.Need-past-requires-4 (called t) (conditional-at t) conditional.Post
-conditional-past-requires-4 t c κs =
-    let start = c .before .before .before .before in
-    kinds-stand (start .args .kinds .now) (start .args .parameters .now) (skipped-stands (start .args .kinds .now) (start .args .parameters .now) (start .args .cursor .at) (start .pre .1) (c .past3 .ensures) .0)
 
 conditional-enum-known-condition : (t : ℕ) → conditional-lts.Need-enum-known-condition (called t) (conditional-at t) conditional.Post
 conditional-enum-known-condition t c = search needs
@@ -88,41 +63,50 @@ conditional-evaluate-requires t c κs =
     let start = c .before .before .before .before .before in
     (omega (arith, start .pre .0), here-stands (start .args .kinds .now) (start .args .parameters .now) (start .args .cursor .at) (start .pre .1))
 
-conditional-past-requires-5 : (t : ℕ) → conditional-lts.Need-past-requires-5 (called t) (conditional-at t) conditional.Post
-conditional-past-requires-5 t c κs =
+conditional-past-requires : (t : ℕ) → conditional-lts.Need-past-requires (called t) (conditional-at t) conditional.Post
+conditional-past-requires t c κs =
     let start = c .before .before .before .before .before .before in
-    kinds-stand (start .args .kinds .now) (start .args .parameters .now) (evaluated-stands (start .args .kinds .now) (start .args .parameters .now) (start .args .cursor .at) (start .pre .1) (valuationOf (start .args .cells .now)) (c .evaluate .ensures))
+    kinds-stand (start .args .kinds .now) (start .args .parameters .now) (evaluated-stands (start .args .kinds .now) (start .args .parameters .now) (start .args .cursor .at) (start .pre .1) (valuationOf (start .args .cells .now)) (c .evaluate .ensures) .0)
 
 conditional-returns : (t : ℕ) → conditional-lts.Need-returns (called t) (conditional-at t) conditional.Post
 conditional-returns t c =
     let start = c .before .before .before .before .before .before .before in
-    then-given (start .args .kinds .now) (start .args .parameters .now) (start .args .cursor .at) (valuationOf (start .args .cells .now)) (c .before .before .before .before .condition .given .1) (equal-bits w32 (record { sfits = c .before .before .before .known-told .given .0 .1 }) one-fits (c .before .before .if1 .taken)) (c .before .evaluate .ensures) (c .past5 .ensures)
+    then-given (start .args .kinds .now) (start .args .parameters .now) (start .args .cursor .at) (valuationOf (start .args .cells .now)) (c .before .before .before .before .condition .given .1) (equal-bits w32 (record { sfits = c .before .before .before .known-told .given .0 .1 }) one-fits (c .before .before .if1 .taken)) (c .before .evaluate .ensures) (c .past .ensures)
 
-conditional-past-requires-6 : (t : ℕ) → conditional-lts.Need-past-requires-6 (called t) (conditional-at t) conditional.Post
-conditional-past-requires-6 t c κs =
+conditional-past-requires-2 : (t : ℕ) → conditional-lts.Need-past-requires-2 (called t) (conditional-at t) conditional.Post
+conditional-past-requires-2 t c κs =
     let start = c .before .before .before .before .before in
     kinds-stand (start .args .kinds .now) (start .args .parameters .now) (here-stands (start .args .kinds .now) (start .args .parameters .now) (start .args .cursor .at) (start .pre .1))
 
 conditional-evaluate-requires-2 : (t : ℕ) → conditional-lts.Need-evaluate-requires-2 (called t) (conditional-at t) conditional.Post
 conditional-evaluate-requires-2 t c κs =
     let start = c .before .before .before .before .before .before in
-    let s = skipped-stands (start .args .kinds .now) (start .args .parameters .now) (start .args .cursor .at) (start .pre .1) (c .past6 .ensures) in
+    let s = skipped-stands (start .args .kinds .now) (start .args .parameters .now) (start .args .cursor .at) (start .pre .1) (c .past2 .ensures) in
     (omega (arith, start .pre .0, s .1), s .0)
 
 conditional-returns-2 : (t : ℕ) → conditional-lts.Need-returns-2 (called t) (conditional-at t) conditional.Post
 conditional-returns-2 t c =
-    let start = c .before .before .before .before .before in
-    unknown-given (start .args .kinds .now) (start .args .parameters .now) (start .args .cursor .at) (valuationOf (start .args .cells .now)) (c .before .past .ensures) (c .past2 .ensures) (c .before .before .enum-told .given .1)
+    let start = c .before .before .before .before .before .before .before in
+    else-given (start .args .kinds .now) (start .args .parameters .now) (start .args .cursor .at) (valuationOf (start .args .cells .now)) (c .before .before .before .before .condition .given .1) (other-bits w32 (record { sfits = c .before .before .before .known-told .given .0 .1 }) one-fits (c .before .before .if1 .left)) (c .before .past2 .ensures) (c .evaluate2 .ensures)
+
+conditional-evaluate-requires-3 : (t : ℕ) → conditional-lts.Need-evaluate-requires-3 (called t) (conditional-at t) conditional.Post
+conditional-evaluate-requires-3 t c κs =
+    let start = c .before .before in
+    (omega (arith, start .pre .0), here-stands (start .args .kinds .now) (start .args .parameters .now) (start .args .cursor .at) (start .pre .1))
+
+conditional-evaluate-requires-4 : (t : ℕ) → conditional-lts.Need-evaluate-requires-4 (called t) (conditional-at t) conditional.Post
+conditional-evaluate-requires-4 t c κs =
+    let start = c .before .before .before in
+    let s = evaluated-stands (start .args .kinds .now) (start .args .parameters .now) (start .args .cursor .at) (start .pre .1) (valuationOf (start .args .cells .now)) (c .evaluate3 .ensures) in
+    (omega (arith, start .pre .0, s .1), s .0)
+
+conditional-choose-requires : (t : ℕ) → conditional-lts.Need-choose-requires (called t) (conditional-at t) conditional.Post
+conditional-choose-requires t c κs = search needs
 
 conditional-returns-3 : (t : ℕ) → conditional-lts.Need-returns-3 (called t) (conditional-at t) conditional.Post
 conditional-returns-3 t c =
-    let start = c .before .before .before .before .before in
-    failed-given (start .args .kinds .now) (start .args .parameters .now) (start .args .cursor .at) (valuationOf (start .args .cells .now)) (c .before .past3 .ensures) (c .past4 .ensures) (c .before .before .enum-told2 .given .1)
-
-conditional-returns-4 : (t : ℕ) → conditional-lts.Need-returns-4 (called t) (conditional-at t) conditional.Post
-conditional-returns-4 t c =
-    let start = c .before .before .before .before .before .before .before in
-    else-given (start .args .kinds .now) (start .args .parameters .now) (start .args .cursor .at) (valuationOf (start .args .cells .now)) (c .before .before .before .before .condition .given .1) (other-bits w32 (record { sfits = c .before .before .before .known-told .given .0 .1 }) one-fits (c .before .before .if1 .left)) (c .before .past6 .ensures) (c .evaluate2 .ensures)
+    let start = c .before .before .before .before .before .before in
+    both-given (start .args .kinds .now) (start .args .parameters .now) (start .args .cursor .at) (valuationOf (start .args .cells .now)) (start .args .condition) (c .before .before .before .evaluate3 .ensures) (c .before .before .evaluate4 .ensures) (c .before .choose .ensures)
 
 -- the first child, evaluated by `leaf` or by `evaluate`
 first-told : (t : ℕ) (c : evaluate-lts.Joined2 (claims t) (evaluate-at t) evaluate.Post)
@@ -227,21 +211,17 @@ pub +conditional+evaluate-spec : {M : Type 1} → statement M
 +conditional+evaluate-spec = close μ-conditional μ-evaluate (λ t. conditional-lts.spec (called t)
     (conditional-at t)
     conditional.Post
-    (conditional-enum-told t)
-    (conditional-past-requires t)
-    (conditional-past-requires-2 t)
-    (conditional-enum-told-2 t)
-    (conditional-past-requires-3 t)
-    (conditional-past-requires-4 t)
     (conditional-enum-known-condition t)
     (conditional-evaluate-requires t)
-    (conditional-past-requires-5 t)
+    (conditional-past-requires t)
     (conditional-returns t)
-    (conditional-past-requires-6 t)
+    (conditional-past-requires-2 t)
     (conditional-evaluate-requires-2 t)
     (conditional-returns-2 t)
-    (conditional-returns-3 t)
-    (conditional-returns-4 t))
+    (conditional-evaluate-requires-3 t)
+    (conditional-evaluate-requires-4 t)
+    (conditional-choose-requires t)
+    (conditional-returns-3 t))
     λ t. evaluate-lts.spec (claims t)
     (evaluate-at t)
     evaluate.Post
