@@ -79,6 +79,12 @@ operands-exchange op s a b =
       calculated-comm op s (number a) (number b),
     )
 
+-- ---- what holds of both holds of the one chosen
+
+pub cond-keeps : (P : Evaluation → Type 0) (t : Bool) (a b : Evaluation) → P a → P b → P (cond t a b)
+cond-keeps P true a b h k = h
+cond-keeps P false a b h k = k
+
 -- ---- growth
 
 -- an unknown operand on the left, and on the right, becomes known
@@ -130,11 +136,7 @@ agreed : (c a b : Evaluation) → agree a b ≡ true → chosen c a b ≡ a
 unfolding chosen
 agreed Unknown a b e = rw e
 agreed Failed a b e = rw e
-agreed (Value v) a b e = by (eqZ v (boolean true))
-  where
-    by : (t : Bool) → cond t a b ≡ a
-    by true = refl
-    by false = sym (agree-same a b e)
+agreed (Value v) a b e = cond-keeps (λ x. x ≡ a) (eqZ v (boolean true)) a b refl (sym (agree-same a b e))
 
 -- an unknown condition becomes known
 condition-grows : (c a b : Evaluation) → Grows (chosen Unknown a b) (chosen c a b)
@@ -168,10 +170,6 @@ pub operators-grow : OperatorsGrow
 operators-grow = (grows, negated-grows, chosen-grows)
 
 -- ---- what holds of unknown, of failed and of both branches holds of 46
-
-cond-keeps : (P : Evaluation → Type 0) (t : Bool) (a b : Evaluation) → P a → P b → P (cond t a b)
-cond-keeps P true a b h k = h
-cond-keeps P false a b h k = k
 
 pub chosen-keeps : (P : Evaluation → Type 0) → P Unknown → P Failed → (c a b : Evaluation) → P a → P b → P (chosen c a b)
 unfolding chosen

@@ -11,6 +11,7 @@ use Rattle.evaluation.specs.declared.Evaluation.the-variants.{Unknown, Failed, 
 use Rattle.evaluation.specs.declared.Operator.{Operator}
 use Rattle.evaluation.specs.Numbers.{boolean}
 use Rattle.evaluation.specs.Meaning.{operated, decides, decisive, decision, isUnknown, isFailed, number, calculated, agree, chosen}
+use Rattle.evaluation.proofs.Laws.{cond-keeps}
 use Rattle.evaluation.proofs.Signed.{stored, read-back, read-both, read-test, equal-bits, other-bits, one-fits}
 
 -- one operand is a value
@@ -101,11 +102,7 @@ module _ (otherwise : Evaluation) {a b : Evaluation} {x y : ℤ} (f : mag x < 2 
 module _ (a b : Evaluation) {c r : Evaluation} where
   pub unknown-chosen : c ≡ Unknown → Undecided a b Unknown r → r ≡ chosen c a b
   unfolding chosen
-  unknown-chosen p e = e ∙ rw (p, either-way (isUnknown a || isUnknown b))
-    where
-      either-way : (t : Bool) → cond t Unknown Unknown ≡ Unknown
-      either-way true = refl
-      either-way false = refl
+  unknown-chosen p e = e ∙ rw (p, cond-keeps (λ x. x ≡ Unknown) (isUnknown a || isUnknown b) Unknown Unknown refl refl)
 
   pub failed-chosen : c ≡ Failed → Undecided a b Failed r → r ≡ chosen c a b
   unfolding chosen

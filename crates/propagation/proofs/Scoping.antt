@@ -15,7 +15,7 @@ use Rattle.evaluation.specs.declared.Operator.{Operator}
 use Rattle.evaluation.specs.declared.Operator.the-variants.{Conjunction, Disjunction, Equality, Less, LessOrEqual, Sum, Difference, Product, Quotient, Remainder, Equivalence}
 use Rattle.evaluation.specs.Numbers.{representable, checked, eqZ, boolean}
 use Rattle.evaluation.specs.Meaning.{operated, negated, calculated, decides, decision, divided, isUnknown, isFailed, number}
-use Rattle.evaluation.proofs.Laws.{eqZ-true, chosen-keeps}
+use Rattle.evaluation.proofs.Laws.{eqZ-true, cond-keeps, chosen-keeps}
 use Rattle.model.specs.Trees.{Expression, Instruction, Instructions}
 use Rattle.model.specs.Trees.Expression.{numeral, truth, variable, negation, binary, ifThenElse}
 use Rattle.model.specs.Trees.Instruction.{skip, assign, ifThen, block}
@@ -42,10 +42,6 @@ Proper (Value v) = T (representable v)
 abbrev pub ProperValues : Valuation → Type 0
 ProperValues σ = (x : ℕ) → Proper (evaluationOf (σ x))
 
-proper-cond : (t : Bool) (a b : Evaluation) → Proper a → Proper b → Proper (cond t a b)
-proper-cond true a b h k = h
-proper-cond false a b h k = k
-
 proper-boolean : (t : Bool) → Proper (Value (boolean t))
 unfolding Proper
 proper-boolean true = tt
@@ -61,7 +57,7 @@ proper-checked z = by (representable z) refl
 
 proper-divided : (f : ℤ → ℤ → ℤ) (a b : ℤ) → Proper (divided f a b)
 unfolding divided Proper
-proper-divided f a b = proper-cond (eqZ b (pos 0)) Failed (checked (f a b)) tt (proper-checked (f a b))
+proper-divided f a b = cond-keeps Proper (eqZ b (pos 0)) Failed (checked (f a b)) tt (proper-checked (f a b))
 
 proper-calculated : (op : Operator) (a b : ℤ) → Proper (calculated op a b)
 unfolding calculated
@@ -94,9 +90,9 @@ proper-decision Equivalence = proper-boolean false
 proper-operated : (op : Operator) (a b : Evaluation) → Proper (operated op a b)
 unfolding operated Proper
 proper-operated op a b =
-    proper-cond (decides op a || decides op b) (Value (decision op)) _ (proper-decision op)
-    (proper-cond (isUnknown a || isUnknown b) Unknown _ tt
-    (proper-cond (isFailed a || isFailed b) Failed _ tt (proper-calculated op (number a) (number b))))
+    cond-keeps Proper (decides op a || decides op b) (Value (decision op)) _ (proper-decision op)
+    (cond-keeps Proper (isUnknown a || isUnknown b) Unknown _ tt
+    (cond-keeps Proper (isFailed a || isFailed b) Failed _ tt (proper-calculated op (number a) (number b))))
 
 proper-negated : (a : Evaluation) → Proper (negated a)
 unfolding negated Proper

@@ -2,7 +2,7 @@
 use mathlib.Core.Path.{_≡_, refl, sym, ap, _∙_, subst}
 use mathlib.Core.Logic.{_⊎_, ⊎-elim}
 use mathlib.Core.Logic._⊎_.{inl, inr}
-use mathlib.Core.Bool.{Bool, true, false, true≢false, cond, _&&_, _||_}
+use mathlib.Core.Bool.{Bool, true, false, true≢false, _&&_, _||_}
 use mathlib.Core.List.{List, [], _∷_}
 use mathlib.Core.Option.{some}
 use Prim.Native.Nat.{ℕ, zero, suc, _<_}
@@ -19,7 +19,7 @@ use Rattle.evaluation.specs.declared.Operator.{Operator}
 use Rattle.evaluation.specs.declared.Operator.the-variants.{Conjunction, Disjunction, Equality, Less, LessOrEqual, Sum, Difference, Product, Quotient, Remainder, Equivalence}
 use Rattle.evaluation.specs.Numbers.{eqZ, boolean}
 use Rattle.evaluation.specs.Meaning.{operated, negated, calculated, decides, decision, isUnknown, isFailed, number}
-use Rattle.evaluation.proofs.Laws.{eqZ-true, chosen-keeps}
+use Rattle.evaluation.proofs.Laws.{eqZ-true, cond-keeps, chosen-keeps}
 use Rattle.kinds.specs.Kinds.{booleanSort, kindOf, resultOf}
 use Rattle.syntax.specs.Readings.{isTruth}
 use Rattle.model.specs.declared.Sizes.{Sizes}
@@ -43,10 +43,6 @@ unfoldable Truthful : Evaluation → Type 0
 Truthful Unknown = Unit {0}
 Truthful Failed = Unit {0}
 Truthful (Value v) = T (isTruth v)
-
-truthful-cond : (t : Bool) (a b : Evaluation) → Truthful a → Truthful b → Truthful (cond t a b)
-truthful-cond true a b h k = h
-truthful-cond false a b h k = k
 
 truthful-boolean : (t : Bool) → Truthful (Value (boolean t))
 unfolding Truthful eqZ
@@ -84,9 +80,9 @@ truthful-decision Equivalence = truthful-boolean false
 truthful-operated : (op : Operator) → booleanSort ≡ resultOf (kindOf op) → (a b : Evaluation) → Truthful (operated op a b)
 unfolding operated Truthful
 truthful-operated op e a b =
-    truthful-cond (decides op a || decides op b) (Value (decision op)) _ (truthful-decision op)
-    (truthful-cond (isUnknown a || isUnknown b) Unknown _ tt
-    (truthful-cond (isFailed a || isFailed b) Failed _ tt (truthful-calculated op e (number a) (number b))))
+    cond-keeps Truthful (decides op a || decides op b) (Value (decision op)) _ (truthful-decision op)
+    (cond-keeps Truthful (isUnknown a || isUnknown b) Unknown _ tt
+    (cond-keeps Truthful (isFailed a || isFailed b) Failed _ tt (truthful-calculated op e (number a) (number b))))
 
 truthful-negated : (a : Evaluation) → Truthful (negated a)
 unfolding negated Truthful

@@ -14,6 +14,7 @@ use Rattle.evaluation.specs.declared.Operator.{Operator}
 use Rattle.evaluation.specs.declared.Operator.the-variants.{Conjunction, Disjunction, Equality, Less, LessOrEqual, Sum, Difference, Product, Quotient, Remainder, Equivalence}
 use Rattle.evaluation.specs.Numbers.{representable, checked, eqZ, boolean}
 use Rattle.evaluation.specs.Meaning.{operated, negated, agree, chosen, calculated, decides, decision, divided, isUnknown, isFailed, number}
+use Rattle.evaluation.proofs.Laws.{cond-keeps}
 use Rattle.kinds.specs.Kinds.{booleanSort}
 use Rattle.model.specs.Trees.{Expression, Instruction, Instructions, Variable, Transition, System, variables, sortsOf}
 use Rattle.model.specs.Trees.Expression.{numeral, truth, variable, negation, binary, ifThenElse}
@@ -44,19 +45,18 @@ element-all P (b ∷ l) (suc k) a h e = element-all P l k a (h .1) e
 
 -- ---- evaluations
 
-known-cond : (t : Bool) (a b : Evaluation) → isUnknown a ≡ false → isUnknown b ≡ false → isUnknown (cond t a b) ≡ false
-known-cond true a b h k = h
-known-cond false a b h k = k
+abbrev Known : Evaluation → Type 0
+Known a = isUnknown a ≡ false
 
-known-checked : (z : ℤ) → isUnknown (checked z) ≡ false
+known-checked : (z : ℤ) → Known (checked z)
 unfolding checked isUnknown
-known-checked z = known-cond (representable z) (Value z) Failed refl refl
+known-checked z = cond-keeps Known (representable z) (Value z) Failed refl refl
 
-known-divided : (f : ℤ → ℤ → ℤ) (a b : ℤ) → isUnknown (divided f a b) ≡ false
+known-divided : (f : ℤ → ℤ → ℤ) (a b : ℤ) → Known (divided f a b)
 unfolding divided isUnknown
-known-divided f a b = known-cond (eqZ b (pos 0)) Failed (checked (f a b)) refl (known-checked (f a b))
+known-divided f a b = cond-keeps Known (eqZ b (pos 0)) Failed (checked (f a b)) refl (known-checked (f a b))
 
-known-calculated : (op : Operator) (a b : ℤ) → isUnknown (calculated op a b) ≡ false
+known-calculated : (op : Operator) (a b : ℤ) → Known (calculated op a b)
 unfolding calculated isUnknown
 known-calculated Conjunction a b = refl
 known-calculated Disjunction a b = refl
@@ -70,24 +70,24 @@ known-calculated Quotient a b = known-divided _ a b
 known-calculated Remainder a b = known-divided _ a b
 known-calculated Equivalence a b = refl
 
-known-operated : (op : Operator) (a b : Evaluation) → isUnknown a ≡ false → isUnknown b ≡ false → isUnknown (operated op a b) ≡ false
+known-operated : (op : Operator) (a b : Evaluation) → Known a → Known b → Known (operated op a b)
 unfolding operated isUnknown
 known-operated op a b h k =
     rw (h, k)
-    (known-cond (decides op a || decides op b) (Value (decision op)) _ refl
-    (known-cond (isFailed a || isFailed b) Failed (calculated op (number a) (number b)) refl (known-calculated op (number a) (number b))))
+    (cond-keeps Known (decides op a || decides op b) (Value (decision op)) _ refl
+    (cond-keeps Known (isFailed a || isFailed b) Failed (calculated op (number a) (number b)) refl (known-calculated op (number a) (number b))))
 
-known-negated : (a : Evaluation) → isUnknown a ≡ false → isUnknown (negated a) ≡ false
+known-negated : (a : Evaluation) → Known a → Known (negated a)
 unfolding negated isUnknown
 known-negated Unknown h = h
 known-negated Failed h = refl
 known-negated (Value v) h = refl
 
-known-chosen : (c a b : Evaluation) → isUnknown c ≡ false → isUnknown a ≡ false → isUnknown b ≡ false → isUnknown (chosen c a b) ≡ false
+known-chosen : (c a b : Evaluation) → Known c → Known a → Known b → Known (chosen c a b)
 unfolding chosen isUnknown
-known-chosen Unknown a b h k l = known-cond (agree a b) a Unknown k h
-known-chosen Failed a b h k l = rw (k, l) (known-cond (agree a b) a Failed k refl)
-known-chosen (Value v) a b h k l = known-cond (eqZ v (boolean true)) a b k l
+known-chosen Unknown a b h k l = cond-keeps Known (agree a b) a Unknown k h
+known-chosen Failed a b h k l = rw (k, l) (cond-keeps Known (agree a b) a Failed k refl)
+known-chosen (Value v) a b h k l = cond-keeps Known (eqZ v (boolean true)) a b k l
 
 known-variable : (o : Option ℤ) → isKnown o ≡ true → isUnknown (evaluationOf o) ≡ false
 unfolding isKnown evaluationOf isUnknown
