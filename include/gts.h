@@ -45,9 +45,9 @@ extern "C" {
  * one of the first T is above 2. gts_marks copies them to `buffer`. 2.1: gts_synchronise. 2.2: an if-then-else whose
  * branches have one and the same value has it whatever its condition is, and under a failed condition it waits for an
  * unknown branch: gts_start, gts_fire and gts_undo accept more, and marks, picks, round counts and the numbers of refusals
- * may be others. */
-#define GTS_VERSION_MAJOR 2
-#define GTS_VERSION_MINOR 2
+ * may be others. 3.0: a call on a run needs more stack (GTS_STACK_BYTES); no call and no answer changed. */
+#define GTS_VERSION_MAJOR 3
+#define GTS_VERSION_MINOR 0
 
 /* The largest model. */
 #define GTS_MAX_NODES 4000
@@ -63,11 +63,11 @@ extern "C" {
 #define GTS_SIZES 5        /* of `sizes`; of `values` it is S + F, of `marks` and `buffer` T, of `history` none */
 #define GTS_TEXT_NODES 400 /* of `kinds` and of `parameters`: no text has more nodes */
 
-/* The stack that a call on a run needs, in bytes: the most that was measured is 64,536 (README), rounded up. It does not
- * grow with the model: recursion goes by depth, at most GTS_MAX_DEPTH. */
-#define GTS_STACK_BYTES 65536
+/* The stack that a call on a run needs, in bytes: the most that was measured is 93,576 (README), rounded up. Its arrays
+ * have fixed sizes, and recursion goes by depth, at most GTS_MAX_DEPTH. */
+#define GTS_STACK_BYTES 98304
 
-/* The stack that gts_synchronise needs: the most that was measured is 75,592 (README), rounded up. Recursion goes by depth,
+/* The stack that gts_synchronise needs: the most that was measured is 75,080 (README), rounded up. Recursion goes by depth,
  * at most GTS_MAX_DEPTH. */
 #define GTS_SYNCHRONISE_STACK_BYTES 81920
 

@@ -1,8 +1,10 @@
 //! The models and call sequences that are timed.
 
+mod chains;
 mod joins;
 mod nests;
 
+pub use chains::{chain, chain_in_order, known_at_once, one_condition, undecided};
 pub use joins::deep_joins;
 pub use nests::deep_runs;
 
@@ -282,6 +284,7 @@ pub fn all() -> Vec<Workload> {
     [
         vec![check],
         runs(),
+        chains::timed(),
         undos(),
         readings(),
         others,
@@ -310,16 +313,6 @@ fn runs() -> Vec<Workload> {
             "4,000 nodes, 4 rounds, start and 200 fires",
             large(4_000).encode(),
             Work::Run(large_steps(), STEPS),
-        ),
-        Workload::new(
-            "chain of 255 flows in reverse, 256 rounds, start",
-            chain(255, 0).encode(),
-            Work::Start,
-        ),
-        Workload::new(
-            "if-then-else 29 deep, its condition known last, 4,000 nodes, 46 rounds, start",
-            undecided(44, 4_000).encode(),
-            Work::Start,
         ),
     ]
 }
@@ -412,13 +405,6 @@ pub fn growing() -> Vec<(&'static str, Vec<Workload>)> {
             Work::Start,
         )
     });
-    let rounds = [31, 63, 127, 255].map(|flows| {
-        Workload::new(
-            format!("start, 2,000 nodes, {} rounds", flows + 1),
-            chain(flows, 2_000).encode(),
-            Work::Start,
-        )
-    });
     let steps = [25, 50, 100, 200].map(|n| {
         Workload::new(
             format!("counter, undo at n = {n}"),
@@ -429,7 +415,10 @@ pub fn growing() -> Vec<(&'static str, Vec<Workload>)> {
     vec![
         ("nodes", check.into()),
         ("nodes", start.into()),
-        ("rounds", rounds.into()),
+        ("nodes", chains::of_growing_models()),
+        ("rounds", chains::of_growing_rounds()),
+        ("rounds", chains::of_growing_conditions()),
+        ("flows", chains::of_growing_flows()),
         ("steps", steps.into()),
         ("nodes", joins::of_growing_models()),
         ("members", joins::of_growing_lists()),
@@ -530,52 +519,6 @@ fn sum_tree(depth: usize, leaf: &mut impl FnMut(usize) -> Expr) -> Expr {
     };
     let left = sum_tree(depth - 1, leaf);
     Expr::binary(operator, left, sum_tree(depth - 1, leaf))
-}
-
-/// Each flow takes the value of the flow before it, the last flow's assignment standing first; filled up to so many
-/// nodes.
-pub fn chain(flows: usize, nodes: usize) -> Model {
-    let branches = (1..=flows)
-        .rev()
-        .map(|flow| Instr::Assign(flow, Expr::Variable(flow - 1)))
-        .collect();
-    let variable = Variable::Boolean { first: true };
-    let model = Model {
-        states: vec![variable],
-        flows: vec![variable; flows],
-        events: 1,
-        transitions: vec![Transition {
-            event: 0,
-            guard: Expr::Boolean(true),
-            action: Instr::Assign(0, Expr::Variable(0).negated()),
-        }],
-        assertion: Instr::Block(branches),
-    };
-    filled(model, nodes)
-}
-
-/// A chain of so many flows, each by if-then-else in one another, 32 deep, the branches of which are the flow before it;
-/// their condition is one flow more, the last. Filled up to so many nodes.
-pub fn undecided(flows: usize, nodes: usize) -> Model {
-    let condition = Expr::Variable(flows + 1);
-    let link = |flow: usize| {
-        let before = Expr::Variable(flow - 1);
-        let value = (0..29).fold(before.clone(), |inner, _| {
-            Expr::conditional(condition.clone(), inner, before.clone())
-        });
-        Instr::Assign(flow, value)
-    };
-    let mut branches: Vec<Instr> = (1..=flows).map(link).collect();
-    branches.push(Instr::Assign(flows + 1, Expr::Variable(flows)));
-    let variable = Variable::Boolean { first: true };
-    let model = Model {
-        states: vec![variable],
-        flows: vec![variable; flows + 1],
-        events: 0,
-        transitions: Vec::new(),
-        assertion: Instr::Block(branches),
-    };
-    filled(model, nodes)
 }
 
 /// 255 transitions, each with a guard of 11 nodes over states.

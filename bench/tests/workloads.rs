@@ -1,9 +1,11 @@
 //! The timed models are what their names say, and the stored example gives its transcript.
 
+use std::collections::BTreeSet;
 use std::path::Path;
 
 use bench::program::gtsrun;
 use bench::reference::{self, ENGINE};
+use bench::tree::Instr;
 use bench::workloads::{self, Work, Workload};
 
 fn rounds(model: &[u8]) -> usize {
@@ -18,19 +20,52 @@ fn sizes_and_rounds() {
         assert_eq!(reference::check(&model).expect("accepted").nodes, nodes);
         assert_eq!(rounds(&model), 4);
     }
-    assert_eq!(rounds(&workloads::chain(255, 0).encode()), 256);
-    let chain = workloads::chain(31, 2_000);
-    assert_eq!((chain.nodes().len(), rounds(&chain.encode())), (2_000, 32));
     let sizes = reference::check(&workloads::guards().encode()).expect("accepted");
     assert_eq!(sizes.transitions, 255);
     let sizes = reference::check(&workloads::booleans().encode()).expect("accepted");
     assert_eq!(sizes.to_array(), [255, 255, 0, 0, 511]);
-    let undecided = workloads::undecided(44, 4_000);
-    assert_eq!((undecided.nodes().len(), undecided.depth()), (4_000, 32));
-    assert_eq!(rounds(&undecided.encode()), 46);
     let inactive = workloads::inactive(4_000);
     assert_eq!((inactive.nodes().len(), inactive.depth()), (4_000, 32));
     assert_eq!(rounds(&inactive.encode()), 3);
+}
+
+#[test]
+fn chains() {
+    for chain in [workloads::chain, workloads::chain_in_order] {
+        assert_eq!(rounds(&chain(255, 0).encode()), 256);
+        let filled = chain(31, 2_000);
+        assert_eq!(
+            (filled.nodes().len(), rounds(&filled.encode())),
+            (2_000, 32)
+        );
+    }
+    for flows in [31, 255] {
+        let model = workloads::one_condition(flows, 4_000);
+        assert_eq!(model.nodes().len(), 4_000);
+        assert_eq!(rounds(&model.encode()), flows + 1);
+        let model = workloads::known_at_once(flows, 4_000);
+        assert_eq!((model.nodes().len(), rounds(&model.encode())), (4_000, 2));
+    }
+    let undecided = workloads::undecided(44, 4_000);
+    assert_eq!((undecided.nodes().len(), undecided.depth()), (4_000, 32));
+    assert_eq!(rounds(&undecided.encode()), 46);
+}
+
+/// The condition beside a chain mentions each flow, and is all that 4,000 nodes leave room for.
+#[test]
+fn the_condition_mentions_each_flow() {
+    let model = workloads::one_condition(255, 0);
+    assert_eq!(model.nodes().len(), 4_000);
+    let Instr::Block(branches) = &model.assertion else {
+        panic!("no block");
+    };
+    let Some(Instr::When(condition, _)) = branches.last() else {
+        panic!("no condition after the chain");
+    };
+    let nodes = condition.nodes();
+    let variables = nodes.iter().filter(|&&(kind, _)| kind == 34);
+    let mentioned: BTreeSet<i32> = variables.map(|&(_, variable)| variable).collect();
+    assert!(mentioned.into_iter().eq(1..=255));
 }
 
 #[test]

@@ -16,7 +16,7 @@ use Rattle.model.specs.Check.{Verdict, verdict, answerOf}
 use Rattle.model.specs.Check.Verdict.{refusal, accepted}
 use Rattle.model.proofs.CheckExact.{check-exact}
 use Rattle.model.proofs.Encoding as encoding
-use Rattle.steps.proofs.Tests.{clash}
+use Rattle.replaying.proofs.Tests.{clash}
 use Rattle.run.specs.Promises.{seenCheck}
 use Rattle.capi.specs.Codes.{codedSizes, cellsOf, sizeCells}
 use Rattle.capi.specs.Promises.{CheckCoded}

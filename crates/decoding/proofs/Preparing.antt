@@ -57,8 +57,8 @@ module _ (m : List ℕ) (s : Sizes) (ks : List ℕ) (k : ks ≡ kindsIn byteLayo
   pub lent-kinds : SizedAs m s → length ks ≡ s .nodes
   lent-kinds r = ap length k ∙ kinds-length m s r
 
-  pub lent-parameters : (parameters : List ℤ) → SizedAs m s → length parameters ≡ 4000 → length (take (s .nodes) parameters) ≡ length ks
-  lent-parameters parameters r p = length-take-le (s .nodes) parameters (omega (arith, r .few)) ∙ sym (lent-kinds r)
+  pub lent-parameters : (parameters : List ℤ) → SizedAs m s → s .nodes ≤ length parameters → length (take (s .nodes) parameters) ≡ length ks
+  lent-parameters parameters r l = length-take-le (s .nodes) parameters l ∙ sym (lent-kinds r)
 
 -- ---- the decoding
 

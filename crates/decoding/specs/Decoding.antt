@@ -2,7 +2,7 @@
 use mathlib.Core.Path.{_≡_}
 use mathlib.Core.Bool.{cond}
 use mathlib.Core.List.{List, [], _∷_, _++_}
-use Prim.Native.Nat.{ℕ, _+_}
+use Prim.Native.Nat.{ℕ, _+_, _≤_, _<_}
 use lib.Dec.{eqb}
 use lib.IntN.{ℤ}
 use Rattle.results.specs.Results.{Answered, answered, over}
@@ -106,6 +106,13 @@ pub record Decoded (m : List ℕ) (model : Model) (kinds : List ℕ) (parameters
   pub variablesDecoded : rows ≡ variableRows (variables system)
   pub nextsDecoded : nexts ≡ nextsOfSystem system
   pub guardsDecoded : guards ≡ guardPlaces (system .transitions) (transitionsPlace system)
+
+-- so many cells for parameters, sorts, rows of variables, next places and guards are enough for a model of these sizes, and the places
+-- fit 16 bits
+abbrev pub Enough : Sizes → ℕ → ℕ → ℕ → ℕ → ℕ → Type 0
+Enough s parameters sorts rows nexts guards =
+    (s .nodes ≤ parameters) × (s .states + s .flows ≤ sorts) × (s .states + s .flows ≤ rows) × (s .nodes ≤ nexts) × (s .transitions ≤ guards)
+    × (nexts < 65536)
 
 -- the arrays that `prepare` is lent
 pub record Arrays : Type 0 where

@@ -16,7 +16,7 @@ ghost use Rattle.model.specs.Check.Verdict.{accepted};
 ghost use Rattle.model.specs.Standing.{sizeOfTransitions};
 ghost use Rattle.variables.specs.Rows.{variableRows};
 ghost use Rattle.decoding.specs.NextPlaces.{childrenBy, following, filled};
-ghost use Rattle.decoding.specs.Decoding.{VariablesRead, arrays, assertionPlace, decodedOver, guardPlaces, nextsOfTransitions, preparedBy, rowsAfter, sortsAfter, transitionsPlace};
+ghost use Rattle.decoding.specs.Decoding.{Enough, VariablesRead, arrays, assertionPlace, decodedOver, guardPlaces, nextsOfTransitions, preparedBy, rowsAfter, sortsAfter, transitionsPlace};
 ghost use Rattle.decoding.specs.Outside.{givenAfter};
 use model::Checked;
 use model::Given;
@@ -156,10 +156,10 @@ fn guard_places(nexts: &[u16], count: usize, from: usize, guards: &mut [u16]) ->
 fn decode_variables(
     model: &[u8],
     sizes: Sizes,
-    parameters: &mut [i32; Model::MAX_NODES],
-    variables: &mut [[i32; 3]; Model::MAX_VARIABLES],
+    parameters: &mut [i32],
+    variables: &mut [[i32; 3]],
 ) -> usize
-    requires { ⌜ answerOf (verdict (now model)) ≡ Accepted sizes ⌝ }
+    requires { ⌜ (answerOf (verdict (now model)) ≡ Accepted sizes) × (sizes .nodes ≤ length (now parameters)) × (sizes .states + sizes .flows ≤ length (now variables)) ⌝ }
     ensures { λ r. ⌜ ((t : System) → verdict (now (model .entry)) ≡ accepted sizes t →
         (r ≡ transitionsPlace t)
         × (now (parameters .exit) ≡ over (parametersIn byteLayout (sizes .nodes) (now (model .entry))) (now (parameters .entry)))
@@ -168,21 +168,26 @@ fn decode_variables(
     let nodes = sizes.nodes;
     header::parameters_in(model, Model::HEADER + nodes, nodes, parameters);
     let kinds = kinds_of(model, nodes);
-    let lent = &parameters[..];
-    read_variables(kinds, &lent[..nodes], sizes.states + sizes.flows, variables)
+    read_variables(
+        kinds,
+        &parameters[..nodes],
+        sizes.states + sizes.flows,
+        variables,
+    )
 }
 
-// The decoding of an accepted file; the place of its assertion.
-fn decode(
+// The decoding of an accepted file, into cells that are enough for it; the place of its assertion.
+pub fn decode(
     model: &[u8],
     sizes: Sizes,
-    parameters: &mut [i32; Model::MAX_NODES],
-    sorts: &mut [u8; Model::MAX_VARIABLES],
-    variables: &mut [[i32; 3]; Model::MAX_VARIABLES],
-    nexts: &mut [u16; Model::MAX_NODES],
-    guards: &mut [u16; Model::MAX_TRANSITIONS],
+    parameters: &mut [i32],
+    sorts: &mut [u8],
+    variables: &mut [[i32; 3]],
+    nexts: &mut [u16],
+    guards: &mut [u16],
 ) -> usize
-    requires { ⌜ answerOf (verdict (now model)) ≡ Accepted sizes ⌝ }
+    requires { ⌜ (answerOf (verdict (now model)) ≡ Accepted sizes)
+        × Enough sizes (length (now parameters)) (length (now sorts)) (length (now variables)) (length (now nexts)) (length (now guards)) ⌝ }
     ensures { λ r. ⌜ ((t : System) → verdict (now (model .entry)) ≡ accepted sizes t →
         (r ≡ assertionPlace t)
         × (arrays (now (parameters .exit)) (now (sorts .exit)) (now (variables .exit)) (now (nexts .exit)) (now (guards .exit))
@@ -193,8 +198,7 @@ fn decode(
     let transitions = decode_variables(model, sizes, parameters, variables);
     let kinds = kinds_of(model, nodes);
     read_sorts(kinds, sizes.states + sizes.flows, sorts);
-    let lent = &parameters[..];
-    next_places(kinds, &lent[..nodes], nexts);
+    next_places(kinds, &parameters[..nodes], nexts);
     guard_places(nexts, sizes.transitions, transitions, guards)
 }
 

@@ -7,7 +7,7 @@ use lib.IntN.{ℤ}
 use lib.ListN.{length, length-append}
 use Rattle.model.specs.declared.Model.{Model}
 use Rattle.model.specs.Trees.{variables}
-use Rattle.propagation.proofs.Columns.{row-count}
+use Rattle.variables.proofs.Columns.{row-count}
 use Rattle.semantics.specs.Meanings.{Meaning, meaningOf}
 use Rattle.engine.specs.Cells.{Loaded}
 use Rattle.engine.proofs.Loading.{loaded-well-formed, loaded-guards}

@@ -24,8 +24,8 @@ use Rattle.semantics.specs.Propagation.Settled.{refused, settled}
 use Rattle.semantics.specs.Firing.{leftBySettling}
 use Rattle.propagation.specs.Cells.{flowsBySettling, PropagationStands}
 use Rattle.results.specs.Results.{answered, over}
-use Rattle.propagation.proofs.Columns.{row-count}
-use Rattle.propagation.proofs.Propagating.{rows-counted}
+use Rattle.variables.proofs.Columns.{row-count}
+use Rattle.rounds.proofs.Propagating.{rows-counted}
 use Rattle.semantics.proofs.Derived.{derived-extends}
 use Rattle.semantics.proofs.Rounds.{Outcome, outcome, assertion-targets, finished, rounds-bounded-tree}
 use Rattle.semantics.proofs.Rounds.Outcome.{fault, rest}

@@ -1,4 +1,4 @@
--- Guards, firing and starting on a loaded model: what the code answers and answered is as the definitions `fired` and `begun` have it.
+-- Guards, firing and starting on a loaded model: what the code answers and leaves is as the definitions `fired` and `begun` have it.
 use mathlib.Core.Path.{_≡_, refl, sym, ap, subst, _∙_}
 use mathlib.Core.Bool.{Bool, true, false, true≢false}
 use mathlib.Core.List.{List}
@@ -8,8 +8,8 @@ use native.Mathlib.Omega.{arith}
 use borrow.Author.Tests.{lt-ltb, le-ltb, ltb-true, ltb-false, eq-eqb, ne-eqb}
 use lib.Dec.{ltb}
 use lib.IntN.{ℤ, pos}
-use lib.ListN.{length, take, getD, getElem?, replicate, length-append, length-take}
-use lib.Seq.{take-at}
+use lib.ListN.{length, take, getD, getElem?, replicate, length-append, length-take, length-drop, length-replicate}
+use lib.Seq.{take-at, take-all}
 use lib.Signed.{mag}
 use mir.Syntax.{w32}
 use mir.Val.{ofZ}
@@ -20,12 +20,14 @@ use Rattle.model.specs.declared.Model.{Model}
 use Rattle.model.specs.Trees.{Expression, Transition, variables}
 use Rattle.model.specs.Standing.{ExpressionAt, InstructionAt, sizeOfExpression}
 use Rattle.expressions.specs.declared.Evaluated.{Evaluated}
+use Rattle.semantics.specs.declared.Firing.{Firing}
 use Rattle.semantics.specs.declared.Firing.the-variants.{Disabled, GuardFailed}
 use Rattle.expressions.specs.Expressions.{Valuation, evaluate}
 use Rattle.semantics.specs.Actions.{act}
 use Rattle.semantics.specs.Propagation.{settle}
 use Rattle.semantics.specs.Meanings.{guardIn, guardOver, actionIn, meaningOf}
-use Rattle.semantics.specs.Firing.{Left, leftBySettling, leftByActing, leftByGuard, fired, begun}
+use Rattle.semantics.specs.Firing.{leftBySettling, leftByActing, leftByGuard, fired, begun}
+use Rattle.scratch.specs.Blank.{unknownCell, BlankFiring}
 use Rattle.propagation.specs.Cells.{AllRepresentable, PropagationStands}
 use Rattle.results.specs.Results.{answered, over}
 use Rattle.engine.specs.Cells.{Loaded, TransitionStands}
@@ -33,7 +35,7 @@ use Rattle.expressions.specs.Cells.{valuationOf, evaluatedAs, ExpressionStands}
 use Rattle.expressions.proofs.Cells.{no-element}
 use Rattle.expressions.proofs.Evaluating.{expression-within}
 use Rattle.semantics.proofs.Knowing.{element-below}
-use Rattle.propagation.proofs.Columns.{row-count}
+use Rattle.variables.proofs.Columns.{row-count}
 use Rattle.propagation.proofs.Valuations.{known-values}
 use Rattle.engine.proofs.Loading.{loaded-well-formed, loaded-states, loaded-flows, loaded-places, loaded-guards, loaded-guard, loaded-action, loaded-scoped, loaded-assertion, assertion-stands}
 
@@ -97,10 +99,10 @@ module _ {model : Model} {kinds : List ℕ} {parameters : List ℤ} {rows : List
       pub begin-room : length rows ≤ length old
       begin-room = omega (arith, length-rows)
 
-      pub begin-entered : (left : Left) → left ≡ leftBySettling old (settle (d .decoded .system) ss)
-          → left ≡ begun (meaningOf (d .decoded .system)) ss old
+      pub begin-entered : (r : Firing) (left : List ℤ) → answered r left ≡ leftBySettling old (settle (d .decoded .system) ss)
+          → answered r left ≡ begun (meaningOf (d .decoded .system)) ss old
       unfolding begun meaningOf
-      begin-entered left e =
+      begin-entered r left e =
           rw (
             le-ltb (length old) (length (variables (d .decoded .system))) (omega (arith, length-all)),
             eq-eqb (length ss) (length (d .decoded .system .states)) (long ∙ loaded-states d),
@@ -118,89 +120,102 @@ module _ {model : Model} {kinds : List ℕ} {parameters : List ℤ} {rows : List
     unfolding fired meaningOf
     fire-short h = rw (lt-ltb (length old) (length (variables (d .decoded .system))) (omega (arith, length-all)))
 
-    -- the values are held in the first cells of an array
+    -- the values are held in cells that were blank
     module _ (room : model .sizes .states + model .sizes .flows ≤ length old) where
       pub length-values : model .sizes .states + model .sizes .flows ≡ length (take (model .sizes .states + model .sizes .flows) old)
       length-values = simp length-take (omega arith)
 
-      pub values-fit : length (take (model .sizes .states + model .sizes .flows) old) ≤ 510
-      values-fit = omega (arith, length-values, few-variables)
+      module _ {nodes : ℕ} {states blank given : List ℤ} {queue waits : List ℕ} (b : BlankFiring (length rows) nodes states blank given queue waits) where
+        length-blank : length blank ≡ model .sizes .states + model .sizes .flows
+        length-blank = ap length (b .valuation .nothingKnown) ∙ length-replicate (length rows) unknownCell ∙ length-rows
 
-      module _ (array : List ℤ) (held : array ≡ over (take (model .sizes .states + model .sizes .flows) old) (replicate 510 (pos 0))) where
-        pub same-values : take (model .sizes .states + model .sizes .flows) array ≡ take (model .sizes .states + model .sizes .flows) old
-        same-values = ap (take (model .sizes .states + model .sizes .flows)) held ∙ take-at _ _ _ (sym length-values)
+        pub values-fit : length (take (model .sizes .states + model .sizes .flows) old) ≤ length blank
+        values-fit = omega (arith, length-values, length-blank)
 
-        pub length-held : model .sizes .states + model .sizes .flows ≡ length (take (model .sizes .states + model .sizes .flows) array)
-        length-held = length-values ∙ ap length (sym same-values)
+        module _ (array : List ℤ) (held : array ≡ over (take (model .sizes .states + model .sizes .flows) old) blank) where
+          length-array : length array ≡ model .sizes .states + model .sizes .flows
+          length-array = ap length held ∙ simp (length-append, length-drop) (omega (arith, length-values, length-blank))
 
-        pub held-within : model .sizes .states + model .sizes .flows ≤ length array
-        held-within = omega (arith, length-held, length-take (model .sizes .states + model .sizes .flows) array)
+          pub same-values : array ≡ take (model .sizes .states + model .sizes .flows) old
+          same-values =
+              sym (take-all (model .sizes .states + model .sizes .flows) array (omega (arith, length-array))) ∙ ap (take (model .sizes .states + model .sizes .flows)) held
+              ∙ take-at _ _ _ (sym length-values)
 
-        module _ (known : AllRepresentable (take (model .sizes .states + model .sizes .flows) old)) (x : Evaluation)
-            (guarded : x ≡ guardOver (d .decoded .system) k (valuationOf (take (model .sizes .states + model .sizes .flows) array))) where
-          pub known-held : AllRepresentable (take (model .sizes .states + model .sizes .flows) array)
-          known-held = rw same-values known
+          pub forgotten : (new : List ℤ) → new ≡ replicate (length array) unknownCell → BlankFiring (length rows) nodes states new given queue waits
+          forgotten new e =
+              record {
+                zeros = b .zeros;
+                valuation =
+                    record {
+                      nothingKnown = e ∙ ap (λ n. replicate n unknownCell) (length-array ∙ sym length-rows);
+                      gathering = b .valuation .gathering;
+                    };
+              }
 
-          by-guard : leftByGuard (meaningOf (d .decoded .system)) k old x ≡ fired (meaningOf (d .decoded .system)) k old
-          unfolding fired meaningOf
-          by-guard =
-              rw (guarded, known-values (take (model .sizes .states + model .sizes .flows) array) known-held, same-values, ← length-all, le-ltb (length old) (length (variables (d .decoded .system))) (omega (arith, length-all)))
+          module _ (known : AllRepresentable (take (model .sizes .states + model .sizes .flows) old)) (x : Evaluation)
+              (guarded : x ≡ guardOver (d .decoded .system) k (valuationOf array)) where
+            pub known-held : AllRepresentable array
+            known-held = rw same-values known
 
-          pub fire-unknown : x ≡ Unknown → answered Disabled old ≡ fired (meaningOf (d .decoded .system)) k old
-          unfolding leftByGuard
-          fire-unknown e = rw e at by-guard
+            by-guard : leftByGuard (meaningOf (d .decoded .system)) k old x ≡ fired (meaningOf (d .decoded .system)) k old
+            unfolding fired meaningOf
+            by-guard =
+                rw (guarded, known-values array known-held, same-values, ← length-all, le-ltb (length old) (length (variables (d .decoded .system))) (omega (arith, length-all)))
 
-          pub fire-failed : x ≡ Failed → answered GuardFailed old ≡ fired (meaningOf (d .decoded .system)) k old
-          unfolding leftByGuard
-          fire-failed e = rw e at by-guard
-
-          module _ (v : ℤ) (fits : mag v < 2 ^ 31) (is : x ≡ Value v) where
-            pub fire-false : (ofZ w32 v ≡ 1 → ⊥) → answered Disabled old ≡ fired (meaningOf (d .decoded .system)) k old
+            pub fire-unknown : x ≡ Unknown → answered Disabled old ≡ fired (meaningOf (d .decoded .system)) k old
             unfolding leftByGuard
-            fire-false n = rw (is, other-bits w32 {x = v} {y = pos 1} (record { sfits = fits }) one-fits n) at by-guard
+            fire-unknown e = rw e at by-guard
 
-            pub fire-within : k < length guards
-            fire-within = by (ltb k (length guards)) refl
-              where
-                by : (t : Bool) → ltb k (length guards) ≡ t → k < length guards
-                by true e = ltb-true k (length guards) e
-                by false e =
-                    let u : Unknown ≡ Value v = guard-missing k (ltb-false k (length guards) e) _ ∙ sym guarded ∙ is in
-                    let z : true ≡ false = cc in absurd (true≢false z)
+            pub fire-failed : x ≡ Failed → answered GuardFailed old ≡ fired (meaningOf (d .decoded .system)) k old
+            unfolding leftByGuard
+            fire-failed e = rw e at by-guard
 
-            pub transition : (t : Transition) × (getElem? (d .decoded .system .transitions) k ≡ some t)
-            transition = element-below (d .decoded .system .transitions) k (omega (arith, fire-within, loaded-guards d))
+            module _ (v : ℤ) (fits : mag v < 2 ^ 31) (is : x ≡ Value v) where
+              pub fire-false : (ofZ w32 v ≡ 1 → ⊥) → answered Disabled old ≡ fired (meaningOf (d .decoded .system)) k old
+              unfolding leftByGuard
+              fire-false n = rw (is, other-bits w32 {x = v} {y = pos 1} (record { sfits = fits }) one-fits n) at by-guard
 
-            pub guard-within : getD guards k 0 < length nexts
-            guard-within =
-                rw (loaded-places d .long) (expression-within kinds parameters (transition .0 .guard) (getD guards k 0) (loaded-guard d k (transition .0) (transition .1)) .0)
+              pub fire-within : k < length guards
+              fire-within = by (ltb k (length guards)) refl
+                where
+                  by : (t : Bool) → ltb k (length guards) ≡ t → k < length guards
+                  by true e = ltb-true k (length guards) e
+                  by false e =
+                      let u : Unknown ≡ Value v = guard-missing k (ltb-false k (length guards) e) _ ∙ sym guarded ∙ is in
+                      let z : true ≡ false = cc in absurd (true≢false z)
 
-            abbrev pub fire-stands : {place : ℕ} → place ≡ getD nexts (getD guards k 0) 0
-                → TransitionStands kinds parameters nexts rows (take (model .sizes .states + model .sizes .flows) array) old
-                (model .assertion) place (model .sizes .states)
-            fire-stands p =
-                record {
-                  system = d .decoded .system;
-                  action = transition .0 .action;
-                  wellFormed = loaded-well-formed d;
-                  scoped = loaded-scoped d k (transition .0) (transition .1);
-                  actionStands = subst (λ m. InstructionAt kinds parameters (transition .0 .action) m) (sym p) (loaded-action d k (transition .0) (transition .1));
-                  assertionStands = loaded-assertion d;
-                  places = loaded-places d;
-                  rowsHeld = d .decoded .variablesDecoded;
-                  stateCells = loaded-states d;
-                  room = omega (arith, length-all);
-                  held = same-values ∙ ap (λ n. take n old) (sym length-all);
-                  known = known-held;
-                }
+              pub transition : (t : Transition) × (getElem? (d .decoded .system .transitions) k ≡ some t)
+              transition = element-below (d .decoded .system .transitions) k (omega (arith, fire-within, loaded-guards d))
 
-            pub fire-carried : ofZ w32 v ≡ 1 → (left : Left)
-                → left ≡ leftByActing (meaningOf (d .decoded .system)) old (act (d .decoded .system) (transition .0 .action) (take (model .sizes .states + model .sizes .flows) array))
-                → left ≡ fired (meaningOf (d .decoded .system)) k old
-            unfolding leftByGuard meaningOf
-            fire-carried n left e =
-                e ∙ acted ∙ (rw (is, equal-bits w32 {x = v} {y = pos 1} (record { sfits = fits }) one-fits n) at by-guard)
-              where
-                acted : leftByActing (meaningOf (d .decoded .system)) old (act (d .decoded .system) (transition .0 .action) (take (model .sizes .states + model .sizes .flows) array))
-                    ≡ leftByActing (meaningOf (d .decoded .system)) old (meaningOf (d .decoded .system) .action k (take (length (variables (d .decoded .system))) old))
-                acted = ap (leftByActing (meaningOf (d .decoded .system)) old) (action-of k (transition .0) (transition .1) _ ∙ ap (meaningOf (d .decoded .system) .action k) (same-values ∙ ap (λ n. take n old) (sym length-all)))
+              pub guard-within : getD guards k 0 < length nexts
+              guard-within =
+                  rw (loaded-places d .long) (expression-within kinds parameters (transition .0 .guard) (getD guards k 0) (loaded-guard d k (transition .0) (transition .1)) .0)
+
+              abbrev pub fire-stands : {place : ℕ} → place ≡ getD nexts (getD guards k 0) 0
+                  → TransitionStands kinds parameters nexts rows array old (model .assertion) place (model .sizes .states)
+              fire-stands p =
+                  record {
+                    system = d .decoded .system;
+                    action = transition .0 .action;
+                    wellFormed = loaded-well-formed d;
+                    scoped = loaded-scoped d k (transition .0) (transition .1);
+                    actionStands = subst (λ m. InstructionAt kinds parameters (transition .0 .action) m) (sym p) (loaded-action d k (transition .0) (transition .1));
+                    assertionStands = loaded-assertion d;
+                    places = loaded-places d;
+                    rowsHeld = d .decoded .variablesDecoded;
+                    stateCells = loaded-states d;
+                    room = omega (arith, length-all);
+                    held = same-values ∙ ap (λ n. take n old) (sym length-all);
+                    known = known-held;
+                  }
+
+              pub fire-carried : ofZ w32 v ≡ 1 → (r : Firing) (left : List ℤ)
+                  → answered r left ≡ leftByActing (meaningOf (d .decoded .system)) old (act (d .decoded .system) (transition .0 .action) array)
+                  → answered r left ≡ fired (meaningOf (d .decoded .system)) k old
+              unfolding leftByGuard meaningOf
+              fire-carried n r left e =
+                  e ∙ acted ∙ (rw (is, equal-bits w32 {x = v} {y = pos 1} (record { sfits = fits }) one-fits n) at by-guard)
+                where
+                  acted : leftByActing (meaningOf (d .decoded .system)) old (act (d .decoded .system) (transition .0 .action) array)
+                      ≡ leftByActing (meaningOf (d .decoded .system)) old (meaningOf (d .decoded .system) .action k (take (length (variables (d .decoded .system))) old))
+                  acted = ap (leftByActing (meaningOf (d .decoded .system)) old) (action-of k (transition .0) (transition .1) _ ∙ ap (meaningOf (d .decoded .system) .action k) (same-values ∙ ap (λ n. take n old) (sym length-all)))

@@ -14,7 +14,7 @@ use Rattle.model.specs.Standing.{ExpressionAt, InstructionAt, sizeOfExpression}
 use Rattle.model.proofs.CheckExact.{check-exact}
 use Rattle.decoding.proofs.Decoded.{decoded-nexts, decoded-expression-next, decoded-instruction-next, decoded-assertion, decoded-guards, decoded-transition}
 use Rattle.semantics.proofs.Knowing.{element-all}
-use Rattle.propagation.specs.Cells.{AssertionStands}
+use Rattle.rounds.specs.Cells.{AssertionStands}
 use Rattle.engine.specs.Cells.{Loaded}
 use Rattle.interpreter.specs.Cells.{NextPlaces}
 

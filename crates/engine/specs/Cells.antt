@@ -14,7 +14,13 @@ use Rattle.variables.specs.Rows.{variableRows}
 use Rattle.decoding.specs.Decoding.{Decoded}
 use Rattle.interpreter.specs.Cells.{NextPlaces}
 use Rattle.propagation.specs.Cells.{AllRepresentable}
+use Rattle.results.specs.Results.{answered}
+use Rattle.semantics.specs.declared.Finding.{Finding}
+use Rattle.semantics.specs.declared.Finding.the-variants.{Clear, Faulty}
+use Rattle.semantics.specs.declared.Firing.the-variants.{ActionFault}
+use Rattle.semantics.specs.Propagation.{Settled}
 use Rattle.semantics.specs.Meanings.{Meaning, meaningOf}
+use Rattle.semantics.specs.Firing.{Left, leftBySettling}
 
 module _ (ks : List ℕ) (ps : List ℤ) where
   -- an action and the assertion of a well-formed system stand at their places, the rows are those of its variables, and their
@@ -32,6 +38,11 @@ module _ (ks : List ℕ) (ps : List ℤ) where
     pub room : length (variables system) ≤ length values
     pub held : cells ≡ take (length (variables system)) values
     pub known : AllRepresentable cells
+
+-- what is left after an action: its fault, or what the assertion over its states comes to
+unfoldable pub leftByFinding : Finding → List ℤ → Settled → Left
+leftByFinding Clear old s = leftBySettling old s
+leftByFinding (Faulty f) old s = answered (ActionFault f) old
 
 -- the slices are the decoding of an accepted file: what the functions exported here ask
 pub record Loaded (model : Model) (kinds : List ℕ) (parameters : List ℤ) (rows : List (List ℤ)) (nexts guards : List ℕ) : Type 0 where

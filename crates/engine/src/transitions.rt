@@ -2,15 +2,18 @@
 
 ghost use mathlib.Core.Path.{_≡_};
 ghost use Prim.Native.Nat.{_-_, _≤_, _<_};
-ghost use lib.ListN.{length, getD};
+ghost use lib.IntN.{pos};
+ghost use lib.ListN.{length, getD, replicate};
 ghost use Rattle.results.specs.Results.{answered};
+ghost use Rattle.scratch.specs.Blank.{BlankGathering, BlankCells, BlankFiring};
+ghost use Rattle.waiting.specs.Index.{Indexed};
 ghost use Rattle.expressions.specs.Cells.{valuationOf};
 ghost use Rattle.semantics.specs.Actions.{act};
 ghost use Rattle.semantics.specs.Propagation.{settle};
 ghost use Rattle.semantics.specs.Meanings.{guardOver, meaningOf};
 ghost use Rattle.semantics.specs.Firing.{leftBySettling, leftByActing, fired, begun};
 ghost use Rattle.propagation.specs.Cells.{PropagationStands};
-ghost use Rattle.engine.specs.Cells.{Loaded, TransitionStands};
+ghost use Rattle.engine.specs.Cells.{Loaded, TransitionStands, leftByFinding};
 use evaluation::Evaluation;
 use model::Model;
 use semantics::Finding;
@@ -49,14 +52,23 @@ fn enter(
     kinds: &[u8],
     parameters: &[i32],
     nexts: &[u16],
+    heads: &[u16],
+    links: &[u16],
     variables: &[[i32; 3]],
     assertion: usize,
     states: &[i32],
+    cells: &mut [i64],
+    given: &mut [i64],
+    queue: &mut [u16],
+    waits: &mut [u16],
     values: &mut [i32],
 ) -> Firing
-    requires { ⌜ PropagationStands (now kinds) (now parameters) (now nexts) (now variables) assertion (length (now states)) (length (now variables) - length (now states)) × (length (now variables) ≤ length (now values)) ⌝ }
+    requires { ⌜ PropagationStands (now kinds) (now parameters) (now nexts) (now variables) assertion (length (now states)) (length (now variables) - length (now states)) × (length (now variables) ≤ length (now values))
+        × Indexed (now kinds) (now parameters) assertion (length (now variables)) (now heads) (now links)
+        × BlankCells (length (now variables)) (length (now kinds)) (now cells) (now given) (now queue) (now waits) ⌝ }
     ensures { λ r. ⌜ ((p : PropagationStands (now (kinds .entry)) (now (parameters .entry)) (now (nexts .entry)) (now (variables .entry)) assertion (length (now (states .entry))) (length (now (variables .entry)) - length (now (states .entry))))
-        → answered r (now (values .exit)) ≡ leftBySettling (now (values .entry)) (settle (p .assertion .system) (now (states .entry)))) ⌝ }
+        → answered r (now (values .exit)) ≡ leftBySettling (now (values .entry)) (settle (p .assertion .system) (now (states .entry))))
+        × BlankCells (length (now (variables .entry))) (length (now (kinds .entry))) (now (cells .exit)) (now (given .exit)) (now (queue .exit)) (now (waits .exit)) ⌝ }
 {
     let s = states.len();
     let n = variables.len();
@@ -64,9 +76,15 @@ fn enter(
         kinds,
         parameters,
         nexts,
+        heads,
+        links,
         variables,
         assertion,
         states,
+        cells,
+        given,
+        queue,
+        waits,
         &mut values[s..n],
     ) {
         Propagated::Refused(fault) => Firing::AssertionFault(fault),
@@ -77,44 +95,108 @@ fn enter(
     }
 }
 
-// An action over the values of all variables, held as cells; then the assertion over the new states.
-fn carry_out(
+// The fault of an action, or the assertion over the states that it came to.
+fn enter_after(
+    finding: Finding,
     kinds: &[u8],
     parameters: &[i32],
     nexts: &[u16],
+    heads: &[u16],
+    links: &[u16],
     variables: &[[i32; 3]],
     assertion: usize,
-    cells: &[i64],
-    action: usize,
-    s: usize,
+    states: &[i32],
+    cells: &mut [i64],
+    given: &mut [i64],
+    queue: &mut [u16],
+    waits: &mut [u16],
     values: &mut [i32],
 ) -> Firing
-    requires { ⌜ TransitionStands (now kinds) (now parameters) (now nexts) (now variables) (now cells) (now values) assertion action s ⌝ }
-    ensures { λ r. ⌜ ((t : TransitionStands (now (kinds .entry)) (now (parameters .entry)) (now (nexts .entry)) (now (variables .entry)) (now (cells .entry)) (now (values .entry)) assertion action s)
-        → answered r (now (values .exit)) ≡ leftByActing (meaningOf (t .system)) (now (values .entry)) (act (t .system) (t .action) (now (cells .entry)))) ⌝ }
+    requires { ⌜ PropagationStands (now kinds) (now parameters) (now nexts) (now variables) assertion (length (now states)) (length (now variables) - length (now states)) × (length (now variables) ≤ length (now values))
+        × Indexed (now kinds) (now parameters) assertion (length (now variables)) (now heads) (now links)
+        × BlankCells (length (now variables)) (length (now kinds)) (now cells) (now given) (now queue) (now waits) ⌝ }
+    ensures { λ r. ⌜ ((p : PropagationStands (now (kinds .entry)) (now (parameters .entry)) (now (nexts .entry)) (now (variables .entry)) assertion (length (now (states .entry))) (length (now (variables .entry)) - length (now (states .entry))))
+        → answered r (now (values .exit)) ≡ leftByFinding finding (now (values .entry)) (settle (p .assertion .system) (now (states .entry))))
+        × BlankCells (length (now (variables .entry))) (length (now (kinds .entry))) (now (cells .exit)) (now (given .exit)) (now (queue .exit)) (now (waits .exit)) ⌝ }
 {
-    let mut states = [0i32; Model::MAX_VARIABLES];
-    propagation::store(&values[..s], &mut states);
-    match propagation::act(
-        kinds,
-        parameters,
-        nexts,
-        variables,
-        cells,
-        action,
-        &mut states[..s],
-    ) {
+    match finding {
         Finding::Faulty(fault) => Firing::ActionFault(fault),
         Finding::Clear => enter(
             kinds,
             parameters,
             nexts,
+            heads,
+            links,
             variables,
             assertion,
-            &states[..s],
+            states,
+            cells,
+            given,
+            queue,
+            waits,
             values,
         ),
     }
+}
+
+// An action over the values of all variables, held as cells; then the assertion over the new states.
+fn carry_out(
+    kinds: &[u8],
+    parameters: &[i32],
+    nexts: &[u16],
+    heads: &[u16],
+    links: &[u16],
+    variables: &[[i32; 3]],
+    assertion: usize,
+    action: usize,
+    s: usize,
+    states: &mut [i32],
+    cells: &mut [i64],
+    given: &mut [i64],
+    queue: &mut [u16],
+    waits: &mut [u16],
+    values: &mut [i32],
+) -> Firing
+    requires { ⌜ TransitionStands (now kinds) (now parameters) (now nexts) (now variables) (now cells) (now values) assertion action s
+        × Indexed (now kinds) (now parameters) assertion (length (now variables)) (now heads) (now links)
+        × (now states ≡ replicate (length (now variables)) (pos 0))
+        × BlankGathering (length (now variables)) (length (now kinds)) (now given) (now queue) (now waits) ⌝ }
+    ensures { λ r. ⌜ ((t : TransitionStands (now (kinds .entry)) (now (parameters .entry)) (now (nexts .entry)) (now (variables .entry)) (now (cells .entry)) (now (values .entry)) assertion action s)
+        → answered r (now (values .exit)) ≡ leftByActing (meaningOf (t .system)) (now (values .entry)) (act (t .system) (t .action) (now (cells .entry))))
+        × BlankFiring (length (now (variables .entry))) (length (now (kinds .entry))) (now (states .exit)) (now (cells .exit)) (now (given .exit)) (now (queue .exit)) (now (waits .exit)) ⌝ }
+{
+    propagation::store(&values[..s], states);
+    let finding = propagation::act(
+        kinds,
+        parameters,
+        nexts,
+        variables,
+        cells,
+        given,
+        queue,
+        waits,
+        action,
+        &mut states[..s],
+    );
+    scratch::forget(cells);
+    let firing = enter_after(
+        finding,
+        kinds,
+        parameters,
+        nexts,
+        heads,
+        links,
+        variables,
+        assertion,
+        &states[..s],
+        cells,
+        given,
+        queue,
+        waits,
+        values,
+    );
+    scratch::clear(states);
+    firing
 }
 
 // The place of the action of a transition: right after its guard.
@@ -134,19 +216,28 @@ pub fn fire(
     variables: &[[i32; 3]],
     nexts: &[u16],
     guards: &[u16],
+    heads: &[u16],
+    links: &[u16],
+    states: &mut [i32],
+    cells: &mut [i64],
+    given: &mut [i64],
+    queue: &mut [u16],
+    waits: &mut [u16],
     values: &mut [i32],
     transition: usize,
 ) -> Firing
-    requires { ⌜ Loaded model (now kinds) (now parameters) (now variables) (now nexts) (now guards) ⌝ }
+    requires { ⌜ Loaded model (now kinds) (now parameters) (now variables) (now nexts) (now guards)
+        × Indexed (now kinds) (now parameters) (model .assertion) (length (now variables)) (now heads) (now links)
+        × BlankFiring (length (now variables)) (length (now kinds)) (now states) (now cells) (now given) (now queue) (now waits) ⌝ }
     ensures { λ r. ⌜ ((d : Loaded model (now (kinds .entry)) (now (parameters .entry)) (now (variables .entry)) (now (nexts .entry)) (now (guards .entry)))
-        → answered r (now (values .exit)) ≡ fired (meaningOf (d .decoded .system)) transition (now (values .entry))) ⌝ }
+        → answered r (now (values .exit)) ≡ fired (meaningOf (d .decoded .system)) transition (now (values .entry)))
+        × BlankFiring (length (now (variables .entry))) (length (now (kinds .entry))) (now (states .exit)) (now (cells .exit)) (now (given .exit)) (now (queue .exit)) (now (waits .exit)) ⌝ }
 {
     let n = model.sizes.states + model.sizes.flows;
     if values.len() < n {
         return Firing::Disabled;
     }
-    let mut cells = [0i64; Model::MAX_VARIABLES];
-    propagation::overwrite(&values[..n], &mut cells);
+    propagation::overwrite(&values[..n], cells);
     match guard(
         model,
         kinds,
@@ -154,24 +245,37 @@ pub fn fire(
         variables,
         nexts,
         guards,
-        &cells[..n],
+        cells,
         transition,
     ) {
-        Evaluation::Unknown => Firing::Disabled,
-        Evaluation::Failed => Firing::GuardFailed,
+        Evaluation::Unknown => {
+            scratch::forget(cells);
+            Firing::Disabled
+        }
+        Evaluation::Failed => {
+            scratch::forget(cells);
+            Firing::GuardFailed
+        }
         Evaluation::Value(v) => {
             if v != TRUE {
+                scratch::forget(cells);
                 return Firing::Disabled;
             }
             carry_out(
                 kinds,
                 parameters,
                 nexts,
+                heads,
+                links,
                 variables,
                 model.assertion,
-                &cells[..n],
                 action_place(nexts, guards, transition),
                 model.sizes.states,
+                states,
+                cells,
+                given,
+                queue,
+                waits,
                 values,
             )
         }
@@ -186,12 +290,21 @@ pub fn begin(
     variables: &[[i32; 3]],
     nexts: &[u16],
     guards: &[u16],
+    heads: &[u16],
+    links: &[u16],
     states: &[i32],
+    cells: &mut [i64],
+    given: &mut [i64],
+    queue: &mut [u16],
+    waits: &mut [u16],
     values: &mut [i32],
 ) -> Firing
-    requires { ⌜ Loaded model (now kinds) (now parameters) (now variables) (now nexts) (now guards) ⌝ }
+    requires { ⌜ Loaded model (now kinds) (now parameters) (now variables) (now nexts) (now guards)
+        × Indexed (now kinds) (now parameters) (model .assertion) (length (now variables)) (now heads) (now links)
+        × BlankCells (length (now variables)) (length (now kinds)) (now cells) (now given) (now queue) (now waits) ⌝ }
     ensures { λ r. ⌜ ((d : Loaded model (now (kinds .entry)) (now (parameters .entry)) (now (variables .entry)) (now (nexts .entry)) (now (guards .entry)))
-        → answered r (now (values .exit)) ≡ begun (meaningOf (d .decoded .system)) (now (states .entry)) (now (values .entry))) ⌝ }
+        → answered r (now (values .exit)) ≡ begun (meaningOf (d .decoded .system)) (now (states .entry)) (now (values .entry)))
+        × BlankCells (length (now (variables .entry))) (length (now (kinds .entry))) (now (cells .exit)) (now (given .exit)) (now (queue .exit)) (now (waits .exit)) ⌝ }
 {
     let s = model.sizes.states;
     let n = s + model.sizes.flows;
@@ -205,9 +318,15 @@ pub fn begin(
         kinds,
         parameters,
         nexts,
+        heads,
+        links,
         variables,
         model.assertion,
         states,
+        cells,
+        given,
+        queue,
+        waits,
         values,
     )
 }

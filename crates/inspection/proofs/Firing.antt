@@ -22,7 +22,7 @@ use Rattle.standing.specs.Runs.{Run, Answer, Done}
 use Rattle.standing.specs.Runs.Answer.{refused, picked}
 use Rattle.standing.specs.Holding.{tooShort, tooFew, holds}
 use Rattle.steps.specs.Calls.{answerOf, fire}
-use Rattle.steps.proofs.Tests.{clash, by-test}
+use Rattle.replaying.proofs.Tests.{clash, by-test}
 use Rattle.steps.proofs.FaultNumbers.{action-number, assertion-number}
 use Rattle.inspection.specs.Queries.{pick}
 use Rattle.inspection.specs.Theorems.{PickedFires}

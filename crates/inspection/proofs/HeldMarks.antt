@@ -9,7 +9,8 @@ use Rattle.semantics.specs.Firing.{fired}
 use Rattle.standing.specs.Runs.{Run, Done, withMarks}
 use Rattle.standing.specs.Holding.{tooShort, historyHolds, firstOutside, isNone}
 use Rattle.marking.proofs.Refreshed.{marks-enough, marks-within}
-use Rattle.steps.specs.Calls.{isFired, firedInto, fire}
+use Rattle.replaying.specs.Replays.{isFired}
+use Rattle.steps.specs.Calls.{firedInto, fire}
 use Rattle.inspection.specs.Queries.{marks, guardMarks}
 use Rattle.inspection.specs.Theorems.{MarksCopied, MarksOfGuards, FireByGuards}
 

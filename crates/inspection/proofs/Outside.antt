@@ -16,7 +16,7 @@ use Rattle.semantics.specs.Meanings.{Meaning}
 use Rattle.standing.specs.Runs.{Answer}
 use Rattle.standing.specs.Runs.Answer.{outside}
 use Rattle.standing.specs.Holding.{tooShort, firstOutside, lookedAt, isNone}
-use Rattle.steps.proofs.Tests.{clash, by-test, both, each}
+use Rattle.replaying.proofs.Tests.{clash, by-test, both, each}
 use Rattle.inspection.specs.Queries.{rangeCheck}
 use Rattle.inspection.specs.Theorems.{InRangeOver as In, FirstOutsideExact, LookedOnly, HoldsByRangeCheck}
 use Rattle.inspection.proofs.First.{IsFirst, nowhere, here, later, counted-from, first-is, none-is}

@@ -1,6 +1,7 @@
 // Marks, value, pick and the check of the values: on a model file.
 
 ghost use mathlib.Core.Path.{_≡_};
+ghost use lib.ListN.{length};
 ghost use Rattle.model.specs.Check.{verdict};
 ghost use Rattle.semantics.specs.Meanings.{Meaning};
 ghost use Rattle.engine.specs.Cells.{Loaded, OnLoaded};
@@ -148,8 +149,9 @@ fn pick_loaded(
     marks: &[u8],
     history: &[u8],
     n: usize,
+    cells: &mut [i64],
 ) -> Answer
-    requires { ⌜ Loaded loaded (now kinds) (now parameters) (now variables) (now nexts) (now guards) ⌝ }
+    requires { ⌜ Loaded loaded (now kinds) (now parameters) (now variables) (now nexts) (now guards) × (length (now cells) ≡ length (now variables)) ⌝ }
     ensures { λ r. ⌜ OnLoaded loaded (now (kinds .entry)) (now (parameters .entry)) (now (variables .entry)) (now (nexts .entry)) (now (guards .entry)) (λ m.
         seen r ≡ queries.pick m (run (now (values .entry)) (now (marks .entry)) (now (history .entry)) n)) ⌝ }
 {
@@ -163,8 +165,7 @@ fn pick_loaded(
     if !standing::holds(guards.len(), variables, values, marks, history, n) {
         return Answer::Refused(20);
     }
-    let mut cells = [0i64; Model::MAX_VARIABLES];
-    propagation::overwrite(&values[..count], &mut cells);
+    propagation::overwrite(&values[..count], cells);
     let mut transition = 0;
     while transition < guards.len() {
         let guard = transitions::guard(
@@ -174,7 +175,7 @@ fn pick_loaded(
             variables,
             nexts,
             guards,
-            &cells[..count],
+            cells,
             transition,
         );
         if marking::mark_of(guard) == 1 {
@@ -194,6 +195,7 @@ pub fn pick(model: &[u8], values: &[i32], marks: &[u8], history: &[u8], n: usize
     let mut variables = [[0i32; 3]; Model::MAX_VARIABLES];
     let mut nexts = [0u16; Model::MAX_NODES];
     let mut guards = [0u16; Model::MAX_TRANSITIONS];
+    let mut cells = [0i64; Model::MAX_VARIABLES];
     match decoding::prepare(
         model,
         &mut parameters,
@@ -218,6 +220,7 @@ pub fn pick(model: &[u8], values: &[i32], marks: &[u8], history: &[u8], n: usize
                 marks,
                 history,
                 n,
+                &mut cells[..count],
             )
         }
     }

@@ -1,4 +1,3 @@
--- Proofs of crate `interpreter`: what the functions are proved by.
-pub mod Due
+-- Proofs of crate `interpreter`: what its function is proved by, and the laws that other crates cite.
 pub mod Giving
-pub mod Stepping
+pub mod Due

@@ -2,18 +2,15 @@
 use mathlib.Core.Bool.{true, false, cond, not, _||_}
 use mathlib.Core.List.{List, [], _∷_}
 use mathlib.Core.Option.{Option, some, none}
-use Prim.Native.Nat.{ℕ, _+_, _-_}
 use lib.IntN.{ℤ, pos}
 use lib.ListN.{getD, set}
 use Rattle.evaluation.specs.declared.Evaluation.{Evaluation}
 use Rattle.evaluation.specs.declared.Evaluation.the-variants.{Unknown, Failed, Value}
 use Rattle.evaluation.specs.Numbers.{representable, eqZ, boolean}
-use Rattle.model.specs.Trees.{Instruction, Instructions, count}
+use Rattle.model.specs.Trees.{Instruction, Instructions}
 use Rattle.model.specs.Trees.Instruction.{skip, assign, ifThen, block}
 use Rattle.model.specs.Trees.Instructions.{none as noBranch, more}
-use Rattle.model.specs.Standing.{sizeOf, sizeOfAll}
 use Rattle.variables.specs.Rows.{withinEnds}
-use Rattle.interpreter.specs.declared.Step.{Step}
 use Rattle.interpreter.specs.declared.Gathered.{Gathered}
 use Rattle.interpreter.specs.declared.Fault.{Fault}
 use Rattle.interpreter.specs.declared.Fault.the-variants.{Failure, Outside, Conflict}
@@ -32,10 +29,13 @@ gathering f g = record { found = f; given = g }
 abbrev pub nothingFound : Gathered
 nothingFound = record { failed = false; outside = false; conflict = false; fresh = false }
 
+-- the same, and something failed
+abbrev pub failing : Gathered → Gathered
+failing f = record { failed = true; outside = f .outside; conflict = f .conflict; fresh = f .fresh }
+
 -- a variable that has a value keeps it, and a value that differs is a conflict; one that has none takes the value given
 unfoldable pub gather : List ℤ → List ℤ → Effect → Gathering → Gathering
-gather lows highs fails g =
-    gathering (record { failed = true; outside = g .found .outside; conflict = g .found .conflict; fresh = g .found .fresh }) (g .given)
+gather lows highs fails g = gathering (failing (g .found)) (g .given)
 gather lows highs (gives x v) g =
     cond (representable (getD (g .given) x (pos 0)))
     (gathering
@@ -85,21 +85,3 @@ dueAfter skip σ = noBranch
 dueAfter (assign x e) σ = noBranch
 dueAfter (ifThen c i) σ = chosenBranch (evaluate c σ) i
 dueAfter (block is) σ = is
-
--- one node done: the gathering, the place of what is due next, and how many instructions came due
-pub record Stepped : Type 0 where
-  pub gathered : Gathering
-  pub next : ℕ
-  pub due : ℕ
-
-abbrev pub stepped : Step → List ℤ → Stepped
-stepped r given = record { gathered = gathering (r .found) given; next = r .next; due = r .due }
-
--- a body that is not active is skipped: what is due next ends where the instruction ends
-unfoldable pub steppedBy : List ℤ → List ℤ → Valuation → ℕ → Instruction → Gathering → Stepped
-steppedBy lows highs σ at i g =
-    record {
-      gathered = gatherAll lows highs (atOnce i σ) g;
-      next = at + sizeOf i - sizeOfAll (dueAfter i σ);
-      due = count (dueAfter i σ);
-    }

@@ -16,10 +16,3 @@ pub struct Gathered {
     pub conflict: bool,
     pub fresh: bool,
 }
-
-// One node of an instruction, done: what is found now, the place of what is due next, and how many instructions came due.
-pub struct Step {
-    pub found: Gathered,
-    pub next: usize,
-    pub due: usize,
-}

@@ -5,10 +5,11 @@ use Prim.Native.Nat.{ℕ, zero, suc, _+_, _≤_, _<_}
 use native.Mathlib.Numerals.{add-one}
 use native.Mathlib.Omega.{arith}
 use lib.IntN.{ℤ}
-use lib.ListN.{length, getD, take, drop, set}
-use lib.Seq.{length-take-le, take-at, set-at, drop-cons, append-snoc}
+use lib.ListN.{length, getD, take, drop, set, replicate, length-replicate}
+use lib.Seq.{length-take-le, take-at, take-all, set-at, drop-cons, append-snoc}
 use Rattle.evaluation.specs.declared.Evaluation.{Evaluation}
 use Rattle.results.specs.Results.{over}
+use Rattle.scratch.specs.Blank.{unknownCell}
 use Rattle.expressions.specs.Cells.{valuationOf}
 use Rattle.model.specs.declared.Model.{Model}
 use Rattle.propagation.specs.Cells.{AllRepresentable}
@@ -75,3 +76,20 @@ module _ {model : Model} {kinds : List ℕ} {parameters : List ℤ} {rows : List
   guard-marked known i g e x marked =
       marked ∙ ap markOf (e ∙ ap (λ l. guardOver (d .decoded .system) i (valuationOf l)) cells-hold
       ∙ ap (guardOver (d .decoded .system) i) (known-values (take (length rows) values) known))
+
+  -- so it is over as many cells as variables
+  pub guard-held : AllRepresentable (take (length rows) values) → length cells ≡ length rows → (i : ℕ) (g : Evaluation)
+      → g ≡ guardOver (d .decoded .system) i (valuationOf cells)
+      → (x : ℕ) → x ≡ markOf g → x ≡ markOf (meaning d .guard i (take (length rows) values))
+  guard-held known long i g e =
+      guard-marked known i g
+      (e ∙ ap (λ l. guardOver (d .decoded .system) i (valuationOf l)) (sym (take-all (length rows) cells (omega (arith, long)))))
+
+-- ---- the cells are blank again
+
+module _ (n : ℕ) (blank : List ℤ) (unknown : blank ≡ replicate n unknownCell) where
+  pub length-blank : length blank ≡ n
+  length-blank = ap length unknown ∙ length-replicate n unknownCell
+
+  pub blank-again : (cells forgotten : List ℤ) → length cells ≡ length blank → forgotten ≡ replicate (length cells) unknownCell → forgotten ≡ blank
+  blank-again cells forgotten kept e = e ∙ ap (λ n. replicate n unknownCell) (kept ∙ length-blank) ∙ sym unknown

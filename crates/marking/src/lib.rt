@@ -2,7 +2,8 @@
 
 ghost use mathlib.Core.Path.{_≡_};
 ghost use Prim.Native.Nat.{_≤_};
-ghost use lib.ListN.{length};
+ghost use lib.ListN.{length, replicate};
+ghost use Rattle.scratch.specs.Blank.{unknownCell};
 ghost use Rattle.engine.specs.Cells.{Loaded, OnLoaded};
 ghost use Rattle.marking.specs.Marks.{markOf, marksOver};
 use engine::transitions;
@@ -29,16 +30,17 @@ pub fn refresh(
     nexts: &[u16],
     guards: &[u16],
     values: &[i32],
+    cells: &mut [i64],
     marks: &mut [u8],
 )
     requires { ⌜ Loaded loaded (now kinds) (now parameters) (now variables) (now nexts) (now guards) ⌝ }
-    requires { ⌜ (length (now variables) ≤ length (now values)) × (length (now guards) ≤ length (now marks)) ⌝ }
+    requires { ⌜ (length (now variables) ≤ length (now values)) × (length (now guards) ≤ length (now marks)) × (now cells ≡ replicate (length (now variables)) unknownCell) ⌝ }
     ensures { λ _. ⌜ OnLoaded loaded (now (kinds .entry)) (now (parameters .entry)) (now (variables .entry)) (now (nexts .entry)) (now (guards .entry)) (λ m.
-        now (marks .exit) ≡ marksOver m (now (values .entry)) (now (marks .entry))) ⌝ }
+        now (marks .exit) ≡ marksOver m (now (values .entry)) (now (marks .entry)))
+        × (now (cells .exit) ≡ now (cells .entry)) ⌝ }
 {
     let count = variables.len();
-    let mut cells = [0i64; Model::MAX_VARIABLES];
-    propagation::overwrite(&values[..count], &mut cells);
+    propagation::overwrite(&values[..count], cells);
     let mut i = 0;
     while i < guards.len() {
         let guard = transitions::guard(
@@ -48,10 +50,11 @@ pub fn refresh(
             variables,
             nexts,
             guards,
-            &cells[..count],
+            cells,
             i,
         );
         marks[i] = mark_of(guard);
         i += 1;
     }
+    scratch::forget(cells);
 }

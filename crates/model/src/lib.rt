@@ -50,6 +50,16 @@ impl Model {
 
     pub const MAX_TRANSITIONS: usize = 255;
 
+    // Two for each node.
+    pub const MAX_LINKS: usize = 8000;
+
+    // A model is small up to here: fewer cells have to be set for it.
+    pub const FEW_NODES: usize = 1024;
+
+    pub const FEW_LINKS: usize = 2048;
+
+    pub const FEW_VARIABLES: usize = 256;
+
     // The bytes of each of S, F, E, T.
     pub const SIZE_WIDTH: usize = 1;
 

@@ -24,13 +24,17 @@ use Rattle.semantics.specs.Propagation.Settled.{refused, settled}
 use Rattle.semantics.proofs.Rounds.{rounds-bounded-tree}
 use Rattle.results.specs.Results.{Answered, answered, over}
 use Rattle.expressions.specs.Cells.{valuationOf}
-use Rattle.propagation.specs.Cells.{AllRepresentable, findingOf, filled, reachedIn, flowsBySettling, CountWithin, PropagationStands}
+use Rattle.rounds.specs.declared.Rest.{Rest}
+use Rattle.rounds.specs.declared.Ended.{Ended}
+use Rattle.rounds.specs.declared.Ended.the-variants.{Refused as Stopped, Rested}
+use Rattle.rounds.specs.Cells.{findingOf, reachedIn}
+use Rattle.propagation.specs.Cells.{AllRepresentable, filled, flowsBySettling, CountWithin, PropagationStands}
 use Rattle.variables.specs.Rows.{firstsIn}
-use Rattle.variables.proofs.Columns.{column-length}
-use Rattle.propagation.proofs.Columns.{first-values, row-count}
+use Rattle.variables.proofs.Columns.{column-length, first-values, row-count}
 use Rattle.propagation.proofs.Overwriting.{length-filled, getD-filled, replacedBy}
-use Rattle.propagation.proofs.Valuations.{unknownCell, over-known, filled-known, reset-first, filled-cells}
-use Rattle.propagation.proofs.Propagating.{finding-faulty, finding-clear, rows-counted}
+use Rattle.scratch.specs.Blank.{unknownCell}
+use Rattle.propagation.proofs.Valuations.{over-known, filled-known, reset-first, filled-cells}
+use Rattle.rounds.proofs.Propagating.{finding-faulty, finding-clear, rows-counted}
 
 -- ---- lists
 
@@ -74,9 +78,6 @@ module _ {ks : List ℕ} {ps : List ℤ} {nexts : List ℕ} {rows : List (List �
   length-firsts : length (firstsIn rows) ≡ length rows
   length-firsts = column-length 2 rows
 
-  pub few-variables : length ss + length old ≤ 510
-  few-variables = omega (arith, p .stateCells, p .flowCells, p .assertion .wellFormed .states, p .assertion .wellFormed .flows)
-
   -- the answer is that of `settle`, whatever stands there
   abbrev Settles : Propagated → List ℤ → Type 0
   Settles r new = (q : PropagationStands ks ps nexts rows at (length ss) (length old))
@@ -94,32 +95,32 @@ module _ {ks : List ℕ} {ps : List ℤ} {nexts : List ℕ} {rows : List (List �
           (b .0, omega (arith, b .1, p .flowCells))
 
   -- the cells after the reset, and the part of them that the flows are
-  module _ (cells₂ cells₃ : List ℤ) (long : length cells₂ ≡ 510) (reset : cells₃ ≡ filled (firstsIn rows) cells₂) where
-    pub length-cells₃ : length cells₃ ≡ 510
+  module _ (cells₂ cells₃ : List ℤ) (long : length cells₂ ≡ length rows) (reset : cells₃ ≡ filled (firstsIn rows) cells₂) where
+    pub length-cells₃ : length cells₃ ≡ length rows
     length-cells₃ = ap length reset ∙ length-filled (firstsIn rows) cells₂ ∙ long
 
     pub length-part : length (take (length rows - length ss) (drop (length ss) cells₃)) ≡ length old
-    length-part = simp (length-take, length-drop) (omega (arith, length-cells₃, rows-cells, few-variables))
+    length-part = simp (length-take, length-drop) (omega (arith, length-cells₃, rows-cells))
 
   -- the rounds were made over the states
-  module _ (cells₁ cells₂ : List ℤ) (start : cells₁ ≡ over ss (replicate 510 unknownCell)) (known : AllRepresentable ss)
-      (r : Propagated) (made : reachedIn r cells₂ ≡ rounds (variables (p .assertion .system)) (p .assertion .system .assertion)
+  module _ (cells₁ cells₂ : List ℤ) (start : cells₁ ≡ over ss (replicate (length rows) unknownCell)) (known : AllRepresentable ss)
+      (r : Ended) (made : reachedIn r cells₂ ≡ rounds (variables (p .assertion .system)) (p .assertion .system .assertion)
       (suc (length (p .assertion .system .flows))) 0 (valuationOf cells₁)) where
     settles : settle (p .assertion .system) ss ≡ settledFrom (variables (p .assertion .system)) (p .assertion .system .assertion) (reachedIn r cells₂)
     unfolding settle
-    settles = rw (made, start, over-known ss 510 known)
+    settles = rw (made, start, over-known ss (length rows) known)
 
-    pub refused-in-rounds : (f : Fault) → r ≡ Refused f
+    pub refused-in-rounds : (f : Fault) → r ≡ Stopped f
         → answered (Refused f) old ≡ flowsBySettling (length ss) old (settle (p .assertion .system) ss)
     unfolding flowsBySettling settledFrom reachedIn
     refused-in-rounds f e = rw (settles, e)
 
     -- and then the reading after the reset
-    module _ (count : ℕ) (counted : r ≡ Settled count) (long : length cells₂ ≡ 510) (cells₃ : List ℤ) (reset : cells₃ ≡ filled (firstsIn rows) cells₂)
+    module _ (e : Rest) (rested : r ≡ Rested e) (long : length cells₂ ≡ length rows) (cells₃ : List ℤ) (reset : cells₃ ≡ filled (firstsIn rows) cells₂)
         (numbers : AllRepresentable (firstsIn rows)) (x : Finding)
         (found : x ≡ findingOf (faultOf (variables (p .assertion .system)) (valuationOf cells₃) (effects (p .assertion .system .assertion) (valuationOf cells₃)))) where
       fits : length (firstsIn rows) ≤ length cells₂
-      fits = omega (arith, length-firsts, rows-cells, few-variables)
+      fits = omega (arith, length-firsts, long)
 
       reset-values : (x : ℕ) → resetBy (variables (p .assertion .system)) (valuationOf cells₂) x ≡ firstOf (valuationOf cells₂ x) (getElem? (firstsIn rows) x)
       reset-values x = rw held (reset-first (variables (p .assertion .system)) (valuationOf cells₂) x)
@@ -130,24 +131,24 @@ module _ {ks : List ℕ} {ps : List ℤ} {nexts : List ℕ} {rows : List (List �
 
       finishes : (o : Option Fault) → faultOf (variables (p .assertion .system)) (valuationOf cells₃) (effects (p .assertion .system .assertion) (valuationOf cells₃)) ≡ o
           → settle (p .assertion .system) ss
-          ≡ finishedBy count (cells (resetBy (variables (p .assertion .system)) (valuationOf cells₂)) (length (variables (p .assertion .system))) 0) o
+          ≡ finishedBy (e .count) (cells (resetBy (variables (p .assertion .system)) (valuationOf cells₂)) (length (variables (p .assertion .system))) 0) o
       unfolding settledFrom reachedIn finish
-      finishes o e = rw (settles, counted, ← reset-known, e)
+      finishes o q = rw (settles, rested, ← reset-known, q)
 
       pub refused-at-end : (f : Fault) → x ≡ Faulty f
           → answered (Refused f) old ≡ flowsBySettling (length ss) old (settle (p .assertion .system) ss)
       unfolding flowsBySettling finishedBy
-      refused-at-end f e = rw (finishes (some f) (finding-faulty _ f (sym found ∙ e)))
+      refused-at-end f q = rw (finishes (some f) (finding-faulty _ f (sym found ∙ q)))
 
       settled-cells : cells (resetBy (variables (p .assertion .system)) (valuationOf cells₂)) (length (variables (p .assertion .system))) 0 ≡ take (length rows) cells₃
       settled-cells =
           rw (reset, ← row-count (variables (p .assertion .system)) (p .assertion .rowsHeld), ← length-firsts)
           (filled-cells (resetBy (variables (p .assertion .system)) (valuationOf cells₂)) (firstsIn rows) cells₂ 0 fits
-          (λ k l. let e : 0 + k ≡ k = omega arith in rw e (reset-values k)))
+          (λ k l. let z : 0 + k ≡ k = omega arith in rw z (reset-values k)))
 
-      settled-whole : x ≡ Clear → settle (p .assertion .system) ss ≡ settled count (take (length rows) cells₃)
+      settled-whole : x ≡ Clear → settle (p .assertion .system) ss ≡ settled (e .count) (take (length rows) cells₃)
       unfolding finishedBy
-      settled-whole e = finishes none (finding-clear _ (sym found ∙ e)) ∙ ap (settled count) settled-cells
+      settled-whole q = finishes none (finding-clear _ (sym found ∙ q)) ∙ ap (settled (e .count)) settled-cells
 
       -- the part of the cells that the flows are
       part-numbers : AllRepresentable (take (length rows - length ss) (drop (length ss) cells₃))
@@ -157,9 +158,9 @@ module _ {ks : List ℕ} {ps : List ℤ} {nexts : List ℕ} {rows : List (List �
           (filled-numbers (firstsIn rows) cells₂ numbers fits (length ss + y) (omega (arith, length-firsts, rows-cells)))
 
       pub settled-at-end : (new : List ℤ) → new ≡ replacedBy (take (length rows - length ss) (drop (length ss) cells₃)) old → x ≡ Clear
-          → answered (Settled count) new ≡ flowsBySettling (length ss) old (settle (p .assertion .system) ss)
+          → answered (Settled (e .count)) new ≡ flowsBySettling (length ss) old (settle (p .assertion .system) ss)
       unfolding flowsBySettling
-      settled-at-end new e c =
-          rw (settled-whole c) (ap (answered (Settled count))
-          (e ∙ ap (take (length old)) (filled-all old _ part-numbers) ∙ take-all (length old) _ (omega (arith, length-part cells₂ cells₃ long reset))
+      settled-at-end new q c =
+          rw (settled-whole c) (ap (answered (Settled (e .count)))
+          (q ∙ ap (take (length old)) (filled-all old _ part-numbers) ∙ take-all (length old) _ (omega (arith, length-part cells₂ cells₃ long reset))
           ∙ sym (drop-take (length ss) (length rows) cells₃)))

@@ -7,7 +7,7 @@ use Prim.Native.Nat.{ℕ, zero, suc, _+_, _≤_, _<_}
 use native.Mathlib.Nat.{not-suc-le-zero, le-of-suc-le-suc}
 use native.Mathlib.Omega.{arith}
 use lib.Dec.{T}
-use lib.IntN.{ℤ, pos}
+use lib.IntN.{ℤ}
 use lib.ListN.{length, take, drop, getElem?, replicate}
 use Rattle.evaluation.specs.Numbers.{representable}
 use Rattle.model.specs.Trees.{Variable}
@@ -16,6 +16,7 @@ use Rattle.interpreter.specs.Instructions.{firstOf}
 use Rattle.semantics.specs.Actions.{cells, valueOr0}
 use Rattle.semantics.specs.Propagation.{firstValue, resetBy}
 use Rattle.results.specs.Results.{over}
+use Rattle.scratch.specs.Blank.{unknownCell}
 use Rattle.expressions.specs.Cells.{cellValue, valuationOf}
 use Rattle.propagation.specs.Cells.{AllRepresentable, filled}
 
@@ -29,10 +30,6 @@ first-none none = refl
 first-none (some v) = refl
 
 -- ---- cells without a number
-
--- a number that is not one of 32 bits
-abbrev pub unknownCell : ℤ
-unknownCell = pos 4294967296
 
 pub nothing-held : (n s x : ℕ) → valuationOf (drop s (replicate n unknownCell)) x ≡ none
 unfolding cellValue

@@ -1,44 +1,28 @@
-// Actions, and the rounds of the assertion.
+// Actions, and the assertion over states.
 
 ghost use mathlib.Core.Path.{_≡_};
-ghost use Prim.Native.Nat.{suc, _≤_};
+ghost use Prim.Native.Nat.{_≤_};
 ghost use lib.ListN.{length, take};
 ghost use Rattle.results.specs.Results.{answered, over};
-ghost use Rattle.model.specs.Sizes.{maxVariables};
+ghost use Rattle.scratch.specs.Blank.{BlankGathering, BlankCells};
 ghost use Rattle.model.specs.Trees as trees;
 ghost use Rattle.variables.specs.Rows.{firstsIn};
 ghost use Rattle.interpreter.specs.Instructions.{effects, faultOf};
 ghost use Rattle.interpreter.specs.Gathering.{faultIn};
 ghost use Rattle.expressions.specs.Cells.{valuationOf};
 ghost use Rattle.semantics.specs.Actions as actions;
-ghost use Rattle.semantics.specs.Propagation as propagation;
 ghost use Rattle.semantics.specs.Propagation.{settle};
-ghost use Rattle.propagation.specs.Cells.{AllRepresentable, findingOf, filled, reachedIn, flowsBySettling, CountWithin, statesByActing, AssertionStands, PropagationStands, ActionStands};
-use interpreter::Fault;
+ghost use Rattle.waiting.specs.Index.{Indexed};
+ghost use Rattle.rounds.specs.Cells.{findingOf, AssertionStands};
+ghost use Rattle.rounds.specs.Rounds.{Resting};
+ghost use Rattle.propagation.specs.Cells.{Fits, AllRepresentable, filled, flowsBySettling, CountWithin, changedBy, statesByActing, PropagationStands, ActionStands};
 use interpreter::Gathered;
 use interpreter::instructions;
-use model::Model;
+use rounds::Ended;
+use rounds::Rest;
 use semantics::Finding;
 use semantics::Propagated;
-
-// A cell that holds no number of 32 bits.
-const UNKNOWN: i64 = 4294967296;
-
-// The fault found, the lowest class first.
-fn fault_in(found: Gathered) -> Finding
-    ensures { λ r. ⌜ r ≡ findingOf (faultIn found) ⌝ }
-{
-    if found.failed {
-        return Finding::Faulty(Fault::Failure);
-    }
-    if found.outside {
-        return Finding::Faulty(Fault::Outside);
-    }
-    if found.conflict {
-        return Finding::Faulty(Fault::Conflict);
-    }
-    Finding::Clear
-}
+use waiting::Progress;
 
 // The first cells become these.
 pub fn store(from: &[i32], to: &mut [i32])
@@ -105,71 +89,127 @@ fn replace(cells: &[i64], values: &mut [i32])
     }
 }
 
-// Rounds over the cells until one sets nothing: refused, or settled with the count.
-fn rounds(
-    kinds: &[u8],
-    parameters: &[i32],
-    nexts: &[u16],
-    variables: &[[i32; 3]],
-    assertion: usize,
-    cells: &mut [i64; Model::MAX_VARIABLES],
-) -> Propagated
-    requires { ⌜ AssertionStands (now kinds) (now parameters) (now nexts) (now variables) assertion × (length (now cells) ≡ maxVariables) ⌝ }
-    ensures { λ r. ⌜ ((a : AssertionStands (now (kinds .entry)) (now (parameters .entry)) (now (nexts .entry)) (now (variables .entry)) assertion)
-        → reachedIn r (now (cells .exit)) ≡ propagation.rounds (trees.variables (a .system)) (a .system .assertion) (suc (length (a .system .flows))) 0 (valuationOf (now (cells .entry))))
-        × (length (now (cells .exit)) ≡ maxVariables) ⌝ }
+// The states take the values given to them, unless there is a fault.
+fn change(found: Gathered, given: &[i64], states: &mut [i32]) -> Finding
+    requires { ⌜ length (now states) ≤ length (now given) ⌝ }
+    ensures { λ r. ⌜ answered r (now (states .exit)) ≡ changedBy (faultIn found) (now (states .entry)) (now (given .entry)) ⌝ }
 {
-    let mut given = *cells;
-    let mut count: usize = 0;
-    loop {
-        let found = instructions::gather(
-            kinds,
-            parameters,
-            nexts,
-            variables,
-            cells,
-            &mut given,
-            assertion,
-        );
-        match fault_in(found) {
-            Finding::Faulty(fault) => break Propagated::Refused(fault),
-            Finding::Clear => {}
+    match rounds::fault_in(found) {
+        Finding::Faulty(fault) => Finding::Faulty(fault),
+        Finding::Clear => {
+            replace(given, states);
+            Finding::Clear
         }
-        count += 1;
-        if !found.fresh {
-            break Propagated::Settled(count);
-        }
-        let n = variables.len();
-        update(&given[..n], cells);
     }
 }
 
-// After the rounds: flows still unknown take their first values, and one more reading.
+// After the rounds: flows still unknown take their first values, and what still waits is read once more.
 fn finish(
     kinds: &[u8],
     parameters: &[i32],
     nexts: &[u16],
     variables: &[[i32; 3]],
     assertion: usize,
-    cells: &mut [i64; Model::MAX_VARIABLES],
+    cells: &mut [i64],
+    given: &mut [i64],
+    queue: &mut [u16],
+    waits: &mut [u16],
+    rest: Rest,
 ) -> Finding
-    requires { ⌜ AssertionStands (now kinds) (now parameters) (now nexts) (now variables) assertion × (length (now cells) ≡ maxVariables) ⌝ }
+    requires { ⌜ AssertionStands (now kinds) (now parameters) (now nexts) (now variables) assertion
+        × Fits (length (now variables)) (length (now kinds)) (now cells) (now given) (now queue) (now waits)
+        × ((a : AssertionStands (now kinds) (now parameters) (now nexts) (now variables) assertion) → Resting (now kinds) (now parameters) (now nexts) (now variables) assertion a (now cells) (now waits) rest) ⌝ }
     ensures { λ r. ⌜ ((a : AssertionStands (now (kinds .entry)) (now (parameters .entry)) (now (nexts .entry)) (now (variables .entry)) assertion)
         → r ≡ findingOf (faultOf (trees.variables (a .system)) (valuationOf (now (cells .exit))) (effects (a .system .assertion) (valuationOf (now (cells .exit))))))
         × (now (cells .exit) ≡ filled (firstsIn (now (variables .entry))) (now (cells .entry))) × AllRepresentable (firstsIn (now (variables .entry))) ⌝ }
 {
     fill(variables, cells);
-    let mut given = *cells;
-    let found = instructions::gather(
+    update(cells, given);
+    let found = instructions::nothing_found();
+    let start = Progress {
+        found,
+        queued: 0,
+        pending: rest.pending,
+    };
+    let end = rounds::scan(
         kinds,
         parameters,
         nexts,
         variables,
-        cells,
-        &mut given,
         assertion,
+        cells,
+        given,
+        queue,
+        waits,
+        start,
+        (rest.count + 1) as u16,
     );
-    fault_in(found)
+    let found = end.found;
+    rounds::fault_in(found)
+}
+
+// The assertion over these states: the rounds, then the end. The cells that it works in are left as they come.
+fn settle_flows(
+    kinds: &[u8],
+    parameters: &[i32],
+    nexts: &[u16],
+    heads: &[u16],
+    links: &[u16],
+    variables: &[[i32; 3]],
+    assertion: usize,
+    states: &[i32],
+    cells: &mut [i64],
+    given: &mut [i64],
+    queue: &mut [u16],
+    waits: &mut [u16],
+    flows: &mut [i32],
+) -> Propagated
+    requires { ⌜ PropagationStands (now kinds) (now parameters) (now nexts) (now variables) assertion (length (now states)) (length (now flows))
+        × Indexed (now kinds) (now parameters) assertion (length (now variables)) (now heads) (now links)
+        × BlankCells (length (now variables)) (length (now kinds)) (now cells) (now given) (now queue) (now waits) ⌝ }
+    ensures { λ r. ⌜ ((p : PropagationStands (now (kinds .entry)) (now (parameters .entry)) (now (nexts .entry)) (now (variables .entry)) assertion (length (now (states .entry))) (length (now (flows .entry))))
+        → answered r (now (flows .exit)) ≡ flowsBySettling (length (now (states .entry))) (now (flows .entry)) (settle (p .assertion .system) (now (states .entry))))
+        × CountWithin (length (now (flows .entry))) r ⌝ }
+{
+    overwrite(states, cells);
+    overwrite(states, given);
+    match rounds::rounds(
+        kinds,
+        parameters,
+        nexts,
+        heads,
+        links,
+        variables,
+        assertion,
+        cells,
+        given,
+        queue,
+        waits,
+    ) {
+        Ended::Refused(fault) => Propagated::Refused(fault),
+        Ended::Rested(rest) => {
+            match finish(
+                kinds,
+                parameters,
+                nexts,
+                variables,
+                assertion,
+                cells,
+                given,
+                queue,
+                waits,
+                rest,
+            ) {
+                Finding::Faulty(fault) => Propagated::Refused(fault),
+                Finding::Clear => {
+                    let s = states.len();
+                    let n = variables.len();
+                    replace(&cells[s..n], flows);
+                    Propagated::Settled(rest.count)
+                }
+            }
+        }
+    }
 }
 
 // The assertion over these states: the flows are written only when it settles.
@@ -177,32 +217,45 @@ pub fn propagate(
     kinds: &[u8],
     parameters: &[i32],
     nexts: &[u16],
+    heads: &[u16],
+    links: &[u16],
     variables: &[[i32; 3]],
     assertion: usize,
     states: &[i32],
+    cells: &mut [i64],
+    given: &mut [i64],
+    queue: &mut [u16],
+    waits: &mut [u16],
     flows: &mut [i32],
 ) -> Propagated
-    requires { ⌜ PropagationStands (now kinds) (now parameters) (now nexts) (now variables) assertion (length (now states)) (length (now flows)) ⌝ }
+    requires { ⌜ PropagationStands (now kinds) (now parameters) (now nexts) (now variables) assertion (length (now states)) (length (now flows))
+        × Indexed (now kinds) (now parameters) assertion (length (now variables)) (now heads) (now links)
+        × BlankCells (length (now variables)) (length (now kinds)) (now cells) (now given) (now queue) (now waits) ⌝ }
     ensures { λ r. ⌜ ((p : PropagationStands (now (kinds .entry)) (now (parameters .entry)) (now (nexts .entry)) (now (variables .entry)) assertion (length (now (states .entry))) (length (now (flows .entry))))
         → answered r (now (flows .exit)) ≡ flowsBySettling (length (now (states .entry))) (now (flows .entry)) (settle (p .assertion .system) (now (states .entry))))
-        × CountWithin (length (now (flows .entry))) r ⌝ }
+        × CountWithin (length (now (flows .entry))) r
+        × BlankCells (length (now (variables .entry))) (length (now (kinds .entry))) (now (cells .exit)) (now (given .exit)) (now (queue .exit)) (now (waits .exit)) ⌝ }
 {
-    let mut cells = [UNKNOWN; Model::MAX_VARIABLES];
-    overwrite(states, &mut cells);
-    match rounds(kinds, parameters, nexts, variables, assertion, &mut cells) {
-        Propagated::Refused(fault) => Propagated::Refused(fault),
-        Propagated::Settled(count) => {
-            match finish(kinds, parameters, nexts, variables, assertion, &mut cells) {
-                Finding::Faulty(fault) => Propagated::Refused(fault),
-                Finding::Clear => {
-                    let s = states.len();
-                    let n = variables.len();
-                    replace(&cells[s..n], flows);
-                    Propagated::Settled(count)
-                }
-            }
-        }
-    }
+    let propagated = settle_flows(
+        kinds,
+        parameters,
+        nexts,
+        heads,
+        links,
+        variables,
+        assertion,
+        states,
+        cells,
+        given,
+        queue,
+        waits,
+        flows,
+    );
+    scratch::forget(cells);
+    scratch::forget(given);
+    scratch::set_all(0, queue);
+    scratch::set_all(0, waits);
+    propagated
 }
 
 // An action over the values of all variables: the states, the old ones at first, change together.
@@ -212,28 +265,41 @@ pub fn act(
     nexts: &[u16],
     variables: &[[i32; 3]],
     cells: &[i64],
+    given: &mut [i64],
+    queue: &mut [u16],
+    waits: &mut [u16],
     action: usize,
     states: &mut [i32],
 ) -> Finding
-    requires { ⌜ ActionStands (now kinds) (now parameters) (now nexts) (now variables) (now cells) (now states) action ⌝ }
+    requires { ⌜ ActionStands (now kinds) (now parameters) (now nexts) (now variables) (now cells) (now states) action
+        × BlankGathering (length (now variables)) (length (now kinds)) (now given) (now queue) (now waits) ⌝ }
     ensures { λ r. ⌜ ((a : ActionStands (now (kinds .entry)) (now (parameters .entry)) (now (nexts .entry)) (now (variables .entry)) (now (cells .entry)) (now (states .entry)) action)
-        → answered r (now (states .exit)) ≡ statesByActing (now (states .entry)) (actions.act (a .system) (a .action) (now (cells .entry)))) ⌝ }
+        → answered r (now (states .exit)) ≡ statesByActing (now (states .entry)) (actions.act (a .system) (a .action) (now (cells .entry))))
+        × BlankGathering (length (now (variables .entry))) (length (now (kinds .entry))) (now (given .exit)) (now (queue .exit)) (now (waits .exit)) ⌝ }
 {
-    let mut given = [UNKNOWN; Model::MAX_VARIABLES];
-    let found = instructions::gather(
+    let found = instructions::nothing_found();
+    let start = Progress {
+        found,
+        queued: 0,
+        pending: 0,
+    };
+    let end = reading::gather(
         kinds,
         parameters,
         nexts,
         variables,
         cells,
-        &mut given,
+        given,
+        queue,
+        waits,
+        start,
+        1,
         action,
     );
-    match fault_in(found) {
-        Finding::Faulty(fault) => Finding::Faulty(fault),
-        Finding::Clear => {
-            replace(&given, states);
-            Finding::Clear
-        }
-    }
+    let found = end.found;
+    let finding = change(found, given, states);
+    scratch::forget(given);
+    scratch::set_all(0, queue);
+    scratch::set_all(0, waits);
+    finding
 }

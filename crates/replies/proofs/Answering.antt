@@ -15,7 +15,7 @@ use Rattle.steps.specs.declared.Answer as answer
 use Rattle.steps.specs.declared.Answer.the-variants.{Refused, Rounds, Done, Number, Sizes, Picked, Outside}
 use Rattle.steps.proofs.Answer.{the-type}
 use Rattle.steps.proofs.Tags.{allButRefused, noneOfMoves, noneOfMarks}
-use Rattle.steps.proofs.Tests.{neither}
+use Rattle.replaying.proofs.Tests.{neither}
 use Rattle.run.specs.declared.Call.the-variants as calls
 use Rattle.standing.specs.Runs.{Store, Answer}
 use Rattle.standing.specs.Runs as runs

@@ -25,10 +25,10 @@ use Rattle.run.specs.declared.Call.{Call}
 use Rattle.run.specs.declared.Call.the-variants as calls
 use Rattle.standing.specs.Runs.{Store, Answer, Done}
 use Rattle.standing.specs.Runs.Answer.{refused, rounds, done, number, sizes, picked, outside}
-use Rattle.steps.specs.Calls.{isFired, initial}
+use Rattle.replaying.specs.Replays.{isFired, initial}
 use Rattle.run.specs.Lists.{callOn, callBy, call, CountWithin, CountBounded, Promise}
-use Rattle.steps.proofs.Tests.{clash}
-use Rattle.steps.proofs.Outcomes.{fired-left, begun-left}
+use Rattle.replaying.proofs.Tests.{clash}
+use Rattle.replaying.proofs.Outcomes.{fired-left, begun-left}
 use Rattle.steps.proofs.StepTests.{count-within}
 use Rattle.run.proofs.Cases.{start-cases, fire-cases, undo-cases, marks-cases, value-cases, pick-cases, range-cases}
 

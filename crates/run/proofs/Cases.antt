@@ -18,8 +18,9 @@ use Rattle.standing.specs.Runs.Answer.{refused, rounds, done, number, picked, o
 use Rattle.standing.specs.Holding.{tooShort, tooFew, holds}
 use Rattle.marking.specs.Marks.{marksOf, refreshed}
 use Rattle.inspection.specs.Queries.{marks, value, firstFireable, pick, rangeCheck}
-use Rattle.steps.specs.Calls.{answerOf, isFired, firedInto, initial, start, fire, replay, undoneBy, undo}
-use Rattle.steps.proofs.Tests.{by-test}
+use Rattle.steps.specs.Calls.{answerOf, firedInto, start, fire, undoneBy, undo}
+use Rattle.replaying.specs.Replays.{isFired, initial, replay}
+use Rattle.replaying.proofs.Tests.{by-test}
 use Rattle.steps.proofs.FaultNumbers.{action-number, assertion-number}
 
 -- the number of a refusal is neither 20 nor 31, nor 0

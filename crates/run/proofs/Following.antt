@@ -19,8 +19,9 @@ use Rattle.standing.specs.Runs.Answer.{refused, rounds, done, number, sizes, pi
 use Rattle.standing.specs.Holding.{tooShort, tooFew}
 use Rattle.marking.specs.Marks.{marksOver}
 use Rattle.steps.specs.Calls as calls
-use Rattle.steps.specs.Calls.{answerOf, isFired, initial, stepOn}
-use Rattle.steps.specs.Replays.{Cells, cellsLeft}
+use Rattle.steps.specs.Calls.{answerOf, stepOn}
+use Rattle.replaying.specs.Replays.{isFired, initial}
+use Rattle.steps.specs.Lent.{Cells, cellsLeft}
 use Rattle.steps.specs.Answers.{onFile, seen}
 use Rattle.steps.specs.declared.Answer as declared
 use Rattle.steps.specs.declared.Answer.the-variants.{Refused, Rounds, Done, Number, Sizes, Picked, Outside}

@@ -32,11 +32,11 @@ use Rattle.standing.specs.Runs.{Run}
 use Rattle.standing.specs.Holding.{firstOutside, isNone, allBelow, historyHolds, marksWithin, holds}
 use Rattle.marking.specs.Marks.{refreshed}
 use Rattle.marking.proofs.Refreshed.{refreshed-holds, marks-within}
-use Rattle.steps.specs.Calls.{initial, refire, replay}
+use Rattle.replaying.specs.Replays.{initial, refire, replay}
 use Rattle.run.specs.Theorems.{NoStaleRun}
-use Rattle.steps.proofs.Tests.{clash, by-test, passed, neither, both, each, below-take}
-use Rattle.steps.proofs.Written.{Complete, rest-written}
-use Rattle.steps.proofs.Ends.{Within, initial-within, act-within, settle-complete, settle-within}
+use Rattle.replaying.proofs.Tests.{clash, by-test, passed, neither, both, each, below-take}
+use Rattle.replaying.proofs.Written.{Complete, rest-written}
+use Rattle.replaying.proofs.Ends.{Within, initial-within, act-within, settle-complete, settle-within}
 use Rattle.run.proofs.Replay.{goes-on}
 use Rattle.run.proofs.Cases.{firedRun}
 use Rattle.run.proofs.Invariants.{Invariant, never-after-start}

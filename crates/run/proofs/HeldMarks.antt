@@ -14,7 +14,8 @@ use Rattle.standing.specs.Runs.Answer.{refused, rounds}
 use Rattle.marking.specs.Marks.{HoldsMarks}
 use Rattle.marking.proofs.Refreshed.{refreshed-holds}
 use Rattle.steps.specs.declared.Move.the-variants as Move
-use Rattle.steps.specs.Calls.{initial, stepOn}
+use Rattle.replaying.specs.Replays.{initial}
+use Rattle.steps.specs.Calls.{stepOn}
 use Rattle.run.specs.Lists.{callOn, callBy, Performed, lastLeft}
 use Rattle.run.specs.Lists.Performed.{nothing, next}
 use Rattle.run.specs.Theorems.{MarksSet, HoldsMarksOn, MarksStay, MarksHeld}

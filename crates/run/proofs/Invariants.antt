@@ -20,11 +20,12 @@ use Rattle.run.specs.declared.Call.the-variants.{Check, Start, Fire, Und
 use Rattle.standing.specs.Runs.{Run, Store, Answer, Done, answered}
 use Rattle.standing.specs.Runs.Answer.{refused, rounds}
 use Rattle.standing.specs.Holding.{holds}
-use Rattle.steps.specs.Calls.{initial, start, replay}
+use Rattle.replaying.specs.Replays.{initial, replay}
+use Rattle.steps.specs.Calls.{start}
 use Rattle.run.specs.Lists.{callOn, callBy, call, Performed}
 use Rattle.run.specs.Lists.Performed.{nothing, next}
 use Rattle.run.specs.Theorems.{NoneIs, NeverAfterStart}
-use Rattle.steps.proofs.Tests.{clash}
+use Rattle.replaying.proofs.Tests.{clash}
 use Rattle.run.proofs.Cases.{Other, startedRun, firedRun, undoneRun, start-cases, fire-cases, undo-cases, marks-cases, value-cases, pick-cases, range-cases}
 
 -- what holds of the run after an accepted start and stays with each accepted call; under it number n is not met

@@ -16,7 +16,7 @@ use Rattle.steps.specs.declared.Move.the-variants as moves
 use Rattle.standing.specs.Runs.{Run, Store, Answer, Done, run, store, answered}
 use Rattle.standing.specs.Runs.Answer.{rounds, done}
 use Rattle.steps.specs.Answers.{seen, onFile}
-use Rattle.steps.specs.Replays.{cellsLeft}
+use Rattle.steps.specs.Lent.{cellsLeft}
 use Rattle.steps.specs.Calls as calls
 use Rattle.run.specs.Lists.{Promise}
 use Rattle.run.specs.Promises.{seenCheck, CheckPromise, StartPromise, FirePromise, PerformPromise}

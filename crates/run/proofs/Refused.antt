@@ -9,7 +9,7 @@ use Rattle.run.specs.declared.Call.{Call}
 use Rattle.run.specs.declared.Call.the-variants.{Check, Start, Fire, Undo, Marks, Value, Pick, FirstOutside}
 use Rattle.standing.specs.Runs.{Store, Done, store}
 use Rattle.standing.specs.Runs.Answer.{refused}
-use Rattle.steps.proofs.Tests.{clash}
+use Rattle.replaying.proofs.Tests.{clash}
 use Rattle.run.specs.Lists.{callOn, callBy}
 use Rattle.run.specs.Theorems.{RefusedLeaves}
 use Rattle.run.proofs.Cases.{start-cases, fire-cases, undo-cases, marks-cases}

@@ -14,8 +14,8 @@ use Rattle.semantics.specs.Propagation.Settled.{refused, settled}
 use Rattle.semantics.specs.Meanings.{Meaning}
 use Rattle.results.specs.Results.{answered}
 use Rattle.semantics.specs.Firing.{Left, leftBySettling, fired, begun}
-use Rattle.steps.specs.Calls.{isFired, goOn, refire, replay}
-use Rattle.steps.proofs.Written.{SameRest, same-rest, rest-after, Complete, fired-keeps, begun-keeps}
+use Rattle.replaying.specs.Replays.{isFired, goOn, refire, replay}
+use Rattle.replaying.proofs.Written.{SameRest, same-rest, rest-after, Complete, fired-keeps, begun-keeps}
 
 -- what goes on to a result was fired, and any other continuation goes on from the same values
 pub goes-on : (P : Option (List ℤ) → Type 0) (next other : List ℤ → Option (List ℤ)) (l : Left) (vs : List ℤ)

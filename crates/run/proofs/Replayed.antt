@@ -14,10 +14,10 @@ use Rattle.semantics.specs.declared.Firing.the-variants.{Fired}
 use Rattle.semantics.specs.Meanings.{Meaning, meaningOf}
 use Rattle.semantics.specs.Firing.{fired, begun}
 use Rattle.standing.specs.Runs.{Run}
-use Rattle.steps.specs.Calls.{isFired, initial, goOn, refire, replay}
+use Rattle.replaying.specs.Replays.{isFired, initial, goOn, refire, replay}
 use Rattle.run.specs.Theorems.{ReplayHolds}
-use Rattle.steps.proofs.Written.{Complete}
-use Rattle.steps.proofs.Ends.{settle-complete}
+use Rattle.replaying.proofs.Written.{Complete}
+use Rattle.replaying.proofs.Ends.{settle-complete}
 use Rattle.run.proofs.Replay.{Succeeds, replay-append, replay-beginning, replay-keeps, replay-depends}
 use Rattle.run.proofs.Cases.{startedRun, firedRun, undoneRun}
 use Rattle.run.proofs.Invariants.{Invariant, never-after-start}

@@ -10,7 +10,8 @@ use Rattle.semantics.specs.Meanings.{guardIn, actionIn, meaningOf}
 use Rattle.semantics.specs.Firing.{leftBySettling, leftByActing, leftByGuard, fired, begun}
 use Rattle.standing.specs.Holding.{allBelow, firstOutside, isNone}
 use Rattle.marking.specs.Marks.{markOf, marksFrom}
-use Rattle.steps.specs.Calls.{answerOf, isFired, start, fire}
+use Rattle.steps.specs.Calls.{answerOf, start, fire}
+use Rattle.replaying.specs.Replays.{isFired}
 use Rattle.run.specs.Rows.{AgreementRows}
 
 pub agreement-rows : AgreementRows

@@ -5,7 +5,6 @@ ghost use Rattle.run.specs.Promises.{CheckPromise, StartPromise, FirePro
 use model::Checked;
 use steps::Answer;
 use steps::Move;
-use steps::moves;
 
 // A call, with its transition or variable number.
 pub enum Call {
@@ -31,7 +30,7 @@ pub fn start(model: &[u8], values: &mut [i32], marks: &mut [u8], n: &mut usize) 
     ensures { λ r. ⌜ StartPromise (now (model .entry)) (now (values .entry)) (now (marks .entry)) (now (n .entry)) r
         (now (values .exit)) (now (marks .exit)) (now (n .exit)) ⌝ }
 {
-    let answer = moves::advance(model, values, marks, &[0u8; 0], 0, Move::Start);
+    let answer = advancing::advance(model, values, marks, &[0u8; 0], 0, Move::Start);
     if let Answer::Rounds(_) = answer {
         *n = 0;
     }
@@ -51,7 +50,7 @@ pub fn fire(
         (now (values .exit)) (now (marks .exit)) (now (history .exit)) (now (n .exit)) ⌝ }
 {
     let count = *n;
-    let answer = moves::advance(model, values, marks, history, count, Move::Fire(transition));
+    let answer = advancing::advance(model, values, marks, history, count, Move::Fire(transition));
     if let Answer::Rounds(_) = answer {
         history[count] = transition as u8;
         *n = count + 1;
@@ -71,7 +70,7 @@ pub fn undo(
         (now (values .exit)) (now (marks .exit)) (now (n .exit)) ⌝ }
 {
     let count = *n;
-    let answer = moves::advance(model, values, marks, history, count, Move::Undo);
+    let answer = advancing::advance(model, values, marks, history, count, Move::Undo);
     if let Answer::Done = answer {
         *n = count - 1;
     }

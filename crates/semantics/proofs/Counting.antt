@@ -9,14 +9,7 @@ use native.Mathlib.Omega.{arith}
 use lib.IntN.{ℤ}
 use Rattle.expressions.specs.Expressions.{Valuation}
 use Rattle.semantics.specs.Theorems.{Extends}
-
-abbrev unknownOne : Option ℤ → ℕ
-unknownOne none = 1
-unknownOne (some v) = 0
-
-unfoldable pub unknowns : Valuation → ℕ → ℕ → ℕ
-unknowns σ zero x = 0
-unknowns σ (suc n) x = unknownOne (σ x) + unknowns σ n (suc x)
+use Rattle.semantics.specs.Counting.{unknownOne, unknowns}
 
 one-bounded : (a : Option ℤ) → unknownOne a ≤ 1
 one-bounded none = omega arith

@@ -21,7 +21,8 @@ use Rattle.semantics.specs.Propagation.Reached.{stopped, reached}
 use Rattle.semantics.specs.Propagation.Settled.{settled}
 use Rattle.semantics.specs.Theorems.{Extends}
 use Rattle.semantics.proofs.Effects.{given-member, member-given, target}
-use Rattle.semantics.proofs.Counting.{unknowns, unknowns-bounded, unknowns-fall}
+use Rattle.semantics.specs.Counting.{unknowns}
+use Rattle.semantics.proofs.Counting.{unknowns-bounded, unknowns-fall}
 use Rattle.semantics.proofs.Derived.{Onward, Derived, AtRest, new-value}
 use Rattle.semantics.proofs.Derived.Derived.{start, onward}
 

@@ -23,7 +23,8 @@ use Rattle.semantics.specs.Sequential.{Ended, endOf, withValue, Steps, E
 use Rattle.semantics.specs.Sequential.Steps.{start, step}
 use Rattle.semantics.specs.Sequential.Ends.{faulted, exhausted}
 use Rattle.semantics.specs.Theorems.{Extends}
-use Rattle.semantics.proofs.Counting.{unknowns, unknowns-bounded, unknowns-fall}
+use Rattle.semantics.specs.Counting.{unknowns}
+use Rattle.semantics.proofs.Counting.{unknowns-bounded, unknowns-fall}
 use Rattle.semantics.proofs.Derived.{Onward, Derived, derived-no-fault, derived-same, new-value}
 use Rattle.semantics.proofs.Derived.Derived.{start as derivedStart, onward}
 use Rattle.semantics.proofs.Rounds.{Outcome, Targets, outcome, assertion-targets}

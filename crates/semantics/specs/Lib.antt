@@ -5,6 +5,8 @@ pub mod Propagation
 pub mod Sequential
 pub mod Meanings
 pub mod Firing
+-- how the code's loops are counted:
+pub mod Counting
 -- statements:
 pub mod Theorems
 pub mod Rows

@@ -15,10 +15,12 @@ use Rattle.standing.specs.Runs.{Run, Answer, Done, answered}
 use Rattle.standing.specs.Runs.Answer.{refused, done}
 use Rattle.standing.specs.Holding.{holds, historyHolds}
 use Rattle.marking.specs.Marks.{marksOver}
-use Rattle.steps.specs.Calls.{answerOf, isFired, firedInto, initial, replay, start, fire, undoneBy, undo}
-use Rattle.steps.specs.Replays.{Cells, cellsLeft, replayedOver}
-use Rattle.steps.proofs.Tests.{clash}
-use Rattle.steps.proofs.Outcomes.{Kept, fired-kept, begun-kept}
+use Rattle.steps.specs.Calls.{answerOf, firedInto, start, fire, undoneBy, undo}
+use Rattle.replaying.specs.Replays.{isFired, initial, replay}
+use Rattle.steps.specs.Lent.{Cells, cellsLeft}
+use Rattle.replaying.specs.Outcomes.{replayedOver}
+use Rattle.replaying.proofs.Tests.{clash}
+use Rattle.replaying.proofs.Outcomes.{Kept, fired-kept, begun-kept}
 
 first-of : (a b : Bool) → (a && b) ≡ true → a ≡ true
 first-of true b e = refl

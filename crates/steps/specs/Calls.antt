@@ -1,7 +1,7 @@
 -- Start, fire and undo over the meaning of an accepted model and a run. 01: "Every call goes 1 to 8, 9, 10, 11, 12, 20, 21, 22, 23 up,
 -- skipping those foreign to it". "A refusal answers its number alone; values, record, n and marks keep their content."
-use mathlib.Core.Bool.{Bool, true, false, cond, not}
-use mathlib.Core.List.{List, [], _∷_, map}
+use mathlib.Core.Bool.{cond, not}
+use mathlib.Core.List.{List}
 use mathlib.Core.Option.{Option, some, none}
 use Prim.Native.Nat.{ℕ, suc, _-_}
 use lib.Dec.{eqb, ltb}
@@ -17,6 +17,7 @@ use Rattle.standing.specs.Runs.{Run, Answer, Done, answered, withHistory, withC
 use Rattle.standing.specs.Runs.Answer.{refused, rounds, done}
 use Rattle.standing.specs.Holding.{tooShort, tooFew, holds}
 use Rattle.marking.specs.Marks.{refreshed}
+use Rattle.replaying.specs.Replays.{isFired, initial, replay}
 use Rattle.steps.specs.declared.Move.{Move}
 use Rattle.steps.specs.declared.Move.the-variants.{Start, Fire, Undo}
 
@@ -28,21 +29,9 @@ answerOf (ActionFault f) = refused (numberOf action f)
 answerOf (AssertionFault f) = refused (numberOf assertion f)
 answerOf (Fired n) = rounds n
 
--- fired, not refused
-unfoldable pub isFired : Firing → Bool
-isFired Disabled = false
-isFired GuardFailed = false
-isFired (ActionFault f) = false
-isFired (AssertionFault f) = false
-isFired (Fired n) = true
-
 -- the answer of firing, with what is new if it was fired and what was there if it was refused
 abbrev pub firedInto : {A : Type 0} → A → A → Firing → Done A
 firedInto old new f = answered (answerOf f) (cond (isFired f) new old)
-
--- the initial values of the states
-abbrev pub initial : Meaning → List ℤ
-initial m = map (λ v. v .first) (take (m .states) (m .declarations))
 
 -- Start: "states initial, then the assertion; n = 0". The history is not lent to it; here it stays. A4: 10 "in every call on a run".
 abbrev pub startedBy : Meaning → Run → Left → Done Run
@@ -68,19 +57,6 @@ fire m t r =
     (cond (not (holds m r)) (answered (refused 20) r)
     (cond (eqb (r .count) (length (r .history))) (answered (refused 21) r)
     (firedBy m t r (fired m t (r .values)))))))
-
--- what follows on the values left, unless firing is refused
-unfoldable pub goOn : (List ℤ → Option (List ℤ)) → Left → Option (List ℤ)
-goOn next l = cond (isFired (l .answer)) (next (l .left)) none
-
--- the values after these transitions, fired one after another; none if one is refused
-unfoldable pub refire : Meaning → List ℕ → List ℤ → Option (List ℤ)
-refire m [] values = some values
-refire m (t ∷ ts) values = goOn (λ vs. refire m ts vs) (fired m t values)
-
--- the values after starting from these states and firing these transitions
-unfoldable pub replay : Meaning → List ℤ → List ℕ → List ℤ → Option (List ℤ)
-replay m ss ts values = goOn (λ vs. refire m ts vs) (begun m ss values)
 
 -- Undo (01: take back): "values become those of start and the first n − 1 recorded transitions fired again; n one lower, the
 -- record's bytes stay". 22 "take back with n = 0", 31 "start is refused, or the first n − 1 entries can't be fired again".

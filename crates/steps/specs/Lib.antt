@@ -3,4 +3,4 @@
 pub mod Calls
 pub mod Answers
 -- how the code goes about it:
-pub mod Replays
+pub mod Lent

@@ -3,21 +3,21 @@
 ghost use mathlib.Core.Path.{_≡_};
 ghost use mathlib.Core.List.{List};
 ghost use Prim.Native.Nat.{ℕ, _≤_};
-ghost use lib.ListN.{length, take};
+ghost use lib.IntN.{pos};
+ghost use lib.ListN.{length, replicate};
+ghost use Rattle.scratch.specs.Blank.{unknownCell, BlankFiring};
 ghost use Rattle.interpreter.specs.Instructions.{numberOf};
 ghost use Rattle.interpreter.specs.Instructions.Place.{action, assertion};
-ghost use Rattle.model.specs.Check.{verdict};
-ghost use Rattle.semantics.specs.Firing.{begun};
+ghost use Rattle.waiting.specs.Index.{Indexed};
 ghost use Rattle.engine.specs.Cells.{Loaded, OnLoaded};
 ghost use Rattle.standing.specs.Runs.{run, answered};
 ghost use Rattle.marking.specs.Marks.{marksOver};
 ghost use Rattle.steps.specs.Calls as calls;
-ghost use Rattle.steps.specs.Calls.{isFired, firedInto, initial, stepOn};
-ghost use Rattle.steps.specs.Replays.{cellsLeft, resultOf, replayedOver};
-ghost use Rattle.steps.specs.Answers.{seen, onFile};
+ghost use Rattle.steps.specs.Calls.{firedInto, stepOn};
+ghost use Rattle.steps.specs.Lent.{cellsLeft};
+ghost use Rattle.steps.specs.Answers.{seen};
 use super::Answer;
 use super::Move;
-use decoding::Prepared;
 use engine::transitions;
 use interpreter::Fault;
 use model::Model;
@@ -58,155 +58,6 @@ fn answer_of(firing: Firing) -> Answer
     }
 }
 
-// Does a call go on: was the transition fired.
-fn is_fired(firing: Firing) -> bool
-    ensures { λ r. ⌜ r ≡ isFired firing ⌝ }
-{
-    match firing {
-        Firing::Disabled => false,
-        Firing::GuardFailed => false,
-        Firing::ActionFault(_) => false,
-        Firing::AssertionFault(_) => false,
-        Firing::Fired(_) => true,
-    }
-}
-
-// Begins from the initial states.
-fn begin(
-    loaded: Model,
-    kinds: &[u8],
-    parameters: &[i32],
-    variables: &[[i32; 3]],
-    nexts: &[u16],
-    guards: &[u16],
-    values: &mut [i32],
-) -> Firing
-    requires { ⌜ Loaded loaded (now kinds) (now parameters) (now variables) (now nexts) (now guards) ⌝ }
-    ensures { λ r. ⌜ OnLoaded loaded (now (kinds .entry)) (now (parameters .entry)) (now (variables .entry)) (now (nexts .entry)) (now (guards .entry)) (λ m.
-        answered r (now (values .exit)) ≡ begun m (initial m) (now (values .entry))) ⌝ }
-{
-    let mut initial = [0i32; Model::MAX_VARIABLES];
-    let states = loaded.sizes.states;
-    variables::first_values(&variables[..states], &mut initial);
-    transitions::begin(
-        loaded,
-        kinds,
-        parameters,
-        variables,
-        nexts,
-        guards,
-        &initial[..states],
-        values,
-    )
-}
-
-// Fires the first `count` entries of the history again, over these values; stops at one that is refused.
-fn refire(
-    loaded: Model,
-    kinds: &[u8],
-    parameters: &[i32],
-    variables: &[[i32; 3]],
-    nexts: &[u16],
-    guards: &[u16],
-    history: &[u8],
-    count: usize,
-    values: &mut [i32],
-) -> bool
-    requires { ⌜ Loaded loaded (now kinds) (now parameters) (now variables) (now nexts) (now guards) ⌝ }
-    requires { ⌜ count ≤ length (now history) ⌝ }
-    ensures { λ r. ⌜ OnLoaded loaded (now (kinds .entry)) (now (parameters .entry)) (now (variables .entry)) (now (nexts .entry)) (now (guards .entry)) (λ m.
-        resultOf r (now (values .exit)) ≡ calls.refire m (take count (now (history .entry))) (now (values .entry))) ⌝ }
-{
-    let mut i = 0;
-    while i < count {
-        let transition = history[i] as usize;
-        let firing = transitions::fire(
-            loaded,
-            kinds,
-            parameters,
-            variables,
-            nexts,
-            guards,
-            values,
-            transition,
-        );
-        if !is_fired(firing) {
-            return false;
-        }
-        i += 1;
-    }
-    true
-}
-
-// Starts again and fires the first `count` entries of the history, over these values; stops at a step that is refused.
-fn restart(
-    loaded: Model,
-    kinds: &[u8],
-    parameters: &[i32],
-    variables: &[[i32; 3]],
-    nexts: &[u16],
-    guards: &[u16],
-    history: &[u8],
-    count: usize,
-    values: &mut [i32],
-) -> bool
-    requires { ⌜ Loaded loaded (now kinds) (now parameters) (now variables) (now nexts) (now guards) ⌝ }
-    requires { ⌜ count ≤ length (now history) ⌝ }
-    ensures { λ r. ⌜ OnLoaded loaded (now (kinds .entry)) (now (parameters .entry)) (now (variables .entry)) (now (nexts .entry)) (now (guards .entry)) (λ m.
-        resultOf r (now (values .exit)) ≡ calls.replay m (initial m) (take count (now (history .entry))) (now (values .entry))) ⌝ }
-{
-    if !is_fired(begin(loaded, kinds, parameters, variables, nexts, guards, values)) {
-        return false;
-    }
-    refire(
-        loaded,
-        kinds,
-        parameters,
-        variables,
-        nexts,
-        guards,
-        history,
-        count,
-        values,
-    )
-}
-
-// `restart` on cells of its own: the values are replaced only if nothing is refused.
-fn replay(
-    loaded: Model,
-    kinds: &[u8],
-    parameters: &[i32],
-    variables: &[[i32; 3]],
-    nexts: &[u16],
-    guards: &[u16],
-    history: &[u8],
-    count: usize,
-    values: &mut [i32],
-) -> bool
-    requires { ⌜ Loaded loaded (now kinds) (now parameters) (now variables) (now nexts) (now guards) ⌝ }
-    requires { ⌜ (count ≤ length (now history)) × (length (now variables) ≤ length (now values)) ⌝ }
-    ensures { λ r. ⌜ OnLoaded loaded (now (kinds .entry)) (now (parameters .entry)) (now (variables .entry)) (now (nexts .entry)) (now (guards .entry)) (λ m.
-        answered r (now (values .exit)) ≡ replayedOver (now (values .entry)) (calls.replay m (initial m) (take count (now (history .entry))) (now (values .entry)))) ⌝ }
-{
-    let mut copy = [0i32; Model::MAX_VARIABLES];
-    let n = variables.len();
-    let replayed = restart(
-        loaded,
-        kinds,
-        parameters,
-        variables,
-        nexts,
-        guards,
-        history,
-        count,
-        &mut copy[..n],
-    );
-    if replayed {
-        propagation::store(&copy[..n], values);
-    }
-    replayed
-}
-
 // The answer of a firing; if it was fired, the marks become those of the values that it left.
 fn conclude(
     firing: Firing,
@@ -217,15 +68,17 @@ fn conclude(
     nexts: &[u16],
     guards: &[u16],
     values: &[i32],
+    cells: &mut [i64],
     marks: &mut [u8],
 ) -> Answer
     requires { ⌜ Loaded loaded (now kinds) (now parameters) (now variables) (now nexts) (now guards) ⌝ }
-    requires { ⌜ (length (now variables) ≤ length (now values)) × (length (now guards) ≤ length (now marks)) ⌝ }
+    requires { ⌜ (length (now variables) ≤ length (now values)) × (length (now guards) ≤ length (now marks)) × (now cells ≡ replicate (length (now variables)) unknownCell) ⌝ }
     ensures { λ r. ⌜ OnLoaded loaded (now (kinds .entry)) (now (parameters .entry)) (now (variables .entry)) (now (nexts .entry)) (now (guards .entry)) (λ m.
-        answered (seen r) (now (marks .exit)) ≡ firedInto (now (marks .entry)) (marksOver m (now (values .entry)) (now (marks .entry))) firing) ⌝ }
+        answered (seen r) (now (marks .exit)) ≡ firedInto (now (marks .entry)) (marksOver m (now (values .entry)) (now (marks .entry))) firing)
+        × (now (cells .exit) ≡ now (cells .entry)) ⌝ }
 {
     let answer = answer_of(firing);
-    if !is_fired(firing) {
+    if !replaying::is_fired(firing) {
         return answer;
     }
     marking::refresh(
@@ -236,6 +89,7 @@ fn conclude(
         nexts,
         guards,
         values,
+        cells,
         marks,
     );
     answer
@@ -249,12 +103,22 @@ fn start(
     variables: &[[i32; 3]],
     nexts: &[u16],
     guards: &[u16],
+    heads: &[u16],
+    links: &[u16],
+    states: &mut [i32],
+    cells: &mut [i64],
+    given: &mut [i64],
+    queue: &mut [u16],
+    waits: &mut [u16],
     values: &mut [i32],
     marks: &mut [u8],
 ) -> Answer
     requires { ⌜ Loaded loaded (now kinds) (now parameters) (now variables) (now nexts) (now guards) ⌝ }
+    requires { ⌜ Indexed (now kinds) (now parameters) (loaded .assertion) (length (now variables)) (now heads) (now links)
+        × BlankFiring (length (now variables)) (length (now kinds)) (now states) (now cells) (now given) (now queue) (now waits) ⌝ }
     ensures { λ r. ⌜ OnLoaded loaded (now (kinds .entry)) (now (parameters .entry)) (now (variables .entry)) (now (nexts .entry)) (now (guards .entry)) (λ m.
-        (history : List ℕ) (n : ℕ) → answered (seen r) (now (values .exit), now (marks .exit)) ≡ cellsLeft (calls.start m (run (now (values .entry)) (now (marks .entry)) history n))) ⌝ }
+        (history : List ℕ) (n : ℕ) → answered (seen r) (now (values .exit), now (marks .exit)) ≡ cellsLeft (calls.start m (run (now (values .entry)) (now (marks .entry)) history n)))
+        × BlankFiring (length (now (variables .entry))) (length (now (kinds .entry))) (now (states .exit)) (now (cells .exit)) (now (given .exit)) (now (queue .exit)) (now (waits .exit)) ⌝ }
 {
     if values.len() < variables.len() {
         return Answer::Refused(9);
@@ -262,7 +126,22 @@ fn start(
     if marks.len() < guards.len() {
         return Answer::Refused(10);
     }
-    let firing = begin(loaded, kinds, parameters, variables, nexts, guards, values);
+    let firing = replaying::begin(
+        loaded,
+        kinds,
+        parameters,
+        variables,
+        nexts,
+        guards,
+        heads,
+        links,
+        states,
+        cells,
+        given,
+        queue,
+        waits,
+        values,
+    );
     conclude(
         firing,
         loaded,
@@ -272,6 +151,7 @@ fn start(
         nexts,
         guards,
         values,
+        cells,
         marks,
     )
 }
@@ -284,6 +164,13 @@ fn fire(
     variables: &[[i32; 3]],
     nexts: &[u16],
     guards: &[u16],
+    heads: &[u16],
+    links: &[u16],
+    states: &mut [i32],
+    cells: &mut [i64],
+    given: &mut [i64],
+    queue: &mut [u16],
+    waits: &mut [u16],
     values: &mut [i32],
     marks: &mut [u8],
     history: &[u8],
@@ -291,8 +178,11 @@ fn fire(
     transition: usize,
 ) -> Answer
     requires { ⌜ Loaded loaded (now kinds) (now parameters) (now variables) (now nexts) (now guards) ⌝ }
+    requires { ⌜ Indexed (now kinds) (now parameters) (loaded .assertion) (length (now variables)) (now heads) (now links)
+        × BlankFiring (length (now variables)) (length (now kinds)) (now states) (now cells) (now given) (now queue) (now waits) ⌝ }
     ensures { λ r. ⌜ OnLoaded loaded (now (kinds .entry)) (now (parameters .entry)) (now (variables .entry)) (now (nexts .entry)) (now (guards .entry)) (λ m.
-        answered (seen r) (now (values .exit), now (marks .exit)) ≡ cellsLeft (calls.fire m transition (run (now (values .entry)) (now (marks .entry)) (now (history .entry)) n))) ⌝ }
+        answered (seen r) (now (values .exit), now (marks .exit)) ≡ cellsLeft (calls.fire m transition (run (now (values .entry)) (now (marks .entry)) (now (history .entry)) n)))
+        × BlankFiring (length (now (variables .entry))) (length (now (kinds .entry))) (now (states .exit)) (now (cells .exit)) (now (given .exit)) (now (queue .exit)) (now (waits .exit)) ⌝ }
 {
     if values.len() < variables.len() {
         return Answer::Refused(9);
@@ -316,6 +206,13 @@ fn fire(
         variables,
         nexts,
         guards,
+        heads,
+        links,
+        states,
+        cells,
+        given,
+        queue,
+        waits,
         values,
         transition,
     );
@@ -328,6 +225,7 @@ fn fire(
         nexts,
         guards,
         values,
+        cells,
         marks,
     )
 }
@@ -340,14 +238,27 @@ fn undo(
     variables: &[[i32; 3]],
     nexts: &[u16],
     guards: &[u16],
+    heads: &[u16],
+    links: &[u16],
+    states: &mut [i32],
+    cells: &mut [i64],
+    given: &mut [i64],
+    queue: &mut [u16],
+    waits: &mut [u16],
+    copy: &mut [i32],
     values: &mut [i32],
     marks: &mut [u8],
     history: &[u8],
     n: usize,
 ) -> Answer
     requires { ⌜ Loaded loaded (now kinds) (now parameters) (now variables) (now nexts) (now guards) ⌝ }
+    requires { ⌜ Indexed (now kinds) (now parameters) (loaded .assertion) (length (now variables)) (now heads) (now links)
+        × BlankFiring (length (now variables)) (length (now kinds)) (now states) (now cells) (now given) (now queue) (now waits)
+        × (now copy ≡ replicate (length (now variables)) (pos 0)) ⌝ }
     ensures { λ r. ⌜ OnLoaded loaded (now (kinds .entry)) (now (parameters .entry)) (now (variables .entry)) (now (nexts .entry)) (now (guards .entry)) (λ m.
-        answered (seen r) (now (values .exit), now (marks .exit)) ≡ cellsLeft (calls.undo m (run (now (values .entry)) (now (marks .entry)) (now (history .entry)) n))) ⌝ }
+        answered (seen r) (now (values .exit), now (marks .exit)) ≡ cellsLeft (calls.undo m (run (now (values .entry)) (now (marks .entry)) (now (history .entry)) n)))
+        × BlankFiring (length (now (variables .entry))) (length (now (kinds .entry))) (now (states .exit)) (now (cells .exit)) (now (given .exit)) (now (queue .exit)) (now (waits .exit))
+        × (now (copy .exit) ≡ now (copy .entry)) ⌝ }
 {
     if values.len() < variables.len() {
         return Answer::Refused(9);
@@ -361,15 +272,23 @@ fn undo(
     if n == 0 {
         return Answer::Refused(22);
     }
-    if !replay(
+    if !replaying::replay(
         loaded,
         kinds,
         parameters,
         variables,
         nexts,
         guards,
+        heads,
+        links,
+        states,
+        cells,
+        given,
+        queue,
+        waits,
         history,
         n - 1,
+        copy,
         values,
     ) {
         return Answer::Refused(31);
@@ -382,19 +301,28 @@ fn undo(
         nexts,
         guards,
         values,
+        cells,
         marks,
     );
     Answer::Done
 }
 
 // One of the three, on a decoded model.
-fn dispatch(
+pub fn dispatch(
     loaded: Model,
     kinds: &[u8],
     parameters: &[i32],
     variables: &[[i32; 3]],
     nexts: &[u16],
     guards: &[u16],
+    heads: &[u16],
+    links: &[u16],
+    states: &mut [i32],
+    cells: &mut [i64],
+    given: &mut [i64],
+    queue: &mut [u16],
+    waits: &mut [u16],
+    copy: &mut [i32],
     values: &mut [i32],
     marks: &mut [u8],
     history: &[u8],
@@ -402,8 +330,13 @@ fn dispatch(
     step: Move,
 ) -> Answer
     requires { ⌜ Loaded loaded (now kinds) (now parameters) (now variables) (now nexts) (now guards) ⌝ }
+    requires { ⌜ Indexed (now kinds) (now parameters) (loaded .assertion) (length (now variables)) (now heads) (now links)
+        × BlankFiring (length (now variables)) (length (now kinds)) (now states) (now cells) (now given) (now queue) (now waits)
+        × (now copy ≡ replicate (length (now variables)) (pos 0)) ⌝ }
     ensures { λ r. ⌜ OnLoaded loaded (now (kinds .entry)) (now (parameters .entry)) (now (variables .entry)) (now (nexts .entry)) (now (guards .entry)) (λ m.
-        answered (seen r) (now (values .exit), now (marks .exit)) ≡ cellsLeft (stepOn m step (run (now (values .entry)) (now (marks .entry)) (now (history .entry)) n))) ⌝ }
+        answered (seen r) (now (values .exit), now (marks .exit)) ≡ cellsLeft (stepOn m step (run (now (values .entry)) (now (marks .entry)) (now (history .entry)) n)))
+        × BlankFiring (length (now (variables .entry))) (length (now (kinds .entry))) (now (states .exit)) (now (cells .exit)) (now (given .exit)) (now (queue .exit)) (now (waits .exit))
+        × (now (copy .exit) ≡ now (copy .entry)) ⌝ }
 {
     match step {
         Move::Start => start(
@@ -413,6 +346,13 @@ fn dispatch(
             variables,
             nexts,
             guards,
+            heads,
+            links,
+            states,
+            cells,
+            given,
+            queue,
+            waits,
             values,
             marks,
         ),
@@ -423,6 +363,13 @@ fn dispatch(
             variables,
             nexts,
             guards,
+            heads,
+            links,
+            states,
+            cells,
+            given,
+            queue,
+            waits,
             values,
             marks,
             history,
@@ -436,57 +383,18 @@ fn dispatch(
             variables,
             nexts,
             guards,
+            heads,
+            links,
+            states,
+            cells,
+            given,
+            queue,
+            waits,
+            copy,
             values,
             marks,
             history,
             n,
         ),
-    }
-}
-
-// Decodes the model and makes the move.
-pub fn advance(
-    model: &[u8],
-    values: &mut [i32],
-    marks: &mut [u8],
-    history: &[u8],
-    n: usize,
-    step: Move,
-) -> Answer
-    ensures { λ r. ⌜ answered (seen r) (now (values .exit), now (marks .exit))
-        ≡ cellsLeft (onFile (verdict (now (model .entry))) (λ m. stepOn m step (run (now (values .entry)) (now (marks .entry)) (now (history .entry)) n)) (run (now (values .entry)) (now (marks .entry)) (now (history .entry)) n)) ⌝ }
-{
-    let mut parameters = [0i32; Model::MAX_NODES];
-    let mut sorts = [0u8; Model::MAX_VARIABLES];
-    let mut variables = [[0i32; 3]; Model::MAX_VARIABLES];
-    let mut nexts = [0u16; Model::MAX_NODES];
-    let mut guards = [0u16; Model::MAX_TRANSITIONS];
-    match decoding::prepare(
-        model,
-        &mut parameters,
-        &mut sorts,
-        &mut variables,
-        &mut nexts,
-        &mut guards,
-    ) {
-        Prepared::Refused(number) => Answer::Refused(number),
-        Prepared::Ready(loaded) => {
-            let nodes = loaded.sizes.nodes;
-            let count = loaded.sizes.states + loaded.sizes.flows;
-            let transitions = loaded.sizes.transitions;
-            dispatch(
-                loaded,
-                decoding::kinds_of(model, nodes),
-                &parameters[..nodes],
-                &variables[..count],
-                &nexts[..nodes],
-                &guards[..transitions],
-                values,
-                marks,
-                history,
-                n,
-                step,
-            )
-        }
     }
 }

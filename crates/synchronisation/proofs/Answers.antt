@@ -15,7 +15,7 @@ use Rattle.model.specs.Trees.{Transition, System}
 use Rattle.model.specs.Check.{verdict}
 use Rattle.model.specs.WellFormed.{WellFormed, encode}
 use Rattle.standing.specs.Holding.{allBelow}
-use Rattle.steps.proofs.Tests.{clash, neither}
+use Rattle.replaying.proofs.Tests.{clash, neither}
 use Rattle.synchronisation.specs.declared.Synchronised.{Synchronised}
 use Rattle.synchronisation.specs.declared.Synchronised.the-variants.{Refused, Length}
 use Rattle.synchronisation.specs.Synchronisations.{membersOf, together, extendedBy, synchronisedOf, fits, isEmpty}

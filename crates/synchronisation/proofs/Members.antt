@@ -12,7 +12,7 @@ use Rattle.model.specs.Trees.{Transition}
 use Rattle.model.specs.WellFormed.{All}
 use Rattle.semantics.proofs.Knowing.{element-all}
 use Rattle.standing.specs.Holding.{allBelow}
-use Rattle.steps.proofs.Tests.{clash}
+use Rattle.replaying.proofs.Tests.{clash}
 use Rattle.synchronisation.specs.Synchronisations.{withFirst, membersOf}
 use Rattle.synchronisation.specs.Theorems.{MembersExact}
 

@@ -17,8 +17,9 @@ use Rattle.semantics.specs.Firing.{fired, begun}
 use Rattle.standing.specs.Runs.{Run}
 use Rattle.standing.specs.Runs.Answer.{done}
 use Rattle.standing.specs.Holding.{tooShort, tooFew, holds, allBelow, historyHolds, marksWithin, isNone, firstOutside}
-use Rattle.steps.specs.Calls.{initial, start, goOn, refire, replay, undoneBy, undo}
-use Rattle.steps.proofs.Tests.{clash, below-take}
+use Rattle.replaying.specs.Replays.{initial, goOn, refire, replay}
+use Rattle.steps.specs.Calls.{start, undoneBy, undo}
+use Rattle.replaying.proofs.Tests.{clash, below-take}
 use Rattle.synchronisation.specs.Synchronisations.{extendedBy, together}
 use Rattle.synchronisation.specs.Theorems.{SameButLastMark, Stays, OldCallsStay}
 use Rattle.synchronisation.proofs.OldTransitions.{same-done, same-tests, fired-stays, accepted-same, by-firing}

@@ -23,8 +23,9 @@ use Rattle.standing.specs.Runs.Answer.{refused, rounds}
 use Rattle.standing.specs.Holding.{tooShort, tooFew, holds}
 use Rattle.marking.specs.Marks.{markOf, marksFrom, marksOver}
 use Rattle.marking.proofs.MarksWritten.{length-marks}
-use Rattle.steps.specs.Calls.{answerOf, isFired, firedInto, fire}
-use Rattle.steps.proofs.Tests.{clash}
+use Rattle.steps.specs.Calls.{answerOf, firedInto, fire}
+use Rattle.replaying.specs.Replays.{isFired}
+use Rattle.replaying.proofs.Tests.{clash}
 use Rattle.synchronisation.specs.Synchronisations.{extendedBy, together}
 use Rattle.synchronisation.specs.Theorems.{SameButLastMark, NeitherRefuses, Stays, OldTransitionsStay}
 use Rattle.synchronisation.proofs.Members.{old-stays, one-more}

@@ -14,7 +14,7 @@ use Rattle.model.specs.Trees.{Transition, System}
 use Rattle.model.specs.Check.{Verdict, verdict}
 use Rattle.model.specs.Check.Verdict.{refusal, accepted}
 use Rattle.model.specs.WellFormed.{encode}
-use Rattle.steps.proofs.Tests.{clash, by-test, neither}
+use Rattle.replaying.proofs.Tests.{clash, by-test, neither}
 use Rattle.synchronisation.specs.declared.Synchronised.{Synchronised}
 use Rattle.synchronisation.specs.declared.Synchronised.the-variants.{Refused, Length}
 use Rattle.synchronisation.specs.Synchronisations.{membersOf, together, extendedBy, fits, isEmpty, extendedInto, joinedInto, synchronisedBy}

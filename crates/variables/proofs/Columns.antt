@@ -9,7 +9,7 @@ use mir.Syntax.{w32}
 use mir.Val.{toZ, ofZ}
 use Rattle.evaluation.proofs.Signed.{read-back}
 use Rattle.model.specs.Trees.{Variable}
-use Rattle.variables.specs.Rows.{variableRows, lowsIn, highsIn, firstsIn}
+use Rattle.variables.specs.Rows.{variableRow, variableRows, lowsIn, highsIn, firstsIn}
 
 -- an entry that is read is the entry of its column
 pub read : (column : ℕ) (rows : List (List ℤ)) (x : ℕ) → mag (getD (getD rows x []) column (pos 0)) < 2 ^ 31
@@ -32,3 +32,17 @@ highs-of (v ∷ vs) = ap (λ l. v .high ∷ l) (highs-of vs)
 pub firsts-of : (vs : List Variable) → firstsIn (variableRows vs) ≡ map (λ v. v .first) vs
 firsts-of [] = refl
 firsts-of (v ∷ vs) = ap (λ l. v .first ∷ l) (firsts-of vs)
+
+-- the rows are those of these variables
+module _ (vs : List Variable) {rows : List (List ℤ)} (held : rows ≡ variableRows vs) where
+  pub low-ends : lowsIn rows ≡ map (λ v. v .low) vs
+  low-ends = ap lowsIn held ∙ lows-of vs
+
+  pub high-ends : highsIn rows ≡ map (λ v. v .high) vs
+  high-ends = ap highsIn held ∙ highs-of vs
+
+  pub first-values : firstsIn rows ≡ map (λ v. v .first) vs
+  first-values = ap firstsIn held ∙ firsts-of vs
+
+  pub row-count : length rows ≡ length vs
+  row-count = ap length held ∙ length-map vs variableRow

@@ -1,8 +1,9 @@
 -- `prepare` meets its contract: the check's refusal with nothing changed, or the decoding.
 use borrow.Author.Needs.{needs}
 use mathlib.Core.Path.{sym, _∙_}
+use native.Mathlib.Omega.{arith}
 use Rattle.decoding.specs.Decoding.{arrays}
-use Rattle.decoding.proofs.Preparing.{refused-prepared, ready-prepared}
+use Rattle.decoding.proofs.Preparing.{answer-sizes, answer-fits, refused-prepared, ready-prepared}
 use Rattle.decoding.proofs.prepare.Statement.{statement}
 use Rattle.decoding.proofs.prepare.Tie as tie
 
@@ -18,7 +19,20 @@ enum-known-sizes c = search needs
 decode-requires : tie.Need-decode-requires
 decode-requires c κs =
     let read = c .before .before .before .before .before .before in
-    sym (read .before .before .check .ensures) ∙ read .sizes .given .1
+    let checked = read .before .before in
+    let accepted = sym (checked .check .ensures) ∙ read .sizes .given .1 in
+    let few = answer-sizes _ _ accepted .few in
+    let f = answer-fits _ _ (checked .before .shared-slice-known .given) accepted in (
+      accepted,
+      (
+        omega (arith, few, c .before .before .before .before .decode-arg .given .0 .1),
+        omega (arith, c .before .before .before .decode-arg2 .given .0 .1),
+        omega (arith, c .before .before .decode-arg3 .given .0 .1),
+        omega (arith, few, c .before .decode-arg4 .given .0 .1),
+        omega (arith, c .decode-arg5 .given .0 .1),
+        omega (arith, c .before .decode-arg4 .given .0 .1),
+      ),
+    )
 
 returns : tie.Need-returns
 returns c =

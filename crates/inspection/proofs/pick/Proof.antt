@@ -1,8 +1,11 @@
 -- `pick` meets its contract.
-use mathlib.Core.Path.{sym, ap, _∙_}
+use mathlib.Core.Path.{_≡_, sym, ap, _∙_}
 use Prim.Native.Nat.{_+_}
 use native.Mathlib.Omega.{arith}
 use borrow.Author.Needs.{needs}
+use lib.IntN.{pos}
+use lib.ListN.{length, replicate}
+use lib.Seq.{length-take-le}
 use Rattle.model.specs.declared.Model.{Model}
 use Rattle.decoding.specs.Decoding.{Arrays, arrays}
 use Rattle.decoding.proofs.InUse.{InUse, in-use, part-within}
@@ -67,12 +70,21 @@ array-share-prefix-guards c = part-within (model (c .before .before .before .bef
 slice-aggregate-pick-loaded-4 : tie.Need-slice-aggregate-pick-loaded-4
 slice-aggregate-pick-loaded-4 c = used (c .before .before .before .before .before) .guards
 
+array-borrow-prefix-cells : tie.Need-array-borrow-prefix-cells
+array-borrow-prefix-cells c = used (c .before .before .before .before .before) .fits .variables
+
+slice-aggregate-pick-loaded-5 : tie.Need-slice-aggregate-pick-loaded-5
+slice-aggregate-pick-loaded-5 c =
+    sym (length-take-le (model (c .before .before .before .before .before .before) .sizes .states + model (c .before .before .before .before .before .before) .sizes .flows) (replicate 510 (pos 0)) (used (c .before .before .before .before .before .before) .fits .variables))
+
 pick-loaded-requires : tie.Need-pick-loaded-requires
 pick-loaded-requires c κs =
-    let here = c .before .before .before .before .before in
-    let start = c .before .before .before .before .before .before .before .before .before .before .before .before .before .before .before .before .before .before .args in
-    let kinds = c .before .before .before .before .kinds-of in
-    loaded-parts (start .model .now) (left here) (model here) (used here) (kinds .result .now) (kinds .ensures)
+    let here = c .before .before .before .before .before .before in
+    let start = c .before .before .before .before .before .before .before .before .before .before .before .before .before .before .before .before .before .before .before .args in
+    let kinds = c .before .before .before .before .before .kinds-of in (
+      loaded-parts (start .model .now) (left here) (model here) (used here) (kinds .result .now) (kinds .ensures),
+      length-take-le (model here .sizes .states + model here .sizes .flows) (replicate 510 (pos 0)) (used here .fits .variables) ∙ used here .variables,
+    )
 
 returns : tie.Need-returns
 unfolding seen
@@ -86,10 +98,10 @@ returns c =
 
 returns-2 : tie.Need-returns-2
 returns-2 c =
-    let here = c .before .before .before .before .before .before in
-    let start = c .before .before .before .before .before .before .before .before .before .before .before .before .before .before .before .before .before .before .before .args in
-    let kinds = c .before .before .before .before .before .kinds-of in
-    c .pick-loaded .ensures (loaded-parts (start .model .now) (left here) (model here) (used here) (kinds .result .now) (kinds .ensures))
+    let here = c .before .before .before .before .before .before .before .before in
+    let start = c .before .before .before .before .before .before .before .before .before .before .before .before .before .before .before .before .before .before .before .before .before .args in
+    let kinds = c .before .before .before .before .before .before .before .kinds-of in
+    c .before .pick-loaded .ensures (loaded-parts (start .model .now) (left here) (model here) (used here) (kinds .result .now) (kinds .ensures))
     ∙ ap (λ d. d .answer) (sym (on-loaded (start .model .now) (left here) (model here) (used here) (kinds .result .now) (kinds .ensures)
     (λ m. answered (queries.pick m (run (start .values .now) (start .marks .now) (start .history .now) (start .n))) (start .n)) (start .n)))
     ∙ alone _ (λ m. queries.pick m (run (start .values .now) (start .marks .now) (start .history .now) (start .n))) (start .n)
@@ -111,6 +123,8 @@ pick-spec =
     slice-aggregate-pick-loaded-3
     array-share-prefix-guards
     slice-aggregate-pick-loaded-4
+    array-borrow-prefix-cells
+    slice-aggregate-pick-loaded-5
     pick-loaded-requires
     returns
     returns-2)

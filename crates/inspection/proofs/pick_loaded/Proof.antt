@@ -8,25 +8,24 @@ use lib.ListN.{length, take, length-take}
 use lib.Seq.{length-take-le}
 use Rattle.results.specs.Results.{found}
 use Rattle.engine.specs.Cells.{Loaded}
-use Rattle.engine.proofs.Counts.{meaning, rows-count, guards-count, few-rows, few-guards}
+use Rattle.engine.proofs.Counts.{meaning, rows-count, guards-count, few-guards}
 use Rattle.standing.specs.Runs.{run}
-use Rattle.marking.proofs.MarksWritten.{cells-part, guard-marked}
+use Rattle.marking.proofs.MarksWritten.{guard-held}
 use Rattle.steps.specs.Answers.{seen}
-use Rattle.decoding.proofs.InUse.{part-within}
-use Rattle.steps.proofs.Slices.{short-values, enough-values, below-transitions, from-transitions, stale, held}
+use Rattle.replaying.proofs.Slices.{short-values, enough-values, below-transitions, from-transitions, stale, held}
 use Rattle.inspection.proofs.QueryTests.{pick-short, pick-few, pick-stale, pick-done}
 use Rattle.inspection.proofs.Picking.{fromOn, found-here, go-on, found-none, all-marks}
 use Rattle.inspection.proofs.pick_loaded.Statement.{statement}
 use Rattle.inspection.proofs.pick_loaded.Tie as tie
 
 abbrev Inv-loop : tie.InvT-loop
-Inv-loop loaded kinds parameters variables nexts guards values marks history n count cells transition₀ transition =
+Inv-loop loaded kinds parameters variables nexts guards values marks history n cells count transition₀ transition =
     ((d : Loaded loaded kinds parameters variables nexts guards)
     → fromOn (meaning d) (take (length variables) values) (length guards) 0 ≡ fromOn (meaning d) (take (length variables) values) (length guards) transition)
     × (transition ≤ length guards)
 
 abbrev μ-loop : tie.MeasureT-loop
-μ-loop loaded kinds parameters variables nexts guards values marks history n count cells transition₀ transition = length guards - transition
+μ-loop loaded kinds parameters variables nexts guards values marks history n cells count transition₀ transition = length guards - transition
 
 returns : tie.Need-returns Inv-loop μ-loop
 unfolding seen
@@ -55,27 +54,20 @@ returns-3 c =
 slice-aggregate-overwrite : tie.Need-slice-aggregate-overwrite Inv-loop μ-loop
 slice-aggregate-overwrite c = sym (length-take-le (length (c .before .before .before .before .before .before .before .before .before .before .args .variables .now)) (c .before .before .before .before .before .before .before .before .before .before .args .values .now) (c .before .before .before .before .if1 .left))
 
-slice-aggregate-overwrite-2 : tie.Need-slice-aggregate-overwrite-2 Inv-loop μ-loop
-slice-aggregate-overwrite-2 c = search needs
-
 overwrite-requires : tie.Need-overwrite-requires Inv-loop μ-loop
-overwrite-requires c κs = omega (arith, length-take (length (c .before .before .before .before .before .before .before .before .before .before .before .args .variables .now)) (c .before .before .before .before .before .before .before .before .before .before .before .args .values .now), few-rows (c .before .before .before .before .before .before .before .before .before .before .before .pre))
+overwrite-requires c κs = omega (arith, length-take (length (c .before .before .before .before .before .before .before .before .before .before .before .args .variables .now)) (c .before .before .before .before .before .before .before .before .before .before .before .args .values .now), c .before .before .before .before .before .before .before .before .before .before .before .pre .1)
 
 loop-holds : tie.Need-loop-holds Inv-loop μ-loop
 loop-holds c = (λ d. refl, omega arith)
 
-array-share-prefix-cells : tie.Need-array-share-prefix-cells Inv-loop μ-loop
-array-share-prefix-cells c =
-    part-within (length (c .before .before .before .before .before .before .before .before .before .before .before .before .before .before .before .args .variables .now)) _ (cells-part (c .before .before .before .before .before .before .before .before .before .before .before .before .before .before .before .pre) (c .before .before .before .before .before .before .before .before .before .before .before .before .before .before .before .args .values .now) (c .before .before .before .before .before .before .before .before .before .if1 .left) _ _ (c .before .before .before .overwrite .ensures .0))
-
-slice-aggregate-guard : tie.Need-slice-aggregate-guard Inv-loop μ-loop
-slice-aggregate-guard c = cells-part (c .before .before .before .before .before .before .before .before .before .before .before .before .before .before .before .before .pre) (c .before .before .before .before .before .before .before .before .before .before .before .before .before .before .before .before .args .values .now) (c .before .before .before .before .before .before .before .before .before .before .if1 .left) _ _ (c .before .before .before .before .overwrite .ensures .0)
-
 guard-requires : tie.Need-guard-requires Inv-loop μ-loop
-guard-requires c κs = c .before .before .before .before .before .before .before .before .before .before .before .before .before .before .before .before .pre
+guard-requires c κs = c .before .before .before .before .before .before .before .before .before .before .before .before .before .before .before .before .pre .0
 
 mark-of-requires : tie.Need-mark-of-requires Inv-loop μ-loop
 mark-of-requires c κs = tt
+
+same-length : tie.Need-same-length Inv-loop μ-loop
+same-length c = search needs
 
 returns-4 : tie.Need-returns-4 Inv-loop μ-loop
 unfolding seen found
@@ -87,13 +79,13 @@ returns-4 c =
     pick-done (meaning d) r (enough-values d (a .values .now) (c .before .before .before .before .before .before .before .before .before .before .before .before .before .if1 .left)) (from-transitions d _ (c .before .before .before .before .before .before .before .before .before .before .before .before .if2 .left))
     (held d r (c .before .before .before .before .before .before .before .before .before .before .before .holds .result) (c .before .before .before .before .before .before .before .before .before .before .before .holds .ensures) (c .before .before .before .before .before .before .before .before .before .before .if3 .left)) (some (loop .transition))
     (found-here (meaning d) (take (length (a .variables .now)) (a .values .now)) (length (a .guards .now)) (loop .transition) (c .before .mark-of .result)
-    (guard-marked d (a .values .now) (c .before .before .before .before .before .before .before .before .before .before .before .before .before .if1 .left) _ _ (c .before .before .before .before .before .before .before .overwrite .ensures .0) (c .before .before .before .before .before .before .before .overwrite .ensures .1)
+    (guard-held d (a .values .now) (c .before .before .before .before .before .before .before .before .before .before .before .before .before .if1 .left) _ _ (c .before .before .before .before .before .before .before .overwrite .ensures .0) (c .before .before .before .before .before .before .before .overwrite .ensures .1) (c .before .before .before .before .before .before .before .overwrite .kept .1 .0 ∙ c .before .before .before .before .before .before .before .before .before .before .before .before .before .before .before .before .before .before .before .pre .1)
     (loop .transition) (c .before .before .guard .result) (c .before .before .guard .ensures d) (c .before .mark-of .result) (c .before .mark-of .ensures))
     (loop .inv .0 d) (c .before .before .before .before .loop-test .taken) (c .if4 .taken)
     ∙ all-marks (meaning d) (a .values .now) (length (a .variables .now)) (length (a .guards .now)) (rows-count d) (guards-count d))
 
 add-transition : tie.Need-add-transition Inv-loop μ-loop
-add-transition c = omega (arith, c .before .before .before .before .loop-test .taken, few-guards (c .before .before .before .before .before .before .before .before .before .before .before .before .before .before .before .before .before .before .before .pre))
+add-transition c = omega (arith, c .before .before .before .before .loop-test .taken, few-guards (c .before .before .before .before .before .before .before .before .before .before .before .before .before .before .before .before .before .before .before .pre .0))
 
 loop-less : tie.Need-loop-less Inv-loop μ-loop
 loop-less c = omega (arith, c .before .before .before .before .loop-test .taken)
@@ -104,11 +96,14 @@ loop-again c =
     let loop = c .before .before .before .before .before .loop in (
       λ d.
           go-on (meaning d) (take (length (a .variables .now)) (a .values .now)) (length (a .guards .now)) (loop .transition) (c .before .mark-of .result)
-          (guard-marked d (a .values .now) (c .before .before .before .before .before .before .before .before .before .before .before .before .before .if1 .left) _ _ (c .before .before .before .before .before .before .before .overwrite .ensures .0) (c .before .before .before .before .before .before .before .overwrite .ensures .1)
+          (guard-held d (a .values .now) (c .before .before .before .before .before .before .before .before .before .before .before .before .before .if1 .left) _ _ (c .before .before .before .before .before .before .before .overwrite .ensures .0) (c .before .before .before .before .before .before .before .overwrite .ensures .1) (c .before .before .before .before .before .before .before .overwrite .kept .1 .0 ∙ c .before .before .before .before .before .before .before .before .before .before .before .before .before .before .before .before .before .before .before .pre .1)
           (loop .transition) (c .before .before .guard .result) (c .before .before .guard .ensures d) (c .before .mark-of .result) (c .before .mark-of .ensures))
           (loop .inv .0 d) (c .before .before .before .before .loop-test .taken) (c .if4 .left),
       omega (arith, c .before .before .before .before .loop-test .taken),
     )
+
+same-length-2 : tie.Need-same-length-2 Inv-loop μ-loop
+same-length-2 c = search needs
 
 returns-5 : tie.Need-returns-5 Inv-loop μ-loop
 unfolding seen found
@@ -133,15 +128,14 @@ pick-loaded-spec =
     holds-requires
     returns-3
     slice-aggregate-overwrite
-    slice-aggregate-overwrite-2
     overwrite-requires
     loop-holds
-    array-share-prefix-cells
-    slice-aggregate-guard
     guard-requires
     mark-of-requires
+    same-length
     returns-4
     add-transition
     loop-less
     loop-again
+    same-length-2
     returns-5)

@@ -1,61 +1,78 @@
 -- An action over the values of all variables.
 use borrow.Author.Needs.{needs}
-use mathlib.Core.Path.{refl, sym}
+use mathlib.Core.Path.{_∙_}
 use native.Mathlib.Omega.{arith}
-use Rattle.propagation.proofs.Acting.{may-act, few-states, action-faulty, action-clear}
+use Rattle.propagation.proofs.Blanks.{room-for-all, length-given, length-queue, length-waits, nothing-waits, blank-gathering}
+use Rattle.propagation.proofs.Acting.{may-act, few-rows, few-states, acted-by}
 use Rattle.propagation.proofs.act.Statement.{statement}
 use Rattle.propagation.proofs.act.Tie as tie
 
-slice-aggregate-gather : tie.Need-slice-aggregate-gather
-slice-aggregate-gather c = refl
+nothing-found-requires : tie.Need-nothing-found-requires
+nothing-found-requires c κs = search needs
 
 gather-requires : tie.Need-gather-requires
-gather-requires c κs = may-act (c .before .before .before .pre)
+gather-requires c κs =
+    let s = c .before .before .before .before .before .before .before .before in
+    let long = length-given (s .pre .1) in (
+      may-act (s .pre .0) (s .args .given .now) long,
+      length-waits (s .pre .1),
+      omega (arith, few-rows (s .pre .0)),
+      room-for-all (s .args .given .now) (s .args .queue .now) (omega (arith, long, length-queue (s .pre .1))),
+      nothing-waits (s .pre .1),
+    )
 
-fault-in-requires : tie.Need-fault-in-requires
-fault-in-requires c κs = tt
+change-requires : tie.Need-change-requires
+change-requires c κs =
+    let s = c .before .before .before .before .before .before .before .before .before .before .before .before .before .before .before .before .before in
+    let g = c .before .before .before .before .before .before .before .before in
+    omega (arith, few-states (s .pre .0), g .gather .kept .1 .1 .1 .1 .1 .0, length-given (s .pre .1))
 
-enum-known-fault : tie.Need-enum-known-fault
-enum-known-fault c = c .match .keys1
+forget-requires : tie.Need-forget-requires
+forget-requires c κs = search needs
 
-enum-told : tie.Need-enum-told
-enum-told c = c .match .keys2
+set-all-requires : tie.Need-set-all-requires
+set-all-requires c κs = search needs
 
-slice-aggregate-replace : tie.Need-slice-aggregate-replace
-slice-aggregate-replace c = sym (c .before .before .before .before .before .gather .kept .1 .1 .1 .1 .1 .0)
-
-replace-requires : tie.Need-replace-requires
-replace-requires c κs =
-    let after-gather = c .before .before .before .before .before .before in
-    let start = c .before .before .before .before .before .before .before .before .before .before in
-    omega (arith, few-states (start .pre), after-gather .gather .kept .1 .1 .1 .1 .1 .0)
-
-returns : tie.Need-returns
-returns c =
-    let after-fault-in = c .before .before .before in
-    let after-gather = c .before .before .before .before .before in
-    λ a. action-faulty a (after-gather .gather .result) (after-gather .gather .last .1 .1 .1 .1 .1 .0) (after-gather .gather .kept .1 .1 .1 .1 .1 .0) (after-gather .gather .ensures) (after-fault-in .fault-in .result) (after-fault-in .fault-in .ensures) _ (c .before .fault .given .1)
+set-all-requires-2 : tie.Need-set-all-requires-2
+set-all-requires-2 c κs = search needs
 
 same-length : tie.Need-same-length
 same-length c = search needs
 
-returns-2 : tie.Need-returns-2
-returns-2 c =
-    let after-fault-in = c .before .before .before .before .before .before in
-    let after-gather = c .before .before .before .before .before .before .before .before in
-    λ a. action-clear a (after-gather .gather .result) (after-gather .gather .last .1 .1 .1 .1 .1 .0) (after-gather .gather .kept .1 .1 .1 .1 .1 .0) (after-gather .gather .ensures) (after-fault-in .fault-in .result) (after-fault-in .fault-in .ensures) _ (c .before .replace .ensures) (c .before .before .before .before .enum-told .given .1)
+same-length-2 : tie.Need-same-length-2
+same-length-2 c = search needs
+
+same-length-3 : tie.Need-same-length-3
+same-length-3 c = search needs
+
+same-length-4 : tie.Need-same-length-4
+same-length-4 c = search needs
+
+returns : tie.Need-returns
+returns c =
+    let s = c .before .before .before .before .before .before .before .before .before .before .before .before .before .before .before .before .before .before .before .before .before .before .before .before .before .before .before .before .before .before in
+    let n = c .before .before .before .before .before .before .before .before .before .before .before .before .before .before .before .before .before .before .before .before .before .before .before .before .before in
+    let g = c .before .before .before .before .before .before .before .before .before .before .before .before .before .before .before .before .before .before .before .before .before in
+    let h = c .before .before .before .before .before .before .before .before .before .before .before .before in
+    let f = c .before .before .before .before .before .before .before .before .before in
+    let q = c .before .before .before .before .before .before in
+    let w = c .before .before in (
+      λ a. h .change .ensures ∙ acted-by a (n .nothing-found .result) (n .nothing-found .ensures) (s .args .given .now) (s .pre .1 .nothingGiven) (s .args .queue .now) (s .args .waits .now) (g .gather .result .found) (g .gather .last .1 .1 .1 .1 .1 .0) (g .gather .result .queued) (g .gather .last .1 .1 .1 .1 .1 .1 .0) (g .gather .last .1 .1 .1 .1 .1 .1 .1 .0) (g .gather .ensures .0) (g .gather .kept .1 .1 .1 .1 .1 .0 ∙ length-given (s .pre .1)),
+      blank-gathering (s .pre .1) (g .gather .last .1 .1 .1 .1 .1 .0) (f .forget .last .0) (g .gather .last .1 .1 .1 .1 .1 .1 .0) (q .set-all .last .1 .0) (g .gather .last .1 .1 .1 .1 .1 .1 .1 .0) (w .set-all2 .last .1 .0) (g .gather .kept .1 .1 .1 .1 .1 .0) (g .gather .kept .1 .1 .1 .1 .1 .1 .0) (g .gather .kept .1 .1 .1 .1 .1 .1 .1 .0) (f .forget .ensures) (q .set-all .ensures) (w .set-all2 .ensures),
+    )
 
 pub act-spec : {M : Type 1} → statement M
 act-spec =
     tie.close
     (tie.spec
-    slice-aggregate-gather
+    nothing-found-requires
     gather-requires
-    fault-in-requires
-    enum-known-fault
-    enum-told
-    slice-aggregate-replace
-    replace-requires
-    returns
+    change-requires
+    forget-requires
+    set-all-requires
+    set-all-requires-2
     same-length
-    returns-2)
+    same-length-2
+    same-length-3
+    same-length-4
+    returns)

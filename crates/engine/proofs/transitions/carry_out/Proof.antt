@@ -1,86 +1,108 @@
 -- An action, then the assertion.
-use borrow.Author.Needs.{needs}
-use Rattle.engine.proofs.Carrying.{states-within, length-states, few-states, length-old, action-stands, new-within, length-taken, propagation-stands, room-for-all, carried-faulty, carried-clear}
+use mathlib.Core.Path.{_∙_}
+use Rattle.engine.proofs.Carrying.{states-within, length-states, few-states, length-old, action-stands, old-within, new-within, length-taken, length-joined, propagation-stands, room-for-all, cells-blank, carried, states-blank}
 use Rattle.engine.proofs.transitions.carry_out.Statement.{statement}
 use Rattle.engine.proofs.transitions.carry_out.Tie as tie
 
 slice-reshare-prefix-store : tie.Need-slice-reshare-prefix-store
-slice-reshare-prefix-store c = states-within (c .before .before .pre)
+slice-reshare-prefix-store c = states-within (c .before .before .before .before .before .before .pre .0)
 
 slice-aggregate-store : tie.Need-slice-aggregate-store
-slice-aggregate-store c = length-states (c .before .before .before .pre)
-
-slice-aggregate-store-2 : tie.Need-slice-aggregate-store-2
-slice-aggregate-store-2 c = search needs
+slice-aggregate-store c = length-states (c .before .before .before .before .before .before .before .pre .0)
 
 store-requires : tie.Need-store-requires
-store-requires c κs = few-states (c .before .before .before .before .pre)
+store-requires c κs =
+    let start = c .before .before .before .before .before .before .before .before in
+    few-states (start .pre .0) (start .args .states .now) (start .pre .2)
 
-array-borrow-prefix-states : tie.Need-array-borrow-prefix-states
-array-borrow-prefix-states c = search needs
+slice-relend-prefix-act : tie.Need-slice-relend-prefix-act
+slice-relend-prefix-act c =
+    let after-store = c .before .before .before .before .before in
+    let start = c .before .before .before .before .before .before .before .before .before .before .before .before .before .before in
+    old-within (start .pre .0) (start .args .states .now) (start .pre .2) (after-store .store .last .1 .0) (after-store .store .ensures)
 
 slice-aggregate-act : tie.Need-slice-aggregate-act
 slice-aggregate-act c =
-    let after-store = c .before .before in
-    let start = c .before .before .before .before .before .before .before in
-    length-old (start .pre) (after-store .store .last .1 .0) (after-store .store .ensures)
+    let after-store = c .before .before .before .before .before .before in
+    let start = c .before .before .before .before .before .before .before .before .before .before .before .before .before .before .before in
+    length-old (start .pre .0) (start .args .states .now) (start .pre .2) (after-store .store .last .1 .0) (after-store .store .ensures)
 
 act-requires : tie.Need-act-requires
 act-requires c κs =
-    let after-store = c .before .before in
-    let start = c .before .before .before .before .before .before .before in
-    action-stands (start .pre) (after-store .store .last .1 .0) (after-store .store .ensures)
-
-enum-known-fault : tie.Need-enum-known-fault
-enum-known-fault c = search needs
-
-enum-told : tie.Need-enum-told
-enum-told c = search needs
-
-array-share-prefix-states : tie.Need-array-share-prefix-states
-array-share-prefix-states c =
-    let after-act = c .before .before .before in
     let after-store = c .before .before .before .before .before .before in
-    let start = c .before .before .before .before .before .before .before .before .before .before .before in
-    new-within (start .pre) (after-store .store .last .1 .0) (after-store .store .ensures) (after-act .act .last .1 .1 .1 .1 .1 .1 .0) (after-act .act .kept .1 .1 .1 .1 .1 .1 .0)
+    let start = c .before .before .before .before .before .before .before .before .before .before .before .before .before .before .before in
+    (action-stands (start .pre .0) (start .args .states .now) (start .pre .2) (after-store .store .last .1 .0) (after-store .store .ensures), start .pre .3)
 
-slice-aggregate-enter : tie.Need-slice-aggregate-enter
-slice-aggregate-enter c =
-    let after-act = c .before .before .before .before in
-    let after-store = c .before .before .before .before .before .before .before in
-    let start = c .before .before .before .before .before .before .before .before .before .before .before .before in
-    length-taken (start .pre) (after-store .store .last .1 .0) (after-store .store .ensures) (after-act .act .last .1 .1 .1 .1 .1 .1 .0) (after-act .act .kept .1 .1 .1 .1 .1 .1 .0)
+forget-requires : tie.Need-forget-requires
+forget-requires c κs = tt
 
-enter-requires : tie.Need-enter-requires
-enter-requires c κs =
-    let after-act = c .before .before .before .before .before in
-    let after-store = c .before .before .before .before .before .before .before .before in
-    let start = c .before .before .before .before .before .before .before .before .before .before .before .before .before in (
-      propagation-stands (start .pre) (after-store .store .last .1 .0) (after-store .store .ensures) (after-act .act .last .1 .1 .1 .1 .1 .1 .0) (after-act .act .kept .1 .1 .1 .1 .1 .1 .0),
-      room-for-all (start .pre) (after-store .store .last .1 .0) (after-store .store .ensures) (after-act .act .last .1 .1 .1 .1 .1 .1 .0) (after-act .act .kept .1 .1 .1 .1 .1 .1 .0),
+slice-reshare-prefix-enter-after : tie.Need-slice-reshare-prefix-enter-after
+slice-reshare-prefix-enter-after c =
+    let after-act = c .before .before .before .before .before .before .before .before .before in
+    let after-store = c .before .before .before .before .before .before .before .before .before .before .before .before .before .before .before .before in
+    let start = c .before .before .before .before .before .before .before .before .before .before .before .before .before .before .before .before .before .before .before .before .before .before .before .before .before in
+    new-within (start .pre .0) (start .args .states .now) (start .pre .2) (after-store .store .last .1 .0) (after-store .store .ensures) (after-act .act .last .1 .1 .1 .1 .1 .1 .1 .1 .1 .0) (after-act .act .kept .1 .1 .1 .1 .1 .1 .1 .1 .1 .0)
+
+slice-aggregate-enter-after : tie.Need-slice-aggregate-enter-after
+slice-aggregate-enter-after c =
+    let after-act = c .before .before .before .before .before .before .before .before .before .before in
+    let after-store = c .before .before .before .before .before .before .before .before .before .before .before .before .before .before .before .before .before in
+    let start = c .before .before .before .before .before .before .before .before .before .before .before .before .before .before .before .before .before .before .before .before .before .before .before .before .before .before in
+    length-taken (start .pre .0) (start .args .states .now) (start .pre .2) (after-store .store .last .1 .0) (after-store .store .ensures) (after-act .act .last .1 .1 .1 .1 .1 .1 .1 .1 .1 .0) (after-act .act .kept .1 .1 .1 .1 .1 .1 .1 .1 .1 .0)
+
+enter-after-requires : tie.Need-enter-after-requires
+enter-after-requires c κs =
+    let after-forget = c .before .before .before .before .before .before .before in
+    let after-act = c .before .before .before .before .before .before .before .before .before .before .before .before .before .before .before in
+    let after-store = c .before .before .before .before .before .before .before .before .before .before .before .before .before .before .before .before .before .before .before .before .before .before in
+    let start = c .before .before .before .before .before .before .before .before .before .before .before .before .before .before .before .before .before .before .before .before .before .before .before .before .before .before .before .before .before .before .before in (
+      propagation-stands (start .pre .0) (start .args .states .now) (start .pre .2) (after-store .store .last .1 .0) (after-store .store .ensures) (after-act .act .last .1 .1 .1 .1 .1 .1 .1 .1 .1 .0) (after-act .act .kept .1 .1 .1 .1 .1 .1 .1 .1 .1 .0),
+      room-for-all (start .pre .0),
+      start .pre .1,
+      record { nothingKnown = cells-blank (start .pre .0) _ (after-forget .forget .ensures); gathering = after-act .act .ensures .1 },
     )
 
+clear-requires : tie.Need-clear-requires
+clear-requires c κs = tt
+
 same-length : tie.Need-same-length
-same-length c = search needs
+same-length c =
+    let after-act = c .before .before .before .before .before .before .before .before .before .before .before .before .before .before .before .before .before .before .before .before .before .before .before .before .before .before in
+    let after-store = c .before .before .before .before .before .before .before .before .before .before .before .before .before .before .before .before .before .before .before .before .before .before .before .before .before .before .before .before .before .before .before .before .before in
+    let start = c .before .before .before .before .before .before .before .before .before .before .before .before .before .before .before .before .before .before .before .before .before .before .before .before .before .before .before .before .before .before .before .before .before .before .before .before .before .before .before .before .before .before in
+    c .before .clear .kept .0 ∙ length-joined (start .pre .0) (start .args .states .now) (start .pre .2) (after-store .store .last .1 .0) (after-store .store .ensures) (after-act .act .last .1 .1 .1 .1 .1 .1 .1 .1 .1 .0) (after-act .act .kept .1 .1 .1 .1 .1 .1 .1 .1 .1 .0)
+
+same-length-2 : tie.Need-same-length-2
+same-length-2 c = c .before .before .before .before .before .before .before .before .before .before .enter-after .kept .1 .1 .1 .1 .1 .1 .1 .1 .1 .0 ∙ c .before .before .before .before .before .before .before .before .before .before .before .before .before .before .before .before .before .before .forget .kept .0
+
+same-length-3 : tie.Need-same-length-3
+same-length-3 c = c .before .before .before .before .before .before .before .before .before .before .enter-after .kept .1 .1 .1 .1 .1 .1 .1 .1 .1 .1 .0 ∙ c .before .before .before .before .before .before .before .before .before .before .before .before .before .before .before .before .before .before .before .before .before .before .before .before .before .before .act .kept .1 .1 .1 .1 .1 .0
+
+same-length-4 : tie.Need-same-length-4
+same-length-4 c = c .before .before .before .before .before .before .before .before .before .before .enter-after .kept .1 .1 .1 .1 .1 .1 .1 .1 .1 .1 .1 .0 ∙ c .before .before .before .before .before .before .before .before .before .before .before .before .before .before .before .before .before .before .before .before .before .before .before .before .before .before .act .kept .1 .1 .1 .1 .1 .1 .0
+
+same-length-5 : tie.Need-same-length-5
+same-length-5 c = c .before .before .before .before .before .before .before .before .before .before .enter-after .kept .1 .1 .1 .1 .1 .1 .1 .1 .1 .1 .1 .1 .0 ∙ c .before .before .before .before .before .before .before .before .before .before .before .before .before .before .before .before .before .before .before .before .before .before .before .before .before .before .act .kept .1 .1 .1 .1 .1 .1 .1 .0
+
+same-length-6 : tie.Need-same-length-6
+same-length-6 c = c .before .before .before .before .before .before .before .before .before .before .enter-after .kept .1 .1 .1 .1 .1 .1 .1 .1 .1 .1 .1 .1 .1 .0
 
 returns : tie.Need-returns
 returns c =
-    let after-act = c .before .before .before .before in
-    let after-store = c .before .before .before .before .before .before .before in
-    λ t.
-    carried-faulty t (after-store .store .last .1 .0) (after-store .store .ensures) (after-act .act .last .1 .1 .1 .1 .1 .1 .0) (after-act .act .kept .1 .1 .1 .1 .1 .1 .0) (after-act .act .result)
-    (after-act .act .ensures (action-stands t (after-store .store .last .1 .0) (after-store .store .ensures))) _ (c .before .fault .given .1)
-
-same-length-2 : tie.Need-same-length-2
-same-length-2 c = search needs
-
-returns-2 : tie.Need-returns-2
-returns-2 c =
-    let after-act = c .before .before .before .before .before .before .before in
-    let after-store = c .before .before .before .before .before .before .before .before .before .before in
-    λ t.
-    carried-clear t (after-store .store .last .1 .0) (after-store .store .ensures) (after-act .act .last .1 .1 .1 .1 .1 .1 .0) (after-act .act .kept .1 .1 .1 .1 .1 .1 .0) (after-act .act .result)
-    (after-act .act .ensures (action-stands t (after-store .store .last .1 .0) (after-store .store .ensures))) (c .before .before .before .before .enum-told .given .1) _ (c .before .enter .ensures (propagation-stands t (after-store .store .last .1 .0) (after-store .store .ensures) (after-act .act .last .1 .1 .1 .1 .1 .1 .0) (after-act .act .kept .1 .1 .1 .1 .1 .1 .0)))
+    let after-enter = c .before .before .before .before .before .before .before .before .before .before in
+    let after-act = c .before .before .before .before .before .before .before .before .before .before .before .before .before .before .before .before .before .before .before .before .before .before .before .before .before .before in
+    let after-store = c .before .before .before .before .before .before .before .before .before .before .before .before .before .before .before .before .before .before .before .before .before .before .before .before .before .before .before .before .before .before .before .before .before in
+    let start = c .before .before .before .before .before .before .before .before .before .before .before .before .before .before .before .before .before .before .before .before .before .before .before .before .before .before .before .before .before .before .before .before .before .before .before .before .before .before .before .before .before .before in (
+      λ t.
+          carried t (start .args .states .now) (start .pre .2) (after-store .store .last .1 .0) (after-store .store .ensures) (after-act .act .last .1 .1 .1 .1 .1 .1 .1 .1 .1 .0) (after-act .act .kept .1 .1 .1 .1 .1 .1 .1 .1 .1 .0) (after-act .act .result)
+          (after-act .act .ensures .0 (action-stands t (start .args .states .now) (start .pre .2) (after-store .store .last .1 .0) (after-store .store .ensures)))
+          (after-enter .enter-after .result) (after-enter .enter-after .last .1 .1 .1 .1 .1 .1 .1 .1 .1 .1 .1 .1 .1 .0)
+          (after-enter .enter-after .ensures .0 (propagation-stands t (start .args .states .now) (start .pre .2) (after-store .store .last .1 .0) (after-store .store .ensures) (after-act .act .last .1 .1 .1 .1 .1 .1 .1 .1 .1 .0) (after-act .act .kept .1 .1 .1 .1 .1 .1 .1 .1 .1 .0))),
+      record {
+        zeros = states-blank (start .pre .0) (start .args .states .now) (start .pre .2) (after-store .store .last .1 .0) (after-store .store .ensures) (after-act .act .last .1 .1 .1 .1 .1 .1 .1 .1 .1 .0) (after-act .act .kept .1 .1 .1 .1 .1 .1 .1 .1 .1 .0) _ (c .before .clear .ensures);
+        valuation = after-enter .enter-after .ensures .1;
+      },
+    )
 
 pub carry-out-spec : {M : Type 1} → statement M
 carry-out-spec =
@@ -88,17 +110,19 @@ carry-out-spec =
     (tie.spec
     slice-reshare-prefix-store
     slice-aggregate-store
-    slice-aggregate-store-2
     store-requires
-    array-borrow-prefix-states
+    slice-relend-prefix-act
     slice-aggregate-act
     act-requires
-    enum-known-fault
-    enum-told
-    array-share-prefix-states
-    slice-aggregate-enter
-    enter-requires
+    forget-requires
+    slice-reshare-prefix-enter-after
+    slice-aggregate-enter-after
+    enter-after-requires
+    clear-requires
     same-length
-    returns
     same-length-2
-    returns-2)
+    same-length-3
+    same-length-4
+    same-length-5
+    same-length-6
+    returns)

@@ -17,10 +17,12 @@ is-fired-requires c κs = search needs
 
 returns : tie.Need-returns
 returns c =
-    let start = c .before .before .before .before .before .before .before in
-    λ d.
-    concluded (start .args .firing) (start .args .marks .now) (marksOver (meaning d) (start .args .values .now) (start .args .marks .now))
-    (seen (c .before .before .answer-of .result)) (c .before .before .answer-of .ensures) (sym (c .before .is-fired .ensures) ∙ not-true (c .before .is-fired .result) (c .if1 .taken)) refl
+    let a = c .before .before .before .before .before .before .before .args in (
+      λ d.
+          concluded (a .firing) (a .marks .now) (marksOver (meaning d) (a .values .now) (a .marks .now))
+          (seen (c .before .before .answer-of .result)) (c .before .before .answer-of .ensures) (sym (c .before .is-fired .ensures) ∙ not-true (c .before .is-fired .result) (c .if1 .taken)) refl,
+      refl,
+    )
 
 refresh-requires : tie.Need-refresh-requires
 refresh-requires c κs = search needs
@@ -28,14 +30,26 @@ refresh-requires c κs = search needs
 same-length : tie.Need-same-length
 same-length c = search needs
 
+same-length-2 : tie.Need-same-length-2
+same-length-2 c = search needs
+
 returns-2 : tie.Need-returns-2
 returns-2 c =
-    let start = c .before .before .before .before .before .before .before .before .before .before .before in
-    λ d.
-    concluded (start .args .firing) (start .args .marks .now) (marksOver (meaning d) (start .args .values .now) (start .args .marks .now))
-    (seen (c .before .before .before .before .before .before .answer-of .result)) (c .before .before .before .before .before .before .answer-of .ensures) (sym (c .before .before .before .before .before .is-fired .ensures) ∙ not-false (c .before .before .before .before .before .is-fired .result) (c .before .before .before .before .if1 .left)) (c .before .before .refresh .ensures d)
+    let a = c .before .before .before .before .before .before .before .before .before .before .before .before .before .args in (
+      λ d.
+          concluded (a .firing) (a .marks .now) (marksOver (meaning d) (a .values .now) (a .marks .now))
+          (seen (c .before .before .before .before .before .before .before .before .answer-of .result)) (c .before .before .before .before .before .before .before .before .answer-of .ensures) (sym (c .before .before .before .before .before .before .before .is-fired .ensures) ∙ not-false (c .before .before .before .before .before .before .before .is-fired .result) (c .before .before .before .before .before .before .if1 .left)) (c .before .before .before .refresh .ensures .0 d),
+      c .before .before .before .refresh .ensures .1,
+    )
 
 pub conclude-spec : {M : Type 1} → statement M
 conclude-spec =
     tie.close
-    (tie.spec answer-of-requires is-fired-requires returns refresh-requires same-length returns-2)
+    (tie.spec
+    answer-of-requires
+    is-fired-requires
+    returns
+    refresh-requires
+    same-length
+    same-length-2
+    returns-2)

@@ -1,0 +1,3 @@
+-- Proofs of crate `indexing`: what the functions are proved by.
+pub mod Linking
+pub mod Owning

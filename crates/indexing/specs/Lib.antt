@@ -1,0 +1,1 @@
+-- Definitions of crate `indexing`: none.

@@ -1,0 +1,5 @@
+-- Proofs of crate `reading`: what the functions are proved by.
+mod Marking
+mod Giving
+mod Walking
+mod Reading

@@ -1,0 +1,5 @@
+-- Definitions of crate `replaying`.
+-- 01's own:
+pub mod Replays
+-- how the code goes about it:
+pub mod Outcomes

@@ -1,0 +1,2 @@
+-- Proofs of crate `scratch`: what the functions are proved by.
+pub mod Filling

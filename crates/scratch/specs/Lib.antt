@@ -1,0 +1,2 @@
+-- Definitions of crate `scratch`.
+pub mod Blank
