@@ -1,81 +1,20 @@
-// Start, fire and undo on a model file: checked, decoded and indexed in cells that are declared here and lent on.
+// Start, fire and undo on a model file, checked and loaded in cells that are declared here and lent on.
 
 ghost use mathlib.Core.Path.{_≡_};
 ghost use Prim.Native.Nat.{_+_, _≤_};
-ghost use lib.IntN.{pos};
-ghost use lib.ListN.{length, replicate};
-ghost use Rattle.scratch.specs.Blank.{BlankFiring};
 ghost use Rattle.model.specs.declared.Checked.the-variants.{Accepted};
 ghost use Rattle.model.specs.Check.{verdict, answerOf};
 ghost use Rattle.standing.specs.Runs.{run, answered};
 ghost use Rattle.steps.specs.Calls.{stepOn};
 ghost use Rattle.steps.specs.Lent.{cellsLeft};
 ghost use Rattle.steps.specs.Answers.{seen, onFile};
-ghost use Rattle.advancing.specs.Lending.{Lent};
 use model::Checked;
 use model::Model;
 use model::Sizes;
 use model::check;
+use replaying::Move;
 use scratch::Blank;
 use steps::Answer;
-use steps::Move;
-use steps::moves;
-
-// Decodes an accepted model into cells that are as many as it needs, finds its index, and makes the move.
-fn advance_in(
-    model: &[u8],
-    sizes: Sizes,
-    parameters: &mut [i32],
-    sorts: &mut [u8],
-    variables: &mut [[i32; 3]],
-    nexts: &mut [u16],
-    guards: &mut [u16],
-    heads: &mut [u16],
-    links: &mut [u16],
-    states: &mut [i32],
-    cells: &mut [i64],
-    given: &mut [i64],
-    queue: &mut [u16],
-    waits: &mut [u16],
-    copy: &mut [i32],
-    values: &mut [i32],
-    marks: &mut [u8],
-    history: &[u8],
-    n: usize,
-    step: Move,
-) -> Answer
-    requires { ⌜ (answerOf (verdict (now model)) ≡ Accepted sizes)
-        × Lent sizes (length (now parameters)) (length (now sorts)) (length (now variables)) (length (now nexts)) (length (now guards)) (length (now heads)) (length (now links))
-        × BlankFiring (sizes .states + sizes .flows) (sizes .nodes) (now states) (now cells) (now given) (now queue) (now waits)
-        × (now copy ≡ replicate (sizes .states + sizes .flows) (pos 0)) ⌝ }
-    ensures { λ r. ⌜ answered (seen r) (now (values .exit), now (marks .exit))
-        ≡ cellsLeft (onFile (verdict (now (model .entry))) (λ m. stepOn m step (run (now (values .entry)) (now (marks .entry)) (now (history .entry)) n)) (run (now (values .entry)) (now (marks .entry)) (now (history .entry)) n)) ⌝ }
-{
-    let assertion = decoding::decode(model, sizes, parameters, sorts, variables, nexts, guards);
-    let kinds = decoding::kinds_of(model, sizes.nodes);
-    indexing::index(kinds, parameters, assertion, heads, links);
-    moves::dispatch(
-        Model { sizes, assertion },
-        kinds,
-        parameters,
-        variables,
-        nexts,
-        guards,
-        heads,
-        links,
-        states,
-        cells,
-        given,
-        queue,
-        waits,
-        copy,
-        values,
-        marks,
-        history,
-        n,
-        step,
-    )
-}
 
 // A move on a small model, with cells for one.
 fn advance_small(
@@ -92,7 +31,6 @@ fn advance_small(
         ≡ cellsLeft (onFile (verdict (now (model .entry))) (λ m. stepOn m step (run (now (values .entry)) (now (marks .entry)) (now (history .entry)) n)) (run (now (values .entry)) (now (marks .entry)) (now (history .entry)) n)) ⌝ }
 {
     let mut parameters = [0i32; Model::FEW_NODES];
-    let mut sorts = [0u8; Model::FEW_VARIABLES];
     let mut variables = [[0i32; 3]; Model::FEW_VARIABLES];
     let mut nexts = [0u16; Model::FEW_NODES];
     let mut guards = [0u16; Model::MAX_TRANSITIONS];
@@ -106,11 +44,10 @@ fn advance_small(
     let mut copy = [0i32; Model::FEW_VARIABLES];
     let nodes = sizes.nodes;
     let count = sizes.states + sizes.flows;
-    advance_in(
+    loading::advance_in(
         model,
         sizes,
         &mut parameters[..nodes],
-        &mut sorts[..count],
         &mut variables[..count],
         &mut nexts[..nodes],
         &mut guards[..sizes.transitions],
@@ -145,7 +82,6 @@ fn advance_large(
         ≡ cellsLeft (onFile (verdict (now (model .entry))) (λ m. stepOn m step (run (now (values .entry)) (now (marks .entry)) (now (history .entry)) n)) (run (now (values .entry)) (now (marks .entry)) (now (history .entry)) n)) ⌝ }
 {
     let mut parameters = [0i32; Model::MAX_NODES];
-    let mut sorts = [0u8; Model::MAX_VARIABLES];
     let mut variables = [[0i32; 3]; Model::MAX_VARIABLES];
     let mut nexts = [0u16; Model::MAX_NODES];
     let mut guards = [0u16; Model::MAX_TRANSITIONS];
@@ -159,11 +95,10 @@ fn advance_large(
     let mut copy = [0i32; Model::MAX_VARIABLES];
     let nodes = sizes.nodes;
     let count = sizes.states + sizes.flows;
-    advance_in(
+    loading::advance_in(
         model,
         sizes,
         &mut parameters[..nodes],
-        &mut sorts[..count],
         &mut variables[..count],
         &mut nexts[..nodes],
         &mut guards[..sizes.transitions],

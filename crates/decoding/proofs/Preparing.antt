@@ -12,7 +12,7 @@ use lib.ListN.{length, getD, take, drop, length-append}
 use lib.Seq.{take-at, drop-at, length-take-le}
 use Rattle.model.specs.declared.Sizes.{Sizes}
 use Rattle.model.specs.declared.Checked.the-variants as checked
-use Rattle.model.specs.Trees.{Variable, Transition, System, variables, sortsOf}
+use Rattle.model.specs.Trees.{Variable, Transition, System, variables}
 use Rattle.model.specs.Sizes.{byteLayout}
 use Rattle.model.specs.Check.{Verdict, verdict, answerOf, kindsIn, parametersIn, parametersAt}
 use Rattle.model.specs.Check.Verdict.{refusal, accepted}
@@ -78,9 +78,9 @@ variables-nexts-length (v ∷ vs) at =
     length-append (cond (eqb (v .sort) 1) ((at + 1) ∷ []) ((at + 1) ∷ (at + 2) ∷ (at + 3) ∷ [])) (nextsOfVariables vs (at + sizeOfVariable v))
     ∙ omega (arith, variable-nexts-length v at, variables-nexts-length vs (at + sizeOfVariable v))
 
-arrays-same : {a a′ : List ℤ} {b b′ : List ℕ} {c c′ : List (List ℤ)} {d d′ e e′ : List ℕ}
-    → a ≡ a′ → b ≡ b′ → c ≡ c′ → d ≡ d′ → e ≡ e′ → arrays a b c d e ≡ arrays a′ b′ c′ d′ e′
-arrays-same p q r s t = λ i. arrays (p i) (q i) (r i) (s i) (t i)
+arrays-same : {a a′ : List ℤ} {b b′ : List (List ℤ)} {c c′ d d′ : List ℕ}
+    → a ≡ a′ → b ≡ b′ → c ≡ c′ → d ≡ d′ → arrays a b c d ≡ arrays a′ b′ c′ d′
+arrays-same p q r s = λ i. arrays (p i) (q i) (r i) (s i)
 
 -- the parameters that were read stand in the first cells
 pub parameters-front : (m : List ℕ) (n : ℕ) (rest new : List ℤ) → new ≡ parametersIn byteLayout n m ++ rest → take n new ≡ parametersIn byteLayout n m
@@ -118,7 +118,6 @@ pub record Steps (m : List ℕ) (s : Sizes) (ks : List ℕ) (old new : Arrays) (
       → (place ≡ transitionsPlace t)
       × (new .parameters ≡ over (parametersIn byteLayout (s .nodes) m) (old .parameters))
       × (new .variables ≡ over (variableRows (variables t)) (old .variables))
-  pub sorts : (ps : List ℤ) (r : VariablesRead ks ps (s .states + s .flows)) → new .sorts ≡ over (sortsOf (r .variables)) (old .sorts)
   pub nexts : new .nexts ≡ filled ks (take (s .nodes) (new .parameters)) (length ks) (old .nexts)
   pub long : s .nodes ≤ length (old .nexts)
   pub guards : (ts : List Transition) (rest : List ℕ) → length ts ≡ s .transitions → drop place (new .nexts) ≡ nextsOfTransitions ts place ++ rest
@@ -159,13 +158,12 @@ module _ (m : List ℕ) (s : Sizes) (ks : List ℕ) (old new : Arrays) (place as
   pub steps-decoded : (assertion ≡ assertionPlace t) × (new ≡ decodedOver m s t old)
   unfolding decodedOver
   steps-decoded =
-      let read = variables-read m s ks fileParameters (h .kinds) refl t v in
       let d = h .declared t v in
       let g = subst (λ place. (ts : List Transition) (rest : List ℕ) → length ts ≡ s .transitions → drop place (new .nexts) ≡ nextsOfTransitions ts place ++ rest
       → (assertion ≡ place + sizeOfTransitions ts) × (new .guards ≡ over (guardPlaces ts place) (old .guards))) (d .0) (h .guards)
       (t .transitions) others (file .system .numberOfTransitions) entries in (
         g .0,
-        arrays-same (d .1) (h .sorts _ read) (d .2) table (g .1),
+        arrays-same (d .1) (d .2) table (g .1),
       )
 
 -- ---- the whole

@@ -107,30 +107,26 @@ pub record Decoded (m : List ℕ) (model : Model) (kinds : List ℕ) (parameters
   pub nextsDecoded : nexts ≡ nextsOfSystem system
   pub guardsDecoded : guards ≡ guardPlaces (system .transitions) (transitionsPlace system)
 
--- so many cells for parameters, sorts, rows of variables, next places and guards are enough for a model of these sizes, and the places
--- fit 16 bits
-abbrev pub Enough : Sizes → ℕ → ℕ → ℕ → ℕ → ℕ → Type 0
-Enough s parameters sorts rows nexts guards =
-    (s .nodes ≤ parameters) × (s .states + s .flows ≤ sorts) × (s .states + s .flows ≤ rows) × (s .nodes ≤ nexts) × (s .transitions ≤ guards)
-    × (nexts < 65536)
+-- so many cells for parameters, rows of variables, next places and guards are enough for a model of these sizes, and the places fit 16
+-- bits
+abbrev pub Enough : Sizes → ℕ → ℕ → ℕ → ℕ → Type 0
+Enough s parameters rows nexts guards =
+    (s .nodes ≤ parameters) × (s .states + s .flows ≤ rows) × (s .nodes ≤ nexts) × (s .transitions ≤ guards) × (nexts < 65536)
 
 -- the arrays that `prepare` is lent
 pub record Arrays : Type 0 where
   pub parameters : List ℤ
-  pub sorts : List ℕ
   pub variables : List (List ℤ)
   pub nexts : List ℕ
   pub guards : List ℕ
 
-abbrev pub arrays : List ℤ → List ℕ → List (List ℤ) → List ℕ → List ℕ → Arrays
-arrays parameters sorts rows nexts guards =
-    record { parameters = parameters; sorts = sorts; variables = rows; nexts = nexts; guards = guards }
+abbrev pub arrays : List ℤ → List (List ℤ) → List ℕ → List ℕ → Arrays
+arrays parameters rows nexts guards = record { parameters = parameters; variables = rows; nexts = nexts; guards = guards }
 
 -- the arrays after the decoding; cells past it stay
 unfoldable pub decodedOver : List ℕ → Sizes → System → Arrays → Arrays
 decodedOver m s t old =
     arrays (over (parametersIn byteLayout (s .nodes) m) (old .parameters))
-    (over (sortsOf (variables t)) (old .sorts))
     (over (variableRows (variables t)) (old .variables))
     (over (nextsOfSystem t) (old .nexts))
     (over (guardPlaces (t .transitions) (transitionsPlace t)) (old .guards))

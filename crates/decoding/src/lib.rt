@@ -39,7 +39,7 @@ pub enum Prepared {
 }
 
 // The sorts of so many variables from the first node on. A Boolean is one node, a number three.
-fn read_sorts(kinds: &[u8], count: usize, sorts: &mut [u8])
+pub fn sorts_in(kinds: &[u8], count: usize, sorts: &mut [u8])
     requires { ⌜ ((ps : List ℤ) × VariablesRead (now kinds) ps count) × (count ≤ length (now sorts)) ⌝ }
     ensures { λ _. ⌜ ((ps : List ℤ) (read : VariablesRead (now (kinds .entry)) ps count) →
         now (sorts .exit) ≡ over (sortsOf (read .variables)) (now (sorts .entry))) ⌝ }
@@ -181,47 +181,44 @@ pub fn decode(
     model: &[u8],
     sizes: Sizes,
     parameters: &mut [i32],
-    sorts: &mut [u8],
     variables: &mut [[i32; 3]],
     nexts: &mut [u16],
     guards: &mut [u16],
 ) -> usize
     requires { ⌜ (answerOf (verdict (now model)) ≡ Accepted sizes)
-        × Enough sizes (length (now parameters)) (length (now sorts)) (length (now variables)) (length (now nexts)) (length (now guards)) ⌝ }
+        × Enough sizes (length (now parameters)) (length (now variables)) (length (now nexts)) (length (now guards)) ⌝ }
     ensures { λ r. ⌜ ((t : System) → verdict (now (model .entry)) ≡ accepted sizes t →
         (r ≡ assertionPlace t)
-        × (arrays (now (parameters .exit)) (now (sorts .exit)) (now (variables .exit)) (now (nexts .exit)) (now (guards .exit))
+        × (arrays (now (parameters .exit)) (now (variables .exit)) (now (nexts .exit)) (now (guards .exit))
         ≡ decodedOver (now (model .entry)) sizes t
-        (arrays (now (parameters .entry)) (now (sorts .entry)) (now (variables .entry)) (now (nexts .entry)) (now (guards .entry))))) ⌝ }
+        (arrays (now (parameters .entry)) (now (variables .entry)) (now (nexts .entry)) (now (guards .entry))))) ⌝ }
 {
     let nodes = sizes.nodes;
     let transitions = decode_variables(model, sizes, parameters, variables);
     let kinds = kinds_of(model, nodes);
-    read_sorts(kinds, sizes.states + sizes.flows, sorts);
     next_places(kinds, &parameters[..nodes], nexts);
     guard_places(nexts, sizes.transitions, transitions, guards)
 }
 
-// Checks a model file and decodes it: the parameters, the variables' sorts and rows, the place after each node with its
-// children, the places of the guards (each action stands right after its guard) and of the assertion.
+// Checks a model file and decodes it: the parameters, the rows of the variables, the place after each node with its children,
+// the places of the guards (each action stands right after its guard) and of the assertion.
 pub fn prepare(
     model: &[u8],
     parameters: &mut [i32; Model::MAX_NODES],
-    sorts: &mut [u8; Model::MAX_VARIABLES],
     variables: &mut [[i32; 3]; Model::MAX_VARIABLES],
     nexts: &mut [u16; Model::MAX_NODES],
     guards: &mut [u16; Model::MAX_TRANSITIONS],
 ) -> Prepared
     ensures { λ r. ⌜ answered r
-        (arrays (now (parameters .exit)) (now (sorts .exit)) (now (variables .exit)) (now (nexts .exit)) (now (guards .exit)))
+        (arrays (now (parameters .exit)) (now (variables .exit)) (now (nexts .exit)) (now (guards .exit)))
         ≡ preparedBy (now (model .entry))
-        (arrays (now (parameters .entry)) (now (sorts .entry)) (now (variables .entry)) (now (nexts .entry)) (now (guards .entry)))
+        (arrays (now (parameters .entry)) (now (variables .entry)) (now (nexts .entry)) (now (guards .entry)))
         (verdict (now (model .entry))) ⌝ }
 {
     match check::check(model) {
         Checked::Refused(number) => Prepared::Refused(number),
         Checked::Accepted(sizes) => {
-            let assertion = decode(model, sizes, parameters, sorts, variables, nexts, guards);
+            let assertion = decode(model, sizes, parameters, variables, nexts, guards);
             Prepared::Ready(Model { sizes, assertion })
         }
     }
@@ -250,7 +247,7 @@ pub fn sorts_of(model: &[u8], sorts: &mut [u8; Model::MAX_VARIABLES]) -> Checked
         Checked::Refused(number) => Checked::Refused(number),
         Checked::Accepted(sizes) => {
             let kinds = kinds_of(model, sizes.nodes);
-            read_sorts(kinds, sizes.states + sizes.flows, sorts);
+            sorts_in(kinds, sizes.states + sizes.flows, sorts);
             Checked::Accepted(sizes)
         }
     }

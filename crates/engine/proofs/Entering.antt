@@ -1,6 +1,6 @@
 -- New states are entered: the flow part of the values is lent to the assertion, and the states are stored when it settles. What is
 -- left is as `leftBySettling` has it.
-use mathlib.Core.Path.{_≡_, refl, sym, ap, _∙_}
+use mathlib.Core.Path.{_≡_, refl, sym, ap, subst, _∙_}
 use mathlib.Core.Bool.{true, false, true≢false}
 use mathlib.Core.List.{List, [], _∷_, _++_, append-assoc}
 use mathlib.Core.Option.{some}
@@ -81,44 +81,45 @@ withFlows s n old flows = take s old ++ (flows ++ drop (n - s) (drop s old))
 with-same : (s n : ℕ) (old : List ℤ) → withFlows s n old (flowPart s n old) ≡ old
 with-same s n old = rw (take-append-drop (n - s) (drop s old)) (take-append-drop s old)
 
-stored : (s n : ℕ) (old ss new : List ℤ) → s ≤ n → n ≤ length old → length ss ≡ s → take s new ≡ ss → length new ≡ n
-    → over ss (withFlows s n old (drop s new)) ≡ over new old
+stored : (s n : ℕ) (old ss new : List ℤ) → s ≤ n → n ≤ length old → length ss ≡ s → take (length ss) new ≡ ss → length new ≡ n
+    → over ss (withFlows s n old (drop (length ss) new)) ≡ over new old
 stored s n old ss new l u h t k =
     let e : s + (n - s) ≡ n = omega arith in
     let front : length (take s old) ≡ s = simp length-take (omega arith) in
-    rw (h, drop-at (take s old) (drop s new ++ drop (n - s) (drop s old)) s front, drop-drop (n - s) s old, e, k, ← append-assoc ss (drop s new) (drop n old), ← t, take-append-drop s new)
+    let first : take s new ≡ ss = subst (λ m. take m new ≡ ss) h t in
+    rw (h, drop-at (take s old) (drop s new ++ drop (n - s) (drop s old)) s front, drop-drop (n - s) s old, e, k, ← append-assoc ss (drop s new) (drop n old), ← first, take-append-drop s new)
 
-module _ {ks : List ℕ} {ps : List ℤ} {nexts : List ℕ} {rows : List (List ℤ)} {at : ℕ} (ss old : List ℤ)
-    (p : PropagationStands ks ps nexts rows at (length ss) (length rows - length ss)) (room : length rows ≤ length old) where
-  pub states-first : length ss ≤ length rows
-  states-first = omega (arith, p .stateCells, rows-counted (p .assertion))
+module _ {ks : List ℕ} {ps : List ℤ} {nexts : List ℕ} {rows : List (List ℤ)} {at : ℕ} (s n : ℕ) (ss old : List ℤ) (long : length ss ≡ s)
+    (all : length rows ≡ n) (p : PropagationStands ks ps nexts rows at (length ss) (n - s)) (room : n ≤ length old) where
+  pub states-first : s ≤ n
+  states-first = omega (arith, long, all, p .stateCells, rows-counted (p .assertion))
 
-  pub length-flow-part : length (flowPart (length ss) (length rows) old) ≡ length rows - length ss
+  pub length-flow-part : length (flowPart s n old) ≡ n - s
   length-flow-part = simp (length-take, length-drop) (omega arith)
 
-  abbrev pub part-stands : PropagationStands ks ps nexts rows at (length ss) (length (flowPart (length ss) (length rows) old))
+  abbrev pub part-stands : PropagationStands ks ps nexts rows at (length ss) (length (flowPart s n old))
   part-stands =
       record { assertion = p .assertion; stateCells = p .stateCells; flowCells = length-flow-part ∙ p .flowCells }
 
-  length-settled : (count : ℕ) (new : List ℤ) → settle (p .assertion .system) ss ≡ settled count new → length new ≡ length rows
+  length-settled : (count : ℕ) (new : List ℤ) → settle (p .assertion .system) ss ≡ settled count new → length new ≡ n
   length-settled count new e =
       rounds-bounded-tree (p .assertion .system) (p .assertion .wellFormed) ss count new e .2
-      ∙ sym (row-count (variables (p .assertion .system)) (p .assertion .rowsHeld))
+      ∙ sym (row-count (variables (p .assertion .system)) (p .assertion .rowsHeld)) ∙ all
 
-  refused-by : (x : Settling) (f : Fault) (flows : List ℤ) → answered (Refused f) flows ≡ flowsBySettling (length ss) (flowPart (length ss) (length rows) old) x
-      → answered (AssertionFault f) (withFlows (length ss) (length rows) old flows) ≡ leftBySettling old x
+  refused-by : (x : Settling) (f : Fault) (flows : List ℤ) → answered (Refused f) flows ≡ flowsBySettling (length ss) (flowPart s n old) x
+      → answered (AssertionFault f) (withFlows s n old flows) ≡ leftBySettling old x
   unfolding flowsBySettling leftBySettling
   refused-by (refused g) f flows e =
       let a : Refused f ≡ Refused g = ap (λ l. l .answer) e in
       let b : f ≡ g = cc in
-      rw (b, ap (λ l. l .left) e, with-same (length ss) (length rows) old)
+      rw (b, ap (λ l. l .left) e, with-same s n old)
   refused-by (settled c new) f flows e =
       let a : Refused f ≡ Settled c = ap (λ l. l .answer) e in
       let z : true ≡ false = cc in absurd (true≢false z)
 
   settled-by : (x : Settling) → settle (p .assertion .system) ss ≡ x → (count : ℕ) (flows : List ℤ)
-      → answered (Settled count) flows ≡ flowsBySettling (length ss) (flowPart (length ss) (length rows) old) x
-      → answered (Fired count) (over ss (withFlows (length ss) (length rows) old flows)) ≡ leftBySettling old x
+      → answered (Settled count) flows ≡ flowsBySettling (length ss) (flowPart s n old) x
+      → answered (Fired count) (over ss (withFlows s n old flows)) ≡ leftBySettling old x
   unfolding flowsBySettling leftBySettling
   settled-by (refused g) k count flows e =
       let a : Settled count ≡ Refused g = ap (λ l. l .answer) e in
@@ -129,22 +130,21 @@ module _ {ks : List ℕ} {ps : List ℤ} {nexts : List ℕ} {rows : List (List �
       rw (
         b,
         ap (λ l. l .left) e,
-        stored (length ss) (length rows) old ss new states-first room refl
+        stored s n old ss new states-first room long
             (settled-states (p .assertion .system) (p .assertion .wellFormed) ss (p .stateCells) c new k) (length-settled c new k),
       )
 
-  pub states-fit : (flows : List ℤ) → length flows ≡ length (flowPart (length ss) (length rows) old)
-      → length ss ≤ length (withFlows (length ss) (length rows) old flows)
+  pub states-fit : (flows : List ℤ) → length flows ≡ length (flowPart s n old) → length ss ≤ length (withFlows s n old flows)
   states-fit flows e =
-      simp (length-append, length-take, length-drop) (omega (arith, e, length-flow-part, states-first))
+      simp (length-append, length-take, length-drop) (omega (arith, e, length-flow-part, states-first, long))
 
   module _ (r : Propagated) (flows : List ℤ)
-      (left : answered r flows ≡ flowsBySettling (length ss) (flowPart (length ss) (length rows) old) (settle (p .assertion .system) ss)) where
+      (left : answered r flows ≡ flowsBySettling (length ss) (flowPart s n old) (settle (p .assertion .system) ss)) where
     pub enter-refused : (f : Fault) → r ≡ Refused f
-        → answered (AssertionFault f) (withFlows (length ss) (length rows) old flows) ≡ leftBySettling old (settle (p .assertion .system) ss)
+        → answered (AssertionFault f) (withFlows s n old flows) ≡ leftBySettling old (settle (p .assertion .system) ss)
     enter-refused f k = refused-by (settle (p .assertion .system) ss) f flows (ap (λ r. answered r flows) (sym k) ∙ left)
 
-    pub enter-settled : (count : ℕ) → r ≡ Settled count → (new : List ℤ) → new ≡ over ss (withFlows (length ss) (length rows) old flows)
+    pub enter-settled : (count : ℕ) → r ≡ Settled count → (new : List ℤ) → new ≡ over ss (withFlows s n old flows)
         → answered (Fired count) new ≡ leftBySettling old (settle (p .assertion .system) ss)
     enter-settled count k new h =
         ap (answered (Fired count)) h

@@ -1,48 +1,42 @@
--- What the functions on a decoded model are lent, and what they may ask of it.
+-- What the functions on a decoded model are lent, what they may ask of it, and how a firing goes on from one of them to the next.
 use mathlib.Core.Path.{_≡_}
+use mathlib.Core.Bool.{true, cond}
 use mathlib.Core.List.{List}
 use Prim.Native.Nat.{ℕ, _≤_}
-use lib.IntN.{ℤ}
-use lib.ListN.{length, take}
+use lib.IntN.{ℤ, pos}
+use lib.ListN.{length, take, replicate}
+use Rattle.evaluation.specs.declared.Evaluation.{Evaluation}
+use Rattle.evaluation.specs.declared.Evaluation.the-variants.{Unknown, Failed, Value}
+use Rattle.evaluation.specs.Numbers.{eqZ, boolean}
 use Rattle.model.specs.declared.Model.{Model}
-use Rattle.model.specs.Trees.{Instruction, System, variables}
-use Rattle.model.specs.Standing.{InstructionAt}
 use Rattle.model.specs.Theorems.{Bytes}
-use Rattle.model.specs.WellFormed.{WellFormed, Scoped, sizesOf}
-use Rattle.model.specs.Check.{actionScope}
-use Rattle.variables.specs.Rows.{variableRows}
 use Rattle.decoding.specs.Decoding.{Decoded}
-use Rattle.interpreter.specs.Cells.{NextPlaces}
 use Rattle.propagation.specs.Cells.{AllRepresentable}
 use Rattle.results.specs.Results.{answered}
-use Rattle.semantics.specs.declared.Finding.{Finding}
-use Rattle.semantics.specs.declared.Finding.the-variants.{Clear, Faulty}
-use Rattle.semantics.specs.declared.Firing.the-variants.{ActionFault}
-use Rattle.semantics.specs.Propagation.{Settled}
+use Rattle.semantics.specs.declared.Firing.the-variants.{Disabled, GuardFailed}
 use Rattle.semantics.specs.Meanings.{Meaning, meaningOf}
-use Rattle.semantics.specs.Firing.{Left, leftBySettling}
+use Rattle.semantics.specs.Firing.{leftBySettling, fired}
+use Rattle.engine.specs.declared.transitions.Stage.{Stage}
+use Rattle.engine.specs.declared.transitions.Stage.the-variants.{Over, Open}
 
-module _ (ks : List ℕ) (ps : List ℤ) where
-  -- an action and the assertion of a well-formed system stand at their places, the rows are those of its variables, and their
-  -- values, the first of those lent, are held as cells too
-  pub record TransitionStands (nexts : List ℕ) (rows : List (List ℤ)) (cells values : List ℤ) (assertion at states : ℕ) : Type 0 where
-    pub system : System
-    pub action : Instruction
-    pub wellFormed : WellFormed system
-    pub scoped : Scoped action (actionScope (sizesOf system) (variables system))
-    pub actionStands : InstructionAt ks ps action at
-    pub assertionStands : InstructionAt ks ps (system .assertion) assertion
-    pub places : NextPlaces ks ps nexts
-    pub rowsHeld : rows ≡ variableRows (variables system)
-    pub stateCells : states ≡ length (system .states)
-    pub room : length (variables system) ≤ length values
-    pub held : cells ≡ take (length (variables system)) values
-    pub known : AllRepresentable cells
+-- the values of so many variables, the first of those lent, are held as cells
+pub record AllHeld (count : ℕ) (values cells : List ℤ) : Type 0 where
+  pub room : count ≤ length values
+  pub held : cells ≡ take count values
+  pub known : AllRepresentable cells
 
--- what is left after an action: its fault, or what the assertion over its states comes to
-unfoldable pub leftByFinding : Finding → List ℤ → Settled → Left
-leftByFinding Clear old s = leftBySettling old s
-leftByFinding (Faulty f) old s = answered (ActionFault f) old
+-- by the guard: the firing is over where it is not true
+unfoldable pub stageByGuard : Evaluation → Stage
+stageByGuard Unknown = Over Disabled
+stageByGuard Failed = Over GuardFailed
+stageByGuard (Value v) = cond (eqZ v (boolean true)) Open (Over Disabled)
+
+-- by guard and action: what the firing leaves where it is over, with no states made, and where it goes on what the assertion
+-- over the states made leaves
+unfoldable pub LeftByChanging : Meaning → ℕ → List ℤ → List ℤ → Stage → Type 0
+LeftByChanging m t old states (Over r) = (answered r old ≡ fired m t old) × (states ≡ replicate (length (m .declarations)) (pos 0))
+LeftByChanging m t old states Open =
+    (length (m .declarations) ≤ length old) × (leftBySettling old (m .propagate (take (m .states) states)) ≡ fired m t old)
 
 -- the slices are the decoding of an accepted file: what the functions exported here ask
 pub record Loaded (model : Model) (kinds : List ℕ) (parameters : List ℤ) (rows : List (List ℤ)) (nexts guards : List ℕ) : Type 0 where

@@ -1,19 +1,16 @@
 // Guards, firing and starting, on the slices of a decoded model and lent values.
 
 ghost use mathlib.Core.Path.{_≡_};
-ghost use Prim.Native.Nat.{_-_, _≤_, _<_};
+ghost use Prim.Native.Nat.{_≤_};
 ghost use lib.IntN.{pos};
-ghost use lib.ListN.{length, getD, replicate};
+ghost use lib.ListN.{length, replicate};
 ghost use Rattle.results.specs.Results.{answered};
 ghost use Rattle.scratch.specs.Blank.{BlankGathering, BlankCells, BlankFiring};
 ghost use Rattle.waiting.specs.Index.{Indexed};
 ghost use Rattle.expressions.specs.Cells.{valuationOf};
-ghost use Rattle.semantics.specs.Actions.{act};
-ghost use Rattle.semantics.specs.Propagation.{settle};
 ghost use Rattle.semantics.specs.Meanings.{guardOver, meaningOf};
-ghost use Rattle.semantics.specs.Firing.{leftBySettling, leftByActing, fired, begun};
-ghost use Rattle.propagation.specs.Cells.{PropagationStands};
-ghost use Rattle.engine.specs.Cells.{Loaded, TransitionStands, leftByFinding};
+ghost use Rattle.semantics.specs.Firing.{fired, begun};
+ghost use Rattle.engine.specs.Cells.{Loaded, AllHeld, stageByGuard, LeftByChanging};
 use evaluation::Evaluation;
 use model::Model;
 use semantics::Finding;
@@ -23,6 +20,12 @@ use syntax::Cursor;
 
 // What a true expression comes to.
 const TRUE: i32 = 1;
+
+// A firing is over, with this answer, or goes on.
+enum Stage {
+    Over(Firing),
+    Open,
+}
 
 // The guard of a transition over cells.
 pub fn guard(
@@ -47,126 +50,80 @@ pub fn guard(
     r.evaluation
 }
 
-// The assertion over these states; then they are stored, so a refusal has written nothing.
-fn enter(
-    kinds: &[u8],
-    parameters: &[i32],
-    nexts: &[u16],
-    heads: &[u16],
-    links: &[u16],
-    variables: &[[i32; 3]],
-    assertion: usize,
-    states: &[i32],
-    cells: &mut [i64],
-    given: &mut [i64],
-    queue: &mut [u16],
-    waits: &mut [u16],
-    values: &mut [i32],
-) -> Firing
-    requires { ⌜ PropagationStands (now kinds) (now parameters) (now nexts) (now variables) assertion (length (now states)) (length (now variables) - length (now states)) × (length (now variables) ≤ length (now values))
-        × Indexed (now kinds) (now parameters) assertion (length (now variables)) (now heads) (now links)
-        × BlankCells (length (now variables)) (length (now kinds)) (now cells) (now given) (now queue) (now waits) ⌝ }
-    ensures { λ r. ⌜ ((p : PropagationStands (now (kinds .entry)) (now (parameters .entry)) (now (nexts .entry)) (now (variables .entry)) assertion (length (now (states .entry))) (length (now (variables .entry)) - length (now (states .entry))))
-        → answered r (now (values .exit)) ≡ leftBySettling (now (values .entry)) (settle (p .assertion .system) (now (states .entry))))
-        × BlankCells (length (now (variables .entry))) (length (now (kinds .entry))) (now (cells .exit)) (now (given .exit)) (now (queue .exit)) (now (waits .exit)) ⌝ }
+// As many of the values lent as there are cells are held as cells; nothing is done where they are too few.
+fn hold(values: &[i32], cells: &mut [i64])
+    ensures { λ _. ⌜ (length (now (cells .entry)) ≤ length (now (values .entry)) → AllHeld (length (now (cells .entry))) (now (values .entry)) (now (cells .exit))) ⌝ }
 {
-    let s = states.len();
-    let n = variables.len();
-    match propagation::propagate(
-        kinds,
-        parameters,
-        nexts,
-        heads,
-        links,
-        variables,
-        assertion,
-        states,
-        cells,
-        given,
-        queue,
-        waits,
-        &mut values[s..n],
-    ) {
-        Propagated::Refused(fault) => Firing::AssertionFault(fault),
-        Propagated::Settled(count) => {
-            propagation::store(states, values);
-            Firing::Fired(count)
+    let n = cells.len();
+    if values.len() < n {
+        return;
+    }
+    propagation::overwrite(&values[..n], cells);
+}
+
+// What the guard makes of a firing.
+fn admit(guard: Evaluation) -> Stage
+    ensures { λ r. ⌜ r ≡ stageByGuard guard ⌝ }
+{
+    match guard {
+        Evaluation::Unknown => Stage::Over(Firing::Disabled),
+        Evaluation::Failed => Stage::Over(Firing::GuardFailed),
+        Evaluation::Value(v) => {
+            if v != TRUE {
+                return Stage::Over(Firing::Disabled);
+            }
+            Stage::Open
         }
     }
 }
 
-// The fault of an action, or the assertion over the states that it came to.
-fn enter_after(
-    finding: Finding,
+// Guard and action over the values of all variables, held as cells: where the firing goes on the new states stand first.
+fn change_states(
+    model: Model,
     kinds: &[u8],
     parameters: &[i32],
-    nexts: &[u16],
-    heads: &[u16],
-    links: &[u16],
     variables: &[[i32; 3]],
-    assertion: usize,
-    states: &[i32],
-    cells: &mut [i64],
+    nexts: &[u16],
+    guards: &[u16],
+    values: &[i32],
+    cells: &[i64],
     given: &mut [i64],
     queue: &mut [u16],
     waits: &mut [u16],
-    values: &mut [i32],
-) -> Firing
-    requires { ⌜ PropagationStands (now kinds) (now parameters) (now nexts) (now variables) assertion (length (now states)) (length (now variables) - length (now states)) × (length (now variables) ≤ length (now values))
-        × Indexed (now kinds) (now parameters) assertion (length (now variables)) (now heads) (now links)
-        × BlankCells (length (now variables)) (length (now kinds)) (now cells) (now given) (now queue) (now waits) ⌝ }
-    ensures { λ r. ⌜ ((p : PropagationStands (now (kinds .entry)) (now (parameters .entry)) (now (nexts .entry)) (now (variables .entry)) assertion (length (now (states .entry))) (length (now (variables .entry)) - length (now (states .entry))))
-        → answered r (now (values .exit)) ≡ leftByFinding finding (now (values .entry)) (settle (p .assertion .system) (now (states .entry))))
-        × BlankCells (length (now (variables .entry))) (length (now (kinds .entry))) (now (cells .exit)) (now (given .exit)) (now (queue .exit)) (now (waits .exit)) ⌝ }
-{
-    match finding {
-        Finding::Faulty(fault) => Firing::ActionFault(fault),
-        Finding::Clear => enter(
-            kinds,
-            parameters,
-            nexts,
-            heads,
-            links,
-            variables,
-            assertion,
-            states,
-            cells,
-            given,
-            queue,
-            waits,
-            values,
-        ),
-    }
-}
-
-// An action over the values of all variables, held as cells; then the assertion over the new states.
-fn carry_out(
-    kinds: &[u8],
-    parameters: &[i32],
-    nexts: &[u16],
-    heads: &[u16],
-    links: &[u16],
-    variables: &[[i32; 3]],
-    assertion: usize,
-    action: usize,
-    s: usize,
     states: &mut [i32],
-    cells: &mut [i64],
-    given: &mut [i64],
-    queue: &mut [u16],
-    waits: &mut [u16],
-    values: &mut [i32],
-) -> Firing
-    requires { ⌜ TransitionStands (now kinds) (now parameters) (now nexts) (now variables) (now cells) (now values) assertion action s
-        × Indexed (now kinds) (now parameters) assertion (length (now variables)) (now heads) (now links)
+    transition: usize,
+) -> Stage
+    requires { ⌜ Loaded model (now kinds) (now parameters) (now variables) (now nexts) (now guards)
+        × (length (now variables) ≤ length (now values) → AllHeld (length (now variables)) (now values) (now cells))
         × (now states ≡ replicate (length (now variables)) (pos 0))
         × BlankGathering (length (now variables)) (length (now kinds)) (now given) (now queue) (now waits) ⌝ }
-    ensures { λ r. ⌜ ((t : TransitionStands (now (kinds .entry)) (now (parameters .entry)) (now (nexts .entry)) (now (variables .entry)) (now (cells .entry)) (now (values .entry)) assertion action s)
-        → answered r (now (values .exit)) ≡ leftByActing (meaningOf (t .system)) (now (values .entry)) (act (t .system) (t .action) (now (cells .entry))))
-        × BlankFiring (length (now (variables .entry))) (length (now (kinds .entry))) (now (states .exit)) (now (cells .exit)) (now (given .exit)) (now (queue .exit)) (now (waits .exit)) ⌝ }
+    ensures { λ r. ⌜ ((d : Loaded model (now (kinds .entry)) (now (parameters .entry)) (now (variables .entry)) (now (nexts .entry)) (now (guards .entry)))
+        → LeftByChanging (meaningOf (d .decoded .system)) transition (now (values .entry)) (now (states .exit)) r)
+        × BlankGathering (length (now (variables .entry))) (length (now (kinds .entry))) (now (given .exit)) (now (queue .exit)) (now (waits .exit)) ⌝ }
 {
+    let n = model.sizes.states + model.sizes.flows;
+    if values.len() < n {
+        return Stage::Over(Firing::Disabled);
+    }
+    let evaluation = guard(
+        model,
+        kinds,
+        parameters,
+        variables,
+        nexts,
+        guards,
+        cells,
+        transition,
+    );
+    let stage = admit(evaluation);
+    if let Stage::Over(_) = stage {
+        return stage;
+    }
+    let s = model.sizes.states;
     propagation::store(&values[..s], states);
-    let finding = propagation::act(
+    let place = guards[transition] as usize;
+    let action = nexts[place] as usize;
+    match propagation::act(
         kinds,
         parameters,
         nexts,
@@ -177,107 +134,11 @@ fn carry_out(
         waits,
         action,
         &mut states[..s],
-    );
-    scratch::forget(cells);
-    let firing = enter_after(
-        finding,
-        kinds,
-        parameters,
-        nexts,
-        heads,
-        links,
-        variables,
-        assertion,
-        &states[..s],
-        cells,
-        given,
-        queue,
-        waits,
-        values,
-    );
-    scratch::clear(states);
-    firing
-}
-
-// The place of the action of a transition: right after its guard.
-fn action_place(nexts: &[u16], guards: &[u16], transition: usize) -> usize
-    requires { ⌜ (transition < length (now guards)) × (getD (now guards) transition 0 < length (now nexts)) ⌝ }
-    ensures { λ r. ⌜ r ≡ getD (now (nexts .entry)) (getD (now (guards .entry)) transition 0) 0 ⌝ }
-{
-    let at = guards[transition] as usize;
-    nexts[at] as usize
-}
-
-// Guard, action, assertion; nothing is recorded.
-pub fn fire(
-    model: Model,
-    kinds: &[u8],
-    parameters: &[i32],
-    variables: &[[i32; 3]],
-    nexts: &[u16],
-    guards: &[u16],
-    heads: &[u16],
-    links: &[u16],
-    states: &mut [i32],
-    cells: &mut [i64],
-    given: &mut [i64],
-    queue: &mut [u16],
-    waits: &mut [u16],
-    values: &mut [i32],
-    transition: usize,
-) -> Firing
-    requires { ⌜ Loaded model (now kinds) (now parameters) (now variables) (now nexts) (now guards)
-        × Indexed (now kinds) (now parameters) (model .assertion) (length (now variables)) (now heads) (now links)
-        × BlankFiring (length (now variables)) (length (now kinds)) (now states) (now cells) (now given) (now queue) (now waits) ⌝ }
-    ensures { λ r. ⌜ ((d : Loaded model (now (kinds .entry)) (now (parameters .entry)) (now (variables .entry)) (now (nexts .entry)) (now (guards .entry)))
-        → answered r (now (values .exit)) ≡ fired (meaningOf (d .decoded .system)) transition (now (values .entry)))
-        × BlankFiring (length (now (variables .entry))) (length (now (kinds .entry))) (now (states .exit)) (now (cells .exit)) (now (given .exit)) (now (queue .exit)) (now (waits .exit)) ⌝ }
-{
-    let n = model.sizes.states + model.sizes.flows;
-    if values.len() < n {
-        return Firing::Disabled;
-    }
-    propagation::overwrite(&values[..n], cells);
-    match guard(
-        model,
-        kinds,
-        parameters,
-        variables,
-        nexts,
-        guards,
-        cells,
-        transition,
     ) {
-        Evaluation::Unknown => {
-            scratch::forget(cells);
-            Firing::Disabled
-        }
-        Evaluation::Failed => {
-            scratch::forget(cells);
-            Firing::GuardFailed
-        }
-        Evaluation::Value(v) => {
-            if v != TRUE {
-                scratch::forget(cells);
-                return Firing::Disabled;
-            }
-            carry_out(
-                kinds,
-                parameters,
-                nexts,
-                heads,
-                links,
-                variables,
-                model.assertion,
-                action_place(nexts, guards, transition),
-                model.sizes.states,
-                states,
-                cells,
-                given,
-                queue,
-                waits,
-                values,
-            )
+        Finding::Clear => Stage::Open,
+        Finding::Faulty(fault) => {
+            scratch::clear(states);
+            Stage::Over(Firing::ActionFault(fault))
         }
     }
 }
@@ -314,7 +175,7 @@ pub fn begin(
     if states.len() != s {
         return Firing::Disabled;
     }
-    enter(
+    match propagation::propagate(
         kinds,
         parameters,
         nexts,
@@ -327,6 +188,78 @@ pub fn begin(
         given,
         queue,
         waits,
+        &mut values[s..n],
+    ) {
+        Propagated::Refused(fault) => Firing::AssertionFault(fault),
+        Propagated::Settled(count) => {
+            propagation::store(states, values);
+            Firing::Fired(count)
+        }
+    }
+}
+
+// Guard, action, assertion; nothing is recorded.
+pub fn fire(
+    model: Model,
+    kinds: &[u8],
+    parameters: &[i32],
+    variables: &[[i32; 3]],
+    nexts: &[u16],
+    guards: &[u16],
+    heads: &[u16],
+    links: &[u16],
+    states: &mut [i32],
+    cells: &mut [i64],
+    given: &mut [i64],
+    queue: &mut [u16],
+    waits: &mut [u16],
+    values: &mut [i32],
+    transition: usize,
+) -> Firing
+    requires { ⌜ Loaded model (now kinds) (now parameters) (now variables) (now nexts) (now guards)
+        × Indexed (now kinds) (now parameters) (model .assertion) (length (now variables)) (now heads) (now links)
+        × BlankFiring (length (now variables)) (length (now kinds)) (now states) (now cells) (now given) (now queue) (now waits) ⌝ }
+    ensures { λ r. ⌜ ((d : Loaded model (now (kinds .entry)) (now (parameters .entry)) (now (variables .entry)) (now (nexts .entry)) (now (guards .entry)))
+        → answered r (now (values .exit)) ≡ fired (meaningOf (d .decoded .system)) transition (now (values .entry)))
+        × BlankFiring (length (now (variables .entry))) (length (now (kinds .entry))) (now (states .exit)) (now (cells .exit)) (now (given .exit)) (now (queue .exit)) (now (waits .exit)) ⌝ }
+{
+    hold(values, cells);
+    let stage = change_states(
+        model,
+        kinds,
+        parameters,
+        variables,
+        nexts,
+        guards,
         values,
-    )
+        cells,
+        given,
+        queue,
+        waits,
+        states,
+        transition,
+    );
+    scratch::forget(cells);
+    if let Stage::Over(firing) = stage {
+        return firing;
+    }
+    let s = model.sizes.states;
+    let firing = begin(
+        model,
+        kinds,
+        parameters,
+        variables,
+        nexts,
+        guards,
+        heads,
+        links,
+        &states[..s],
+        cells,
+        given,
+        queue,
+        waits,
+        values,
+    );
+    scratch::clear(states);
+    firing
 }

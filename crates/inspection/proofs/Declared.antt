@@ -1,18 +1,17 @@
 -- The transitions and the variables of an accepted file are those of its model; a call on a file from one over these.
-use mathlib.Core.Path.{_≡_, refl, ap, _∙_}
+use mathlib.Core.Path.{_≡_, ap}
 use mathlib.Core.List.{List}
 use Prim.Native.Nat.{ℕ, _+_}
 use mir.Syntax.{w8}
 use mir.Val.{Fits}
 use lib.IntN.{ℤ}
-use lib.ListN.{length, getD, take, length-map}
+use lib.ListN.{getD, take}
 use Rattle.model.specs.declared.Sizes.{Sizes}
 use Rattle.model.specs.declared.Checked.{Checked}
 use Rattle.model.specs.declared.Checked.the-variants.{Refused}
-use Rattle.model.specs.Check.{Verdict, verdict}
-use Rattle.model.specs.Check.Verdict.{refusal, accepted}
+use Rattle.model.specs.Check.{verdict}
 use Rattle.model.proofs.CheckExact.{check-exact}
-use Rattle.variables.specs.Rows.{variableRow, variableRows}
+use Rattle.variables.specs.Rows.{variableRows}
 use Rattle.decoding.specs.Decoding.{rowsAfter}
 use Rattle.decoding.proofs.VariablesInUse.{RowsInUse, after-refused}
 use Rattle.results.specs.Results.{answered}
@@ -20,10 +19,7 @@ use Rattle.semantics.specs.Meanings.{Meaning, meaningOf}
 use Rattle.standing.specs.Runs.{Answer, Done}
 use Rattle.standing.specs.Runs.Answer.{refused}
 use Rattle.steps.specs.Answers.{onFile, onFileAnswer}
-use Rattle.inspection.specs.Declared.{Declares}
-
-pub rows-declared : {m : Meaning} {transitions : ℕ} {rows : List (List ℤ)} → Declares m transitions rows → length rows ≡ length (m .declarations)
-rows-declared {m} d = ap length (d .declared) ∙ length-map (m .declarations) variableRow
+use Rattle.steps.specs.Declarations.{Declares}
 
 -- ---- on a file
 
@@ -52,10 +48,3 @@ module _ (m : List ℕ) (s : Sizes) (left : List (List ℤ)) (u : RowsInUse m s 
   pub on-rows-answer : (f : Meaning → Answer) → f (meaningOf (u .system)) ≡ onFileAnswer (verdict m) f
   unfolding onFileAnswer
   on-rows-answer f = rw (u .checked)
-
--- ---- an answer alone
-
-pub alone : {A : Type 0} (v : Verdict) (f : Meaning → Answer) (a : A) → onFile v (λ m. answered (f m) a) a .answer ≡ onFileAnswer v f
-unfolding onFile onFileAnswer
-alone (refusal n) f a = refl
-alone (accepted z t) f a = refl

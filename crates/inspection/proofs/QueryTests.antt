@@ -1,18 +1,16 @@
--- Marks, value and pick, by the tests that the code makes.
+-- Marks and value, by the tests that the code makes.
 use mathlib.Core.Path.{_≡_}
 use mathlib.Core.Bool.{true, false}
 use mathlib.Core.List.{List, _++_}
-use mathlib.Core.Option.{Option}
 use Prim.Native.Nat.{ℕ, _≤_, _<_}
 use borrow.Author.Tests.{lt-ltb, le-ltb}
 use lib.IntN.{ℤ, pos}
 use lib.ListN.{length, getD, take, drop}
 use Rattle.semantics.specs.Meanings.{Meaning}
 use Rattle.standing.specs.Runs.{Run, answered}
-use Rattle.standing.specs.Runs.Answer.{refused, done, number, picked}
+use Rattle.standing.specs.Runs.Answer.{refused, done, number}
 use Rattle.standing.specs.Holding.{holds}
-use Rattle.marking.specs.Marks.{marksOf}
-use Rattle.inspection.specs.Queries.{marks, value, firstFireable, pick}
+use Rattle.inspection.specs.Queries.{marks, value}
 
 module _ (m : Meaning) (r : Run) where
   module _ (short : length (r .values) < length (m .declarations)) where
@@ -24,10 +22,6 @@ module _ (m : Meaning) (r : Run) where
     unfolding marks
     marks-short buffer = rw (lt-ltb (length (r .values)) (length (m .declarations)) short)
 
-    pub pick-short : refused 9 ≡ pick m r
-    unfolding pick
-    pick-short = rw (lt-ltb (length (r .values)) (length (m .declarations)) short)
-
   module _ (enough : length (m .declarations) ≤ length (r .values)) where
     module _ (few : length (r .marks) < m .transitions) where
       pub value-few : (x : ℕ) → refused 10 ≡ value m x r
@@ -38,19 +32,7 @@ module _ (m : Meaning) (r : Run) where
       unfolding marks
       marks-few buffer = rw (le-ltb (length (r .values)) (length (m .declarations)) enough, lt-ltb (length (r .marks)) (m .transitions) few)
 
-      pub pick-few : refused 10 ≡ pick m r
-      unfolding pick
-      pick-few = rw (le-ltb (length (r .values)) (length (m .declarations)) enough, lt-ltb (length (r .marks)) (m .transitions) few)
-
     module _ (room : m .transitions ≤ length (r .marks)) where
-      pub pick-stale : holds m r ≡ false → refused 20 ≡ pick m r
-      unfolding pick
-      pick-stale h = rw (le-ltb (length (r .values)) (length (m .declarations)) enough, le-ltb (length (r .marks)) (m .transitions) room, h)
-
-      pub pick-done : holds m r ≡ true → (t : Option ℕ) → t ≡ firstFireable (marksOf m (r .values)) 0 → picked t ≡ pick m r
-      unfolding pick
-      pick-done h t e = rw (le-ltb (length (r .values)) (length (m .declarations)) enough, le-ltb (length (r .marks)) (m .transitions) room, h, e)
-
       pub value-unknown : (x : ℕ) → length (m .declarations) ≤ x → refused 12 ≡ value m x r
       unfolding value
       value-unknown x h = rw (le-ltb (length (r .values)) (length (m .declarations)) enough, le-ltb (length (r .marks)) (m .transitions) room, le-ltb x (length (m .declarations)) h)

@@ -20,6 +20,7 @@ use Rattle.semantics.specs.declared.Propagated.the-variants.{Refused, Settled}
 use Rattle.interpreter.specs.Instructions.{effects, faultOf, firstOf}
 use Rattle.semantics.specs.Actions.{cells}
 use Rattle.semantics.specs.Propagation.{Settled as Settling, rounds, resetBy, finishedBy, finish, settledFrom, settle}
+use Rattle.semantics.specs.Propagation.Reached.{reached}
 use Rattle.semantics.specs.Propagation.Settled.{refused, settled}
 use Rattle.semantics.proofs.Rounds.{rounds-bounded-tree}
 use Rattle.results.specs.Results.{Answered, answered, over}
@@ -67,9 +68,8 @@ filled-numbers values cs h l x u =
 
 -- ---- the outcome
 
-module _ {ks : List ℕ} {ps : List ℤ} {nexts : List ℕ} {rows : List (List ℤ)} {at : ℕ} (ss old : List ℤ)
-    (p : PropagationStands ks ps nexts rows at (length ss) (length old)) where
-  pub rows-cells : length rows ≡ length ss + length old
+module _ {ks : List ℕ} {ps : List ℤ} {nexts : List ℕ} {rows : List (List ℤ)} {at : ℕ} (s : ℕ) (old : List ℤ) (p : PropagationStands ks ps nexts rows at s (length old)) where
+  pub rows-cells : length rows ≡ s + length old
   rows-cells = rows-counted (p .assertion) ∙ omega (arith, p .stateCells, p .flowCells)
 
   held : firstsIn rows ≡ map (λ v. v .first) (variables (p .assertion .system))
@@ -78,6 +78,69 @@ module _ {ks : List ℕ} {ps : List ℤ} {nexts : List ℕ} {rows : List (List �
   length-firsts : length (firstsIn rows) ≡ length rows
   length-firsts = column-length 2 rows
 
+  -- the cells after the reset, and the part of them that the flows are
+  module _ (cells₂ cells₃ : List ℤ) (long : length cells₂ ≡ length rows) (reset : cells₃ ≡ filled (firstsIn rows) cells₂) where
+    pub length-cells₃ : length cells₃ ≡ length rows
+    length-cells₃ = ap length reset ∙ length-filled (firstsIn rows) cells₂ ∙ long
+
+    pub length-part : length (take (length rows - s) (drop s cells₃)) ≡ length old
+    length-part = simp (length-take, length-drop) (omega (arith, length-cells₃, rows-cells))
+
+  -- the reading after the reset, where the rounds have come to rest
+  module _ (cells₂ : List ℤ) (count : ℕ) (long : length cells₂ ≡ length rows) (cells₃ : List ℤ) (reset : cells₃ ≡ filled (firstsIn rows) cells₂)
+      (numbers : AllRepresentable (firstsIn rows)) (x : Finding)
+      (found : x ≡ findingOf (faultOf (variables (p .assertion .system)) (valuationOf cells₃) (effects (p .assertion .system .assertion) (valuationOf cells₃)))) where
+    -- what the system settles to from there
+    abbrev ends : Settling
+    ends = settledFrom (variables (p .assertion .system)) (p .assertion .system .assertion) (reached count (valuationOf cells₂))
+
+    fits : length (firstsIn rows) ≤ length cells₂
+    fits = omega (arith, length-firsts, long)
+
+    reset-values : (x : ℕ) → resetBy (variables (p .assertion .system)) (valuationOf cells₂) x ≡ firstOf (valuationOf cells₂ x) (getElem? (firstsIn rows) x)
+    reset-values x = rw held (reset-first (variables (p .assertion .system)) (valuationOf cells₂) x)
+
+    reset-known : valuationOf cells₃ ≡ resetBy (variables (p .assertion .system)) (valuationOf cells₂)
+    reset-known =
+        fun-ext (λ x. ap (λ l. valuationOf l x) reset ∙ filled-known (firstsIn rows) cells₂ fits numbers x ∙ sym (reset-values x))
+
+    finishes : (o : Option Fault) → faultOf (variables (p .assertion .system)) (valuationOf cells₃) (effects (p .assertion .system .assertion) (valuationOf cells₃)) ≡ o
+        → ends ≡ finishedBy count (cells (resetBy (variables (p .assertion .system)) (valuationOf cells₂)) (length (variables (p .assertion .system))) 0) o
+    unfolding settledFrom finish
+    finishes o q = rw (← reset-known, q)
+
+    pub refused-at-end : (f : Fault) → x ≡ Faulty f
+        → answered (Refused f) old ≡ flowsBySettling s old ends
+    unfolding flowsBySettling finishedBy
+    refused-at-end f q = rw (finishes (some f) (finding-faulty _ f (sym found ∙ q)))
+
+    settled-cells : cells (resetBy (variables (p .assertion .system)) (valuationOf cells₂)) (length (variables (p .assertion .system))) 0 ≡ take (length rows) cells₃
+    settled-cells =
+        rw (reset, ← row-count (variables (p .assertion .system)) (p .assertion .rowsHeld), ← length-firsts)
+        (filled-cells (resetBy (variables (p .assertion .system)) (valuationOf cells₂)) (firstsIn rows) cells₂ 0 fits
+        (λ k l. let z : 0 + k ≡ k = omega arith in rw z (reset-values k)))
+
+    settled-whole : x ≡ Clear → ends ≡ settled count (take (length rows) cells₃)
+    unfolding finishedBy
+    settled-whole q = finishes none (finding-clear _ (sym found ∙ q)) ∙ ap (settled count) settled-cells
+
+    -- the part of the cells that the flows are
+    part-numbers : AllRepresentable (take (length rows - s) (drop s cells₃))
+    part-numbers y l =
+        let u : y < length rows - s = omega (arith, length-part cells₂ cells₃ long reset, rows-cells) in
+        rw (getD-take (length rows - s) (drop s cells₃) y (pos 0) u, getD-drop s cells₃ y (pos 0), reset)
+        (filled-numbers (firstsIn rows) cells₂ numbers fits (s + y) (omega (arith, length-firsts, rows-cells)))
+
+    pub settled-at-end : (new : List ℤ) → new ≡ replacedBy (take (length rows - s) (drop s cells₃)) old → x ≡ Clear
+        → answered (Settled count) new ≡ flowsBySettling s old ends
+    unfolding flowsBySettling
+    settled-at-end new q c =
+        rw (settled-whole c) (ap (answered (Settled count))
+        (q ∙ ap (take (length old)) (filled-all old _ part-numbers) ∙ take-all (length old) _ (omega (arith, length-part cells₂ cells₃ long reset))
+        ∙ sym (drop-take s (length rows) cells₃)))
+
+module _ {ks : List ℕ} {ps : List ℤ} {nexts : List ℕ} {rows : List (List ℤ)} {at : ℕ} (ss old : List ℤ)
+    (p : PropagationStands ks ps nexts rows at (length ss) (length old)) where
   -- the answer is that of `settle`, whatever stands there
   abbrev Settles : Propagated → List ℤ → Type 0
   Settles r new = (q : PropagationStands ks ps nexts rows at (length ss) (length old))
@@ -94,14 +157,6 @@ module _ {ks : List ℕ} {ps : List ℤ} {nexts : List ℕ} {rows : List (List �
           let b = rounds-bounded-tree (p .assertion .system) (p .assertion .wellFormed) ss count values e in
           (b .0, omega (arith, b .1, p .flowCells))
 
-  -- the cells after the reset, and the part of them that the flows are
-  module _ (cells₂ cells₃ : List ℤ) (long : length cells₂ ≡ length rows) (reset : cells₃ ≡ filled (firstsIn rows) cells₂) where
-    pub length-cells₃ : length cells₃ ≡ length rows
-    length-cells₃ = ap length reset ∙ length-filled (firstsIn rows) cells₂ ∙ long
-
-    pub length-part : length (take (length rows - length ss) (drop (length ss) cells₃)) ≡ length old
-    length-part = simp (length-take, length-drop) (omega (arith, length-cells₃, rows-cells))
-
   -- the rounds were made over the states
   module _ (cells₁ cells₂ : List ℤ) (start : cells₁ ≡ over ss (replicate (length rows) unknownCell)) (known : AllRepresentable ss)
       (r : Ended) (made : reachedIn r cells₂ ≡ rounds (variables (p .assertion .system)) (p .assertion .system .assertion)
@@ -115,52 +170,12 @@ module _ {ks : List ℕ} {ps : List ℤ} {nexts : List ℕ} {rows : List (List �
     unfolding flowsBySettling settledFrom reachedIn
     refused-in-rounds f e = rw (settles, e)
 
-    -- and then the reading after the reset
-    module _ (e : Rest) (rested : r ≡ Rested e) (long : length cells₂ ≡ length rows) (cells₃ : List ℤ) (reset : cells₃ ≡ filled (firstsIn rows) cells₂)
-        (numbers : AllRepresentable (firstsIn rows)) (x : Finding)
-        (found : x ≡ findingOf (faultOf (variables (p .assertion .system)) (valuationOf cells₃) (effects (p .assertion .system .assertion) (valuationOf cells₃)))) where
-      fits : length (firstsIn rows) ≤ length cells₂
-      fits = omega (arith, length-firsts, long)
-
-      reset-values : (x : ℕ) → resetBy (variables (p .assertion .system)) (valuationOf cells₂) x ≡ firstOf (valuationOf cells₂ x) (getElem? (firstsIn rows) x)
-      reset-values x = rw held (reset-first (variables (p .assertion .system)) (valuationOf cells₂) x)
-
-      reset-known : valuationOf cells₃ ≡ resetBy (variables (p .assertion .system)) (valuationOf cells₂)
-      reset-known =
-          fun-ext (λ x. ap (λ l. valuationOf l x) reset ∙ filled-known (firstsIn rows) cells₂ fits numbers x ∙ sym (reset-values x))
-
-      finishes : (o : Option Fault) → faultOf (variables (p .assertion .system)) (valuationOf cells₃) (effects (p .assertion .system .assertion) (valuationOf cells₃)) ≡ o
-          → settle (p .assertion .system) ss
-          ≡ finishedBy (e .count) (cells (resetBy (variables (p .assertion .system)) (valuationOf cells₂)) (length (variables (p .assertion .system))) 0) o
-      unfolding settledFrom reachedIn finish
-      finishes o q = rw (settles, rested, ← reset-known, q)
-
-      pub refused-at-end : (f : Fault) → x ≡ Faulty f
-          → answered (Refused f) old ≡ flowsBySettling (length ss) old (settle (p .assertion .system) ss)
-      unfolding flowsBySettling finishedBy
-      refused-at-end f q = rw (finishes (some f) (finding-faulty _ f (sym found ∙ q)))
-
-      settled-cells : cells (resetBy (variables (p .assertion .system)) (valuationOf cells₂)) (length (variables (p .assertion .system))) 0 ≡ take (length rows) cells₃
-      settled-cells =
-          rw (reset, ← row-count (variables (p .assertion .system)) (p .assertion .rowsHeld), ← length-firsts)
-          (filled-cells (resetBy (variables (p .assertion .system)) (valuationOf cells₂)) (firstsIn rows) cells₂ 0 fits
-          (λ k l. let z : 0 + k ≡ k = omega arith in rw z (reset-values k)))
-
-      settled-whole : x ≡ Clear → settle (p .assertion .system) ss ≡ settled (e .count) (take (length rows) cells₃)
-      unfolding finishedBy
-      settled-whole q = finishes none (finding-clear _ (sym found ∙ q)) ∙ ap (settled (e .count)) settled-cells
-
-      -- the part of the cells that the flows are
-      part-numbers : AllRepresentable (take (length rows - length ss) (drop (length ss) cells₃))
-      part-numbers y l =
-          let u : y < length rows - length ss = omega (arith, length-part cells₂ cells₃ long reset, rows-cells) in
-          rw (getD-take (length rows - length ss) (drop (length ss) cells₃) y (pos 0) u, getD-drop (length ss) cells₃ y (pos 0), reset)
-          (filled-numbers (firstsIn rows) cells₂ numbers fits (length ss + y) (omega (arith, length-firsts, rows-cells)))
-
-      pub settled-at-end : (new : List ℤ) → new ≡ replacedBy (take (length rows - length ss) (drop (length ss) cells₃)) old → x ≡ Clear
-          → answered (Settled (e .count)) new ≡ flowsBySettling (length ss) old (settle (p .assertion .system) ss)
-      unfolding flowsBySettling
-      settled-at-end new q c =
-          rw (settled-whole c) (ap (answered (Settled (e .count)))
-          (q ∙ ap (take (length old)) (filled-all old _ part-numbers) ∙ take-all (length old) _ (omega (arith, length-part cells₂ cells₃ long reset))
-          ∙ sym (drop-take (length ss) (length rows) cells₃)))
+    -- what follows is what settles
+    pub rested-in-rounds : (e : Rest) → r ≡ Rested e → (x : Propagated) (new : List ℤ)
+        → answered x new
+        ≡ flowsBySettling (length ss) old (settledFrom (variables (p .assertion .system)) (p .assertion .system .assertion) (reached (e .count) (valuationOf cells₂)))
+        → answered x new ≡ flowsBySettling (length ss) old (settle (p .assertion .system) ss)
+    unfolding reachedIn
+    rested-in-rounds e q x new h =
+        h
+        ∙ ap (flowsBySettling (length ss) old) (sym (settles ∙ ap (λ r. settledFrom (variables (p .assertion .system)) (p .assertion .system .assertion) (reachedIn r cells₂)) q))

@@ -7,13 +7,13 @@ ghost use Rattle.results.specs.Results.{answered, over};
 ghost use Rattle.scratch.specs.Blank.{BlankGathering, BlankCells};
 ghost use Rattle.model.specs.Trees as trees;
 ghost use Rattle.variables.specs.Rows.{firstsIn};
-ghost use Rattle.interpreter.specs.Instructions.{effects, faultOf};
 ghost use Rattle.interpreter.specs.Gathering.{faultIn};
 ghost use Rattle.expressions.specs.Cells.{valuationOf};
 ghost use Rattle.semantics.specs.Actions as actions;
-ghost use Rattle.semantics.specs.Propagation.{settle};
+ghost use Rattle.semantics.specs.Propagation.{settledFrom, settle};
+ghost use Rattle.semantics.specs.Propagation.Reached.{reached};
 ghost use Rattle.waiting.specs.Index.{Indexed};
-ghost use Rattle.rounds.specs.Cells.{findingOf, AssertionStands};
+ghost use Rattle.rounds.specs.Cells.{AssertionStands};
 ghost use Rattle.rounds.specs.Rounds.{Resting};
 ghost use Rattle.propagation.specs.Cells.{Fits, AllRepresentable, filled, flowsBySettling, CountWithin, changedBy, statesByActing, PropagationStands, ActionStands};
 use interpreter::Gathered;
@@ -103,25 +103,27 @@ fn change(found: Gathered, given: &[i64], states: &mut [i32]) -> Finding
     }
 }
 
-// After the rounds: flows still unknown take their first values, and what still waits is read once more.
+// After the rounds: flows still unknown take their first values, and what still waits is read once more. The flows are written only where
+// that finds no fault.
 fn finish(
     kinds: &[u8],
     parameters: &[i32],
     nexts: &[u16],
     variables: &[[i32; 3]],
     assertion: usize,
+    states: usize,
     cells: &mut [i64],
     given: &mut [i64],
     queue: &mut [u16],
     waits: &mut [u16],
+    flows: &mut [i32],
     rest: Rest,
-) -> Finding
-    requires { ⌜ AssertionStands (now kinds) (now parameters) (now nexts) (now variables) assertion
+) -> Propagated
+    requires { ⌜ PropagationStands (now kinds) (now parameters) (now nexts) (now variables) assertion states (length (now flows))
         × Fits (length (now variables)) (length (now kinds)) (now cells) (now given) (now queue) (now waits)
         × ((a : AssertionStands (now kinds) (now parameters) (now nexts) (now variables) assertion) → Resting (now kinds) (now parameters) (now nexts) (now variables) assertion a (now cells) (now waits) rest) ⌝ }
-    ensures { λ r. ⌜ ((a : AssertionStands (now (kinds .entry)) (now (parameters .entry)) (now (nexts .entry)) (now (variables .entry)) assertion)
-        → r ≡ findingOf (faultOf (trees.variables (a .system)) (valuationOf (now (cells .exit))) (effects (a .system .assertion) (valuationOf (now (cells .exit))))))
-        × (now (cells .exit) ≡ filled (firstsIn (now (variables .entry))) (now (cells .entry))) × AllRepresentable (firstsIn (now (variables .entry))) ⌝ }
+    ensures { λ r. ⌜ ((p : PropagationStands (now (kinds .entry)) (now (parameters .entry)) (now (nexts .entry)) (now (variables .entry)) assertion states (length (now (flows .entry))))
+        → answered r (now (flows .exit)) ≡ flowsBySettling states (now (flows .entry)) (settledFrom (trees.variables (p .assertion .system)) (p .assertion .system .assertion) (reached (rest .count) (valuationOf (now (cells .entry)))))) ⌝ }
 {
     fill(variables, cells);
     update(cells, given);
@@ -145,7 +147,14 @@ fn finish(
         (rest.count + 1) as u16,
     );
     let found = end.found;
-    rounds::fault_in(found)
+    match rounds::fault_in(found) {
+        Finding::Faulty(fault) => Propagated::Refused(fault),
+        Finding::Clear => {
+            let n = variables.len();
+            replace(&cells[states..n], flows);
+            Propagated::Settled(rest.count)
+        }
+    }
 }
 
 // The assertion over these states: the rounds, then the end. The cells that it works in are left as they come.
@@ -187,28 +196,20 @@ fn settle_flows(
         waits,
     ) {
         Ended::Refused(fault) => Propagated::Refused(fault),
-        Ended::Rested(rest) => {
-            match finish(
-                kinds,
-                parameters,
-                nexts,
-                variables,
-                assertion,
-                cells,
-                given,
-                queue,
-                waits,
-                rest,
-            ) {
-                Finding::Faulty(fault) => Propagated::Refused(fault),
-                Finding::Clear => {
-                    let s = states.len();
-                    let n = variables.len();
-                    replace(&cells[s..n], flows);
-                    Propagated::Settled(rest.count)
-                }
-            }
-        }
+        Ended::Rested(rest) => finish(
+            kinds,
+            parameters,
+            nexts,
+            variables,
+            assertion,
+            states.len(),
+            cells,
+            given,
+            queue,
+            waits,
+            flows,
+            rest,
+        ),
     }
 }
 

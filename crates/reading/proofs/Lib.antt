@@ -1,5 +1,6 @@
 -- Proofs of crate `reading`: what the functions are proved by.
 mod Marking
+mod Noting
 mod Giving
 mod Walking
 mod Reading

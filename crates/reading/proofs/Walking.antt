@@ -1,5 +1,6 @@
 -- One node of an instruction: what `assignment`, `test` and `step` ask and give.
-use mathlib.Core.Path.{_≡_, sym, ap, subst, _∙_}
+use mathlib.Core.Path.{_≡_, refl, sym, ap, subst, _∙_}
+use mathlib.Core.Logic.{_⊎_, inl, inr, ⊎-elim}
 use mathlib.Core.Bool.{true, false}
 use mathlib.Core.List.{List, [], _∷_, _++_, append-nil}
 use Prim.Native.Nat.{ℕ, suc, _+_, _-_, _<_, _^_}
@@ -9,9 +10,12 @@ use lib.Signed.{mag}
 use lib.ListN.{length, getD, set, take}
 use mir.Syntax.{w32}
 use mir.Val.{toZ, ofZ}
+use types.Run.{OneOf, miss}
+use denote.Enum.Declared.{tagOf}
 use Rattle.evaluation.specs.declared.Evaluation.{Evaluation}
 use Rattle.evaluation.specs.declared.Evaluation.the-variants.{Unknown, Failed, Value}
 use Rattle.evaluation.specs.Numbers.{eqZ, boolean}
+use Rattle.evaluation.proofs.Evaluation.{the-type}
 use Rattle.evaluation.proofs.Signed.{read-back}
 use Rattle.model.specs.Trees.{Expression, Instruction, count}
 use Rattle.model.specs.Trees.Instruction.{skip, assign, ifThen, block}
@@ -23,12 +27,22 @@ use Rattle.expressions.proofs.Evaluating.{Told}
 use Rattle.interpreter.specs.Instructions.{assigned, under}
 use Rattle.interpreter.specs.Instructions.Effect.{gives}
 use Rattle.interpreter.specs.Cells.{NextPlaces, AssignmentStands, TestStands, TargetsBelow}
-use Rattle.interpreter.specs.Gathering.{gathering, failing, gather, gatherAll, atOnce, dueAfter, chosenBranch}
+use Rattle.interpreter.specs.Gathering.{gathering, gather, gatherAll, atOnce, dueAfter, chosenBranch}
 use Rattle.interpreter.proofs.Due.{instruction-within}
 use Rattle.waiting.specs.declared.Progress.{Progress}
 use Rattle.waiting.specs.News.{newsOf}
-use Rattle.waiting.specs.Marks.{markCount, markAtOnce, stampOf}
-use Rattle.reading.specs.Readings.{Held, Walked, held, walked, walkedBy}
+use Rattle.waiting.specs.Marks.{markAtOnce, stampOf}
+use Rattle.reading.specs.Readings.{foundBy, Held, Walked, held, walked, walkedBy}
+use Rattle.reading.proofs.Noting.{Notes}
+
+-- what is no value is unknown or failed
+abbrev allButValue : List ℕ
+allButValue = 0 ∷ 1 ∷ []
+
+no-value : (v : Evaluation) → OneOf allButValue (tagOf the-type v) → (v ≡ Unknown) ⊎ (v ≡ Failed)
+no-value Unknown h = inl refl
+no-value Failed h = inr refl
+no-value (Value v) h = absurd (miss allButValue 2 tt h)
 
 module _ (ks : List ℕ) (ps : List ℤ) where
   -- ---- what an assignment and an if-then ask
@@ -59,12 +73,9 @@ module _ (ks : List ℕ) (ps : List ℤ) where
   -- ---- what they give
 
   module _ (σ : Valuation) (at round : ℕ) (start : Progress) (waits : List ℕ) {r : Evaluated} (told : Told ks ps σ r (at + 1)) where
-    -- what `mark` and `fail` promise
-    abbrev Marks : ℕ → Progress → List ℕ → Type 0
-    Marks stamp after waits′ = (waits′ ≡ set waits at stamp) × (after .found ≡ start .found) × (after .queued ≡ start .queued) × (after .pending ≡ markCount waits′)
-
-    abbrev Fails : Progress → Progress → Type 0
-    Fails before after = (after .found ≡ failing (before .found)) × (after .queued ≡ before .queued) × (after .pending ≡ before .pending)
+    -- what `note` promises
+    abbrev Noted : Progress → List ℕ → Type 0
+    Noted = Notes at round start waits (r .evaluation)
 
     module _ (lows highs given : List ℤ) (queue : List ℕ) where
       -- one node done
@@ -82,29 +93,33 @@ module _ (ks : List ℕ) (ps : List ℤ) where
         unfolding InstructionAt
         value p = sym (ap (λ r. r .evaluation) (told e (h .1))) ∙ p
 
-      pub assigned-unknown : r .evaluation ≡ Unknown → {after : Progress} {waits′ : List ℕ} → Marks round after waits′
+      assigned-unknown : r .evaluation ≡ Unknown → {after : Progress} {waits′ : List ℕ} → Noted after waits′
           → (x : ℕ) (e : Expression) → InstructionAt ks ps (assign x e) at → Walks after given queue waits′ (r .next .at) 0 (assign x e)
-      unfolding walkedBy atOnce dueAfter sizeOf sizeOfAll count gatherAll assigned newsOf markAtOnce stampOf
-      assigned-unknown p m x e h = rw (m .0, m .1, m .2, value x e h p, place x e h, append-nil (take (start .queued) queue))
+      unfolding walkedBy atOnce dueAfter sizeOf sizeOfAll count gatherAll assigned newsOf markAtOnce stampOf foundBy
+      assigned-unknown p m x e h = rw (m .0, m .1, m .2, p, value x e h p, place x e h, append-nil (take (start .queued) queue))
 
-      pub assigned-failed : r .evaluation ≡ Failed → {now after : Progress} {waits′ : List ℕ} → Marks 0 now waits′ → Fails now after
+      assigned-failed : r .evaluation ≡ Failed → {after : Progress} {waits′ : List ℕ} → Noted after waits′
           → (x : ℕ) (e : Expression) → InstructionAt ks ps (assign x e) at → Walks after given queue waits′ (r .next .at) 0 (assign x e)
-      unfolding walkedBy atOnce dueAfter sizeOf sizeOfAll count gatherAll gather assigned newsOf markAtOnce stampOf
-      assigned-failed p m f x e h = rw (f .0, f .1, m .0, m .1, m .2, value x e h p, place x e h, append-nil (take (start .queued) queue))
+      unfolding walkedBy atOnce dueAfter sizeOf sizeOfAll count gatherAll gather assigned newsOf markAtOnce stampOf foundBy
+      assigned-failed p m x e h = rw (m .0, m .1, m .2, p, value x e h p, place x e h, append-nil (take (start .queued) queue))
+
+      pub assigned-nothing : OneOf allButValue (tagOf the-type (r .evaluation)) → {after : Progress} {waits′ : List ℕ} → Noted after waits′
+          → (x : ℕ) (e : Expression) → InstructionAt ks ps (assign x e) at → Walks after given queue waits′ (r .next .at) 0 (assign x e)
+      assigned-nothing k m x e h = ⊎-elim (λ p. assigned-unknown p m x e h) (λ p. assigned-failed p m x e h) (no-value (r .evaluation) k)
 
       pub assigned-value : {v : ℤ} → mag v < 2 ^ 31 → r .evaluation ≡ Value v → mag (getD ps at (pos 0)) < 2 ^ 31
-          → {y : ℕ} → y ≡ natAbs (toZ w32 (ofZ w32 (getD ps at (pos 0)))) → {now : Progress} {waits′ : List ℕ} → Marks 0 now waits′ → (after : Progress) (queue′ : List ℕ) {given′ : List ℤ}
+          → {y : ℕ} → y ≡ natAbs (toZ w32 (ofZ w32 (getD ps at (pos 0)))) → {now : Progress} {waits′ : List ℕ} → Noted now waits′ → (after : Progress) (queue′ : List ℕ) {given′ : List ℤ}
           → gathering (after .found) given′ ≡ gather lows highs (gives y (toZ w32 (ofZ w32 v))) (gathering (now .found) given)
           → take (after .queued) queue′ ≡ take (now .queued) queue ++ newsOf (gives y (toZ w32 (ofZ w32 v)) ∷ []) given
           → (x : ℕ) (e : Expression) → InstructionAt ks ps (assign x e) at → Walks after given′ queue′ waits′ (r .next .at) 0 (assign x e)
-      unfolding InstructionAt walkedBy atOnce dueAfter sizeOf sizeOfAll count gatherAll assigned markAtOnce stampOf
+      unfolding InstructionAt walkedBy atOnce dueAfter sizeOf sizeOfAll count gatherAll assigned markAtOnce stampOf foundBy
       assigned-value {v} f p g {y} k {waits′} m after queue′ {given′} t n x e h =
           let q : y ≡ x = k ∙ ap natAbs (read-back (getD ps at (pos 0)) g ∙ h .0 .parameter) in
           let gs : gathering (after .found) given′ ≡ gatherAll lows highs (assigned x (evaluate e σ)) (gathering (start .found) given) =
-          t ∙ rw (q, read-back v f, m .1, value x e h p) in
+          t ∙ rw (q, read-back v f, m .1, p, value x e h p) in
           let ns : take (after .queued) queue′ ≡ take (start .queued) queue ++ newsOf (assigned x (evaluate e σ)) given =
           n ∙ rw (q, read-back v f, m .2, value x e h p) in
-          let ws : waits′ ≡ set waits at (stampOf (evaluate e σ) round) = m .0 ∙ rw (value x e h p) in
+          let ws : waits′ ≡ set waits at (stampOf (evaluate e σ) round) = m .0 ∙ rw (p, value x e h p) in
           λ j. walked (record { gathered = gs j; news = ns j; waits = ws j }) (place x e h j) 0
 
       module _ (c : Expression) (i : Instruction) (h : InstructionAt ks ps (ifThen c i) at) where
@@ -124,25 +139,29 @@ module _ (ks : List ℕ) (ps : List ℤ) where
         place-past nexts places = places .instruction i (r .next .at) (subst (λ n. InstructionAt ks ps i n) (sym body-place) (h .2)) ∙ omega (arith, body-place)
 
       module _ (nexts : List ℕ) (places : NextPlaces ks ps nexts) where
-        pub tested-unknown : r .evaluation ≡ Unknown → {after : Progress} {waits′ : List ℕ} → Marks round after waits′
+        tested-unknown : r .evaluation ≡ Unknown → {after : Progress} {waits′ : List ℕ} → Noted after waits′
             → (c : Expression) (i : Instruction) → InstructionAt ks ps (ifThen c i) at → Walks after given queue waits′ (getD nexts (r .next .at) 0) 0 (ifThen c i)
-        unfolding walkedBy atOnce dueAfter chosenBranch sizeOf sizeOfAll count gatherAll under newsOf markAtOnce stampOf
-        tested-unknown p m c i h = rw (m .0, m .1, m .2, condition c i h p, place-past c i h nexts places, append-nil (take (start .queued) queue))
+        unfolding walkedBy atOnce dueAfter chosenBranch sizeOf sizeOfAll count gatherAll under newsOf markAtOnce stampOf foundBy
+        tested-unknown p m c i h = rw (m .0, m .1, m .2, p, condition c i h p, place-past c i h nexts places, append-nil (take (start .queued) queue))
 
-        pub tested-failed : r .evaluation ≡ Failed → {now after : Progress} {waits′ : List ℕ} → Marks 0 now waits′ → Fails now after
+        tested-failed : r .evaluation ≡ Failed → {after : Progress} {waits′ : List ℕ} → Noted after waits′
             → (c : Expression) (i : Instruction) → InstructionAt ks ps (ifThen c i) at → Walks after given queue waits′ (getD nexts (r .next .at) 0) 0 (ifThen c i)
-        unfolding walkedBy atOnce dueAfter chosenBranch sizeOf sizeOfAll count gatherAll gather under newsOf markAtOnce stampOf
-        tested-failed p m f c i h = rw (f .0, f .1, m .0, m .1, m .2, condition c i h p, place-past c i h nexts places, append-nil (take (start .queued) queue))
+        unfolding walkedBy atOnce dueAfter chosenBranch sizeOf sizeOfAll count gatherAll gather under newsOf markAtOnce stampOf foundBy
+        tested-failed p m c i h = rw (m .0, m .1, m .2, p, condition c i h p, place-past c i h nexts places, append-nil (take (start .queued) queue))
 
-        pub tested-false : {v : ℤ} → r .evaluation ≡ Value v → eqZ v (boolean true) ≡ false → {after : Progress} {waits′ : List ℕ} → Marks 0 after waits′
+        pub tested-nothing : OneOf allButValue (tagOf the-type (r .evaluation)) → {after : Progress} {waits′ : List ℕ} → Noted after waits′
             → (c : Expression) (i : Instruction) → InstructionAt ks ps (ifThen c i) at → Walks after given queue waits′ (getD nexts (r .next .at) 0) 0 (ifThen c i)
-        unfolding walkedBy atOnce dueAfter chosenBranch sizeOf sizeOfAll count gatherAll under newsOf markAtOnce stampOf
-        tested-false p t m c i h = rw (m .0, m .1, m .2, condition c i h p, t, place-past c i h nexts places, append-nil (take (start .queued) queue))
+        tested-nothing k m c i h = ⊎-elim (λ p. tested-unknown p m c i h) (λ p. tested-failed p m c i h) (no-value (r .evaluation) k)
 
-      pub tested-true : {v : ℤ} → r .evaluation ≡ Value v → eqZ v (boolean true) ≡ true → {after : Progress} {waits′ : List ℕ} → Marks 0 after waits′
+        pub tested-false : {v : ℤ} → r .evaluation ≡ Value v → eqZ v (boolean true) ≡ false → {after : Progress} {waits′ : List ℕ} → Noted after waits′
+            → (c : Expression) (i : Instruction) → InstructionAt ks ps (ifThen c i) at → Walks after given queue waits′ (getD nexts (r .next .at) 0) 0 (ifThen c i)
+        unfolding walkedBy atOnce dueAfter chosenBranch sizeOf sizeOfAll count gatherAll under newsOf markAtOnce stampOf foundBy
+        tested-false p t m c i h = rw (m .0, m .1, m .2, p, condition c i h p, t, place-past c i h nexts places, append-nil (take (start .queued) queue))
+
+      pub tested-true : {v : ℤ} → r .evaluation ≡ Value v → eqZ v (boolean true) ≡ true → {after : Progress} {waits′ : List ℕ} → Noted after waits′
           → (c : Expression) (i : Instruction) → InstructionAt ks ps (ifThen c i) at → Walks after given queue waits′ (r .next .at) 1 (ifThen c i)
-      unfolding walkedBy atOnce dueAfter chosenBranch sizeOf sizeOfAll count gatherAll under newsOf markAtOnce stampOf
-      tested-true p t m c i h = rw (m .0, m .1, m .2, condition c i h p, t, body-due c i h, append-nil (take (start .queued) queue))
+      unfolding walkedBy atOnce dueAfter chosenBranch sizeOf sizeOfAll count gatherAll under newsOf markAtOnce stampOf foundBy
+      tested-true p t m c i h = rw (m .0, m .1, m .2, p, condition c i h p, t, body-due c i h, append-nil (take (start .queued) queue))
 
   -- ---- any instruction, by its kind
 

@@ -3,14 +3,22 @@ use mathlib.Core.List.{List, _++_}
 use Prim.Native.Nat.{ℕ, _+_, _-_}
 use lib.IntN.{ℤ}
 use lib.ListN.{take}
+use Rattle.evaluation.specs.declared.Evaluation.{Evaluation}
+use Rattle.evaluation.specs.declared.Evaluation.the-variants.{Unknown, Failed, Value}
 use Rattle.model.specs.Trees.{Instruction, count}
 use Rattle.model.specs.Standing.{sizeOf, sizeOfAll}
 use Rattle.expressions.specs.Expressions.{Valuation}
 use Rattle.interpreter.specs.declared.Gathered.{Gathered}
 use Rattle.interpreter.specs.Instructions.{effects}
-use Rattle.interpreter.specs.Gathering.{Gathering, gathering, gatherAll, atOnce, dueAfter}
+use Rattle.interpreter.specs.Gathering.{Gathering, gathering, failing, gatherAll, atOnce, dueAfter}
 use Rattle.waiting.specs.News.{newsOf}
 use Rattle.waiting.specs.Marks.{marked, markAtOnce}
+
+-- the flags, once an expression came to this
+unfoldable pub foundBy : Evaluation → Gathered → Gathered
+foundBy Unknown found = found
+foundBy Failed found = failing found
+foundBy (Value v) found = found
 
 -- what a reading changes: the flags and the values given, the flows queued so far, and the marks
 pub record Held : Type 0 where

@@ -15,8 +15,8 @@ ghost use Rattle.interpreter.specs.Cells.{InstructionStands, AssignmentStands, 
 ghost use Rattle.interpreter.specs.Gathering as specs;
 ghost use Rattle.interpreter.specs.Gathering.{gathering, failing};
 ghost use Rattle.waiting.specs.News.{newsOf, Room};
-ghost use Rattle.waiting.specs.Marks.{isMarked, markCount};
-ghost use Rattle.reading.specs.Readings.{held, readBy, walked, walkedBy};
+ghost use Rattle.waiting.specs.Marks.{stampOf, isMarked, markCount};
+ghost use Rattle.reading.specs.Readings.{foundBy, held, readBy, walked, walkedBy};
 use evaluation::Evaluation;
 use interpreter::instructions;
 use syntax::Cursor;
@@ -81,6 +81,27 @@ fn mark(waits: &mut [u16], at: usize, stamp: u16, start: Progress) -> Progress
     }
 }
 
+// What came of the own expression of the instruction at place `at`: it waits where that is unknown, and something may have failed.
+fn note(
+    waits: &mut [u16],
+    at: usize,
+    round: u16,
+    evaluation: Evaluation,
+    start: Progress,
+) -> Progress
+    requires { ⌜ (at < length (now waits)) × (start .pending ≡ markCount (now waits)) ⌝ }
+    ensures { λ r. ⌜ (now (waits .exit) ≡ set (now (waits .entry)) at (stampOf evaluation round)) × (r .found ≡ foundBy evaluation (start .found)) × (r .queued ≡ start .queued) × (r .pending ≡ markCount (now (waits .exit))) ⌝ }
+{
+    match evaluation {
+        Evaluation::Unknown => mark(waits, at, round, start),
+        Evaluation::Failed => {
+            let now = mark(waits, at, 0, start);
+            fail(now)
+        }
+        Evaluation::Value(_) => mark(waits, at, 0, start),
+    }
+}
+
 // An active assignment gives the variable a value; a variable that had none is queued.
 fn give(
     variables: &[[i32; 3]],
@@ -138,34 +159,20 @@ fn assignment(
     let r = expressions::evaluate(kinds, parameters, cells, Cursor { at: at + 1 });
     let evaluation = r.evaluation;
     let next = r.next.at;
-    match evaluation {
-        Evaluation::Unknown => {
-            let progress = mark(waits, at, round, start);
-            Walk {
-                progress,
-                next,
-                due: 0,
-            }
-        }
-        Evaluation::Failed => {
-            let now = mark(waits, at, 0, start);
-            let progress = fail(now);
-            Walk {
-                progress,
-                next,
-                due: 0,
-            }
-        }
-        Evaluation::Value(value) => {
-            let now = mark(waits, at, 0, start);
-            let variable = nodes::magnitude(parameters[at]);
-            let progress = give(variables, given, queue, variable, value, now);
-            Walk {
-                progress,
-                next,
-                due: 0,
-            }
-        }
+    let now = note(waits, at, round, evaluation, start);
+    if let Evaluation::Value(value) = evaluation {
+        let variable = nodes::magnitude(parameters[at]);
+        let progress = give(variables, given, queue, variable, value, now);
+        return Walk {
+            progress,
+            next,
+            due: 0,
+        };
+    }
+    Walk {
+        progress: now,
+        next,
+        due: 0,
     }
 }
 
@@ -190,40 +197,20 @@ fn test(
     let condition = r.evaluation;
     let body = r.next.at;
     let past = nexts[body] as usize;
-    match condition {
-        Evaluation::Unknown => {
-            let progress = mark(waits, at, round, start);
-            Walk {
+    let progress = note(waits, at, round, condition, start);
+    if let Evaluation::Value(value) = condition {
+        if value == 1 {
+            return Walk {
                 progress,
-                next: past,
-                due: 0,
-            }
+                next: body,
+                due: 1,
+            };
         }
-        Evaluation::Failed => {
-            let now = mark(waits, at, 0, start);
-            let progress = fail(now);
-            Walk {
-                progress,
-                next: past,
-                due: 0,
-            }
-        }
-        Evaluation::Value(value) => {
-            let progress = mark(waits, at, 0, start);
-            if value == 1 {
-                Walk {
-                    progress,
-                    next: body,
-                    due: 1,
-                }
-            } else {
-                Walk {
-                    progress,
-                    next: past,
-                    due: 0,
-                }
-            }
-        }
+    }
+    Walk {
+        progress,
+        next: past,
+        due: 0,
     }
 }
 

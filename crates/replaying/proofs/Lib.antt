@@ -4,5 +4,6 @@ pub mod Outcomes
 pub mod Written
 pub mod Longer
 pub mod Ends
+pub mod Entries
 pub mod Refiring
 pub mod Slices

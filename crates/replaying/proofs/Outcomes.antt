@@ -53,21 +53,3 @@ module _ (m : Meaning) (P : Left → Type 0) (old : List ℤ) (refusal : (f : Fi
   begun-left ss =
       by-test P (ltb (length old) (length (m .declarations)) || not (eqb (length ss) (m .states))) _ _ (λ e. refusal Disabled refl)
       (λ e. settling-cases (ltb-false (length old) (length (m .declarations)) (neither _ _ e .0)) ss (m .propagate ss) refl)
-
--- a refused firing leaves the values as they were
-abbrev pub Kept : List ℤ → Left → Type 0
-Kept old l = cond (isFired (l .answer)) (l .left) old ≡ l .left
-
-module _ (m : Meaning) (old : List ℤ) where
-  refused-kept : (f : Firing) → isFired f ≡ false → Kept old (answered f old)
-  refused-kept f e = rw e
-
-  settled-kept : length (m .declarations) ≤ length old → (k : ℕ) (new ss : List ℤ) → m .propagate ss ≡ settled k new → Kept old (answered (Fired k) (over new old))
-  unfolding isFired
-  settled-kept enough k new ss e = refl
-
-  pub fired-kept : (t : ℕ) → Kept old (fired m t old)
-  fired-kept = fired-left m (Kept old) old refused-kept settled-kept
-
-  pub begun-kept : (ss : List ℤ) → Kept old (begun m ss old)
-  begun-kept = begun-left m (Kept old) old refused-kept settled-kept

@@ -2,4 +2,4 @@
 -- 01's own:
 pub mod Replays
 -- how the code goes about it:
-pub mod Outcomes
+pub mod Moves

@@ -1,20 +1,24 @@
-// Starting from the initial states, and firing recorded transitions again, on a decoded model.
+// Starting from the initial states, and firing transitions one after another, on a decoded model.
 
 ghost use mathlib.Core.Path.{_≡_};
-ghost use Prim.Native.Nat.{_≤_};
-ghost use lib.IntN.{pos};
-ghost use lib.ListN.{length, take, replicate};
+ghost use Prim.Native.Nat.{_<_};
+ghost use lib.ListN.{length, getD};
 ghost use Rattle.results.specs.Results.{answered};
 ghost use Rattle.scratch.specs.Blank.{BlankFiring};
-ghost use Rattle.semantics.specs.Firing.{begun};
 ghost use Rattle.waiting.specs.Index.{Indexed};
 ghost use Rattle.engine.specs.Cells.{Loaded, OnLoaded};
-ghost use Rattle.replaying.specs.Replays as specs;
-ghost use Rattle.replaying.specs.Replays.{isFired, initial};
-ghost use Rattle.replaying.specs.Outcomes.{resultOf, replayedOver};
+ghost use Rattle.replaying.specs.Replays.{isFired};
+ghost use Rattle.replaying.specs.Moves.{isBeginning, entered, entries, entryCount, firedAll, moved};
 use engine::transitions;
 use model::Model;
 use semantics::Firing;
+
+// What is done with the values and the marks of a run.
+pub enum Move {
+    Start,
+    Fire(usize),
+    Undo,
+}
 
 // Does a call go on: was the transition fired.
 pub fn is_fired(firing: Firing) -> bool
@@ -29,8 +33,42 @@ pub fn is_fired(firing: Firing) -> bool
     }
 }
 
-// Begins from the initial states.
-pub fn begin(
+// Does the move begin from the initial states.
+fn is_beginning(step: Move) -> bool
+    ensures { λ r. ⌜ r ≡ isBeginning step ⌝ }
+{
+    match step {
+        Move::Start => true,
+        Move::Fire(_) => false,
+        Move::Undo => true,
+    }
+}
+
+// How many transitions the move fires.
+fn entry_count(step: Move, n: usize) -> usize
+    ensures { λ r. ⌜ r ≡ entryCount step n ⌝ }
+{
+    match step {
+        Move::Start => 0,
+        Move::Fire(_) => 1,
+        Move::Undo => { if n == 0 { 0 } else { n - 1 } }
+    }
+}
+
+// The transition that the move fires in its turn.
+fn entry_at(step: Move, history: &[u8], n: usize, i: usize) -> usize
+    requires { ⌜ i < length (entries step (now history) n) ⌝ }
+    ensures { λ r. ⌜ r ≡ getD (entries step (now (history .entry)) n) i 0 ⌝ }
+{
+    match step {
+        Move::Start => 0,
+        Move::Fire(transition) => transition,
+        Move::Undo => history[i] as usize,
+    }
+}
+
+// What the move goes on from: the initial states and the assertion over them, or the values as they are.
+fn enter(
     loaded: Model,
     kinds: &[u8],
     parameters: &[i32],
@@ -45,14 +83,18 @@ pub fn begin(
     queue: &mut [u16],
     waits: &mut [u16],
     values: &mut [i32],
+    step: Move,
 ) -> Firing
     requires { ⌜ Loaded loaded (now kinds) (now parameters) (now variables) (now nexts) (now guards) ⌝ }
     requires { ⌜ Indexed (now kinds) (now parameters) (loaded .assertion) (length (now variables)) (now heads) (now links)
         × BlankFiring (length (now variables)) (length (now kinds)) (now states) (now cells) (now given) (now queue) (now waits) ⌝ }
     ensures { λ r. ⌜ OnLoaded loaded (now (kinds .entry)) (now (parameters .entry)) (now (variables .entry)) (now (nexts .entry)) (now (guards .entry)) (λ m.
-        answered r (now (values .exit)) ≡ begun m (initial m) (now (values .entry)))
+        answered r (now (values .exit)) ≡ entered m step (now (values .entry)))
         × BlankFiring (length (now (variables .entry))) (length (now (kinds .entry))) (now (states .exit)) (now (cells .exit)) (now (given .exit)) (now (queue .exit)) (now (waits .exit)) ⌝ }
 {
+    if !is_beginning(step) {
+        return Firing::Fired(0);
+    }
     let s = loaded.sizes.states;
     variables::first_values(&variables[..s], states);
     let firing = transitions::begin(
@@ -75,7 +117,7 @@ pub fn begin(
     firing
 }
 
-// Fires the first `count` entries of the history again, over these values; stops at one that is refused.
+// The transitions of the move after what was fired first, up to the first that is refused.
 fn refire(
     loaded: Model,
     kinds: &[u8],
@@ -90,22 +132,29 @@ fn refire(
     given: &mut [i64],
     queue: &mut [u16],
     waits: &mut [u16],
-    history: &[u8],
-    count: usize,
     values: &mut [i32],
-) -> bool
+    history: &[u8],
+    n: usize,
+    step: Move,
+    first: Firing,
+) -> Firing
     requires { ⌜ Loaded loaded (now kinds) (now parameters) (now variables) (now nexts) (now guards) ⌝ }
     requires { ⌜ Indexed (now kinds) (now parameters) (loaded .assertion) (length (now variables)) (now heads) (now links)
         × BlankFiring (length (now variables)) (length (now kinds)) (now states) (now cells) (now given) (now queue) (now waits) ⌝ }
-    requires { ⌜ count ≤ length (now history) ⌝ }
+    requires { ⌜ entryCount step n ≡ length (entries step (now history) n) ⌝ }
     ensures { λ r. ⌜ OnLoaded loaded (now (kinds .entry)) (now (parameters .entry)) (now (variables .entry)) (now (nexts .entry)) (now (guards .entry)) (λ m.
-        resultOf r (now (values .exit)) ≡ specs.refire m (take count (now (history .entry))) (now (values .entry)))
+        answered r (now (values .exit)) ≡ firedAll m (entries step (now (history .entry)) n) (answered first (now (values .entry))))
         × BlankFiring (length (now (variables .entry))) (length (now (kinds .entry))) (now (states .exit)) (now (cells .exit)) (now (given .exit)) (now (queue .exit)) (now (waits .exit)) ⌝ }
 {
+    let count = entry_count(step, n);
+    let mut firing = first;
     let mut i = 0;
     while i < count {
-        let transition = history[i] as usize;
-        let firing = transitions::fire(
+        if !is_fired(firing) {
+            return firing;
+        }
+        let transition = entry_at(step, history, n, i);
+        let next = transitions::fire(
             loaded,
             kinds,
             parameters,
@@ -122,80 +171,13 @@ fn refire(
             values,
             transition,
         );
-        if !is_fired(firing) {
-            return false;
-        }
+        firing = next;
         i += 1;
     }
-    true
+    firing
 }
 
-// Starts again and fires the first `count` entries of the history, over these values; stops at a step that is refused.
-fn restart(
-    loaded: Model,
-    kinds: &[u8],
-    parameters: &[i32],
-    variables: &[[i32; 3]],
-    nexts: &[u16],
-    guards: &[u16],
-    heads: &[u16],
-    links: &[u16],
-    states: &mut [i32],
-    cells: &mut [i64],
-    given: &mut [i64],
-    queue: &mut [u16],
-    waits: &mut [u16],
-    history: &[u8],
-    count: usize,
-    values: &mut [i32],
-) -> bool
-    requires { ⌜ Loaded loaded (now kinds) (now parameters) (now variables) (now nexts) (now guards) ⌝ }
-    requires { ⌜ Indexed (now kinds) (now parameters) (loaded .assertion) (length (now variables)) (now heads) (now links)
-        × BlankFiring (length (now variables)) (length (now kinds)) (now states) (now cells) (now given) (now queue) (now waits) ⌝ }
-    requires { ⌜ count ≤ length (now history) ⌝ }
-    ensures { λ r. ⌜ OnLoaded loaded (now (kinds .entry)) (now (parameters .entry)) (now (variables .entry)) (now (nexts .entry)) (now (guards .entry)) (λ m.
-        resultOf r (now (values .exit)) ≡ specs.replay m (initial m) (take count (now (history .entry))) (now (values .entry)))
-        × BlankFiring (length (now (variables .entry))) (length (now (kinds .entry))) (now (states .exit)) (now (cells .exit)) (now (given .exit)) (now (queue .exit)) (now (waits .exit)) ⌝ }
-{
-    if !is_fired(begin(
-        loaded,
-        kinds,
-        parameters,
-        variables,
-        nexts,
-        guards,
-        heads,
-        links,
-        states,
-        cells,
-        given,
-        queue,
-        waits,
-        values,
-    )) {
-        return false;
-    }
-    refire(
-        loaded,
-        kinds,
-        parameters,
-        variables,
-        nexts,
-        guards,
-        heads,
-        links,
-        states,
-        cells,
-        given,
-        queue,
-        waits,
-        history,
-        count,
-        values,
-    )
-}
-
-// `restart` on a copy: the values are replaced only if nothing is refused.
+// The move over these values: what it goes on from, then its transitions.
 pub fn replay(
     loaded: Model,
     kinds: &[u8],
@@ -210,21 +192,20 @@ pub fn replay(
     given: &mut [i64],
     queue: &mut [u16],
     waits: &mut [u16],
-    history: &[u8],
-    count: usize,
-    copy: &mut [i32],
     values: &mut [i32],
-) -> bool
+    history: &[u8],
+    n: usize,
+    step: Move,
+) -> Firing
     requires { ⌜ Loaded loaded (now kinds) (now parameters) (now variables) (now nexts) (now guards) ⌝ }
     requires { ⌜ Indexed (now kinds) (now parameters) (loaded .assertion) (length (now variables)) (now heads) (now links)
         × BlankFiring (length (now variables)) (length (now kinds)) (now states) (now cells) (now given) (now queue) (now waits) ⌝ }
-    requires { ⌜ (count ≤ length (now history)) × (length (now variables) ≤ length (now values)) × (now copy ≡ replicate (length (now variables)) (pos 0)) ⌝ }
+    requires { ⌜ entryCount step n ≡ length (entries step (now history) n) ⌝ }
     ensures { λ r. ⌜ OnLoaded loaded (now (kinds .entry)) (now (parameters .entry)) (now (variables .entry)) (now (nexts .entry)) (now (guards .entry)) (λ m.
-        answered r (now (values .exit)) ≡ replayedOver (now (values .entry)) (specs.replay m (initial m) (take count (now (history .entry))) (now (values .entry))))
-        × BlankFiring (length (now (variables .entry))) (length (now (kinds .entry))) (now (states .exit)) (now (cells .exit)) (now (given .exit)) (now (queue .exit)) (now (waits .exit))
-        × (now (copy .exit) ≡ now (copy .entry)) ⌝ }
+        answered r (now (values .exit)) ≡ moved m step (now (history .entry)) n (now (values .entry)))
+        × BlankFiring (length (now (variables .entry))) (length (now (kinds .entry))) (now (states .exit)) (now (cells .exit)) (now (given .exit)) (now (queue .exit)) (now (waits .exit)) ⌝ }
 {
-    if !restart(
+    let first = enter(
         loaded,
         kinds,
         parameters,
@@ -238,14 +219,27 @@ pub fn replay(
         given,
         queue,
         waits,
+        values,
+        step,
+    );
+    refire(
+        loaded,
+        kinds,
+        parameters,
+        variables,
+        nexts,
+        guards,
+        heads,
+        links,
+        states,
+        cells,
+        given,
+        queue,
+        waits,
+        values,
         history,
-        count,
-        copy,
-    ) {
-        scratch::clear(copy);
-        return false;
-    }
-    propagation::store(copy, values);
-    scratch::clear(copy);
-    true
+        n,
+        step,
+        first,
+    )
 }

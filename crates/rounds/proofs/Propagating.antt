@@ -22,6 +22,7 @@ use Rattle.interpreter.specs.Gathering.{gathering, gatherAll, nothingFound, fau
 use Rattle.expressions.specs.Cells.{valuationOf}
 use Rattle.interpreter.specs.Cells.{InstructionStands, TargetsBelow}
 use Rattle.rounds.specs.Cells.{findingOf, AssertionStands}
+use Rattle.rounds.specs.Rounds.{Going}
 use Rattle.semantics.specs.Counting.{unknowns}
 use Rattle.semantics.proofs.Counting.{unknowns-bounded}
 use Rattle.semantics.proofs.Rounds.{round-falls, assertion-targets}
@@ -45,20 +46,12 @@ finding-clear (some g) e = let z : true ≡ false = cc in absurd (true≢false z
 -- ---- the rounds
 
 module _ (t : System) where
-  -- the rounds from these cells, so many being made, are those from the first cells, with fuel left for what is unknown
-  pub record Going (cells₀ cells : List ℤ) (count : ℕ) : Type 0 where
-    pub left : ℕ
-    pub same : rounds (variables t) (t .assertion) (suc (length (t .flows))) 0 (valuationOf cells₀)
-        ≡ rounds (variables t) (t .assertion) (suc left) count (valuationOf cells)
-    pub enough : unknowns (valuationOf cells) (length (t .flows)) (length (t .states)) ≤ left
-    pub bound : count + left ≤ length (t .flows)
-
-  pub going-begins : (cells : List ℤ) → Going cells cells 0
+  pub going-begins : (cells : List ℤ) → Going t cells cells 0
   going-begins cells =
       record { left = length (t .flows); same = refl; enough = unknowns-bounded (valuationOf cells) (length (t .flows)) (length (t .states)); bound = omega arith }
 
   -- one round, by whether it sets anything
-  module _ (wellFormed : WellFormed t) (cells₀ cells : List ℤ) (count : ℕ) (going : Going cells₀ cells count) (r : Gathered) (given : List ℤ)
+  module _ (wellFormed : WellFormed t) (cells₀ cells : List ℤ) (count : ℕ) (going : Going t cells₀ cells count) (r : Gathered) (given : List ℤ)
       (gathered : Gathers (variables t) (t .assertion) (valuationOf cells) (valuationOf cells) (gathering r given)) where
     pub round-rests : faultIn r ≡ none → r .fresh ≡ false
         → reached (count + 1) (valuationOf cells) ≡ rounds (variables t) (t .assertion) (suc (length (t .flows))) 0 (valuationOf cells₀)
@@ -72,14 +65,14 @@ module _ (t : System) where
         (round-falls (variables t) (t .assertion) first n
         (λ σ x v m. let h = assertion-targets t wellFormed σ x v m in (omega arith, omega arith)) (valuationOf cells) (sym (gathered .fresh) ∙ e))
 
-    pub round-goes : faultIn r ≡ none → r .fresh ≡ true → Going cells₀ given (count + 1)
+    pub round-goes : faultIn r ≡ none → r .fresh ≡ true → Going t cells₀ given (count + 1)
     unfolding rounds roundBy
     round-goes e n = go (going .left) (going .same) (going .enough) (going .bound)
       where
         go : (left : ℕ) → rounds (variables t) (t .assertion) (suc (length (t .flows))) 0 (valuationOf cells₀)
             ≡ rounds (variables t) (t .assertion) (suc left) count (valuationOf cells)
             → unknowns (valuationOf cells) (length (t .flows)) (length (t .states)) ≤ left → count + left ≤ length (t .flows)
-            → Going cells₀ given (count + 1)
+            → Going t cells₀ given (count + 1)
         go zero s h b = absurd (omega (arith, falls n (length (t .flows)) (length (t .states)) (omega arith) (omega arith)))
         go (suc left) s h b =
             record {

@@ -53,8 +53,8 @@ use Rattle.reading.specs.Readings.{held, readBy}
 use Rattle.rounds.specs.declared.Rest.{Rest}
 use Rattle.rounds.specs.declared.Ended.the-variants.{Refused, Rested}
 use Rattle.rounds.specs.Cells.{AssertionStands, reachedIn}
-use Rattle.rounds.specs.Rounds.{Pending, Queued, Waking, SomeWaking, StillWaking, Resting}
-use Rattle.rounds.proofs.Propagating.{Going, going-begins, round-goes, round-rests, length-variables, rows-counted, assertion-gathers}
+use Rattle.rounds.specs.Rounds.{Pending, Queued, Waking, SomeWaking, StillWaking, Resting, Going, Between, Turn, Unread, Unsettled, Ready}
+use Rattle.rounds.proofs.Propagating.{going-begins, round-goes, round-rests, length-variables, rows-counted, assertion-gathers}
 
 -- ---- the fault, the news and the values of a round over what was read are those over all instructions
 
@@ -171,29 +171,8 @@ module _ (ks : List ℕ) (ps : List ℤ) where
       let e = instruction-size i in
       omega (arith, e, nodes-end (nodesOf i) at (omega (arith, e, positive i)) (instruction-nodes ks ps i at h))
 
--- ---- between the rounds
+-- ---- the first reading
 
-module _ (ks : List ℕ) (ps : List ℤ) (nexts : List ℕ) (rows : List (List ℤ)) (at : ℕ) where
-  -- after a reading over the cells: what it found, what waits, and the rounds so far
-  pub record Between (cells₀ cells : List ℤ) (r : ℕ) (a : AssertionStands ks ps nexts rows at) (found : Gathered) (given : List ℤ) (waits : List ℕ) : Type 0 where
-    pub going : Going (a .system) cells₀ cells (r - 1)
-    pub first : 0 < r
-    pub fault : faultIn found ≡ faultOf (variables (a .system)) (valuationOf cells) (effects (a .system .assertion) (valuationOf cells))
-    pub fresh : found .fresh ≡ any (isNew (valuationOf cells)) (effects (a .system .assertion) (valuationOf cells))
-    pub after : faultIn found ≡ none → valuationOf given ≡ extended (effects (a .system .assertion) (valuationOf cells)) (valuationOf cells)
-    pub marked : Marked (a .system .assertion) at (valuationOf cells) waits
-    pub stamps : (p : ℕ) → getD waits p 0 ≤ r
-
-  -- at the head of the loop: the same for every assertion that stands there, the queue, and how many marks there are
-  pub record Turn (cells₀ cells given : List ℤ) (queue waits : List ℕ) (found : Gathered) (queued pending r done : ℕ) : Type 0 where
-    pub between : (a : AssertionStands ks ps nexts rows at) → Between cells₀ cells r a found given waits
-    pub owed : Pending queue done queued cells given
-    pub entries : Queued queue queued (length rows)
-    pub ordered : done ≤ queued
-    pub room : Room given queued queue
-    pub counted : pending ≡ markCount waits
-
--- the first reading
 module _ {ks : List ℕ} {ps : List ℤ} {nexts : List ℕ} {rows : List (List ℤ)} {at : ℕ} (some : AssertionStands ks ps nexts rows at)
     (cells given : List ℤ) (same : given ≡ cells) (empty : Gathered) (nothing : empty ≡ nothingFound) (queue waits : List ℕ) (blank : waits ≡ replicate (length ks) 0) (room : length rows ≤ length given)
     (found′ : Gathered) (given′ : List ℤ) (queued′ : ℕ) (queue′ waits′ : List ℕ)
@@ -232,7 +211,7 @@ module _ {ks : List ℕ} {ps : List ℤ} {nexts : List ℕ} {rows : List (List �
           stamps = λ p. subst (λ l. getD l p 0 ≤ 1) (sym m) (first-stamps (a .system .assertion) at (valuationOf cells) waits zeros p);
         }
 
-  pub turn-begins : {pending′ : ℕ} → length given′ ≡ length given → Room given′ queued′ queue′ → pending′ ≡ markCount waits′
+  turn-begins : {pending′ : ℕ} → length given′ ≡ length given → Room given′ queued′ queue′ → pending′ ≡ markCount waits′
       → Turn ks ps nexts rows at cells cells given′ queue′ waits′ found′ queued′ pending′ 1 0
   turn-begins l full counted =
       let n = rows-counted some in
@@ -346,7 +325,7 @@ module _ {ks : List ℕ} {ps : List ℤ} {nexts : List ℕ} {rows : List (List �
           (subst (λ f. Waking ks ps nexts rows at given (r + 1) a (valuationOf cells) (take queued queue) f given queued queue waits) (sym nothing)
           (waking-begins a (t .between a) clear queued queue long))
 
-      pub turn-wakes : SomeWaking ks ps nexts rows at cells′ (r + 1) empty given queued queue waits
+      turn-wakes : SomeWaking ks ps nexts rows at cells′ (r + 1) empty given queued queue waits
       turn-wakes = record { stands = some; valuation = valuationOf cells; before = take queued queue; waking = begins some }
 
       module _ (fresh : found .fresh ≡ true) (room : length rows ≤ length given) {found′ : Gathered} {given′ : List ℤ} {queued′ : ℕ} {queue′ waits′ : List ℕ} {pending′ : ℕ}
@@ -363,7 +342,7 @@ module _ {ks : List ℕ} {ps : List ℤ} {nexts : List ℕ} {rows : List (List �
         abbrev last-effects : List Effect
         last-effects = effectsOfEach (instructionsOf (over some .read)) (valuationOf given)
 
-        pub turn-goes : ((x : ℕ) → List·Memᴰ x (drop done (take queued queue)) → Passed ks ps at (r + 1) waits′ x) → length given′ ≡ length given
+        turn-goes : ((x : ℕ) → List·Memᴰ x (drop done (take queued queue)) → Passed ks ps at (r + 1) waits′ x) → length given′ ≡ length given
             → Turn ks ps nexts rows at cells₀ cells′ given′ queue′ waits′ found′ queued′ pending′ (r + 1) queued
         turn-goes passes l =
             let w = over some in
@@ -388,12 +367,56 @@ module _ {ks : List ℕ} {ps : List ℤ} {nexts : List ℕ} {rows : List (List �
               counted = still .counted;
             }
 
-    pub turn-falls : found .fresh ≡ true → unknowns (valuationOf cells′) (length rows) 0 < unknowns (valuationOf cells) (length rows) 0
-    turn-falls fresh =
-        subst (λ ρ. unknowns ρ (length rows) 0 < unknowns (valuationOf cells) (length rows) 0) (sym (ap valuationOf applied ∙ t .between some .after clear))
-        (round-falls (variables (some .system)) (some .system .assertion) 0 (length rows)
-        (λ σ x v m. let h = assertion-targets (some .system) (some .wellFormed) σ x v m in (omega arith, omega (arith, h, rows-counted some)))
-        (valuationOf cells) (sym (t .between some .fresh) ∙ fresh))
+  -- a turn that goes on leaves fewer cells open
+  pub turn-falls : faultIn found ≡ none → found .fresh ≡ true → {last : List ℤ} → cells ≡ last
+      → unknowns (valuationOf given) (length rows) 0 < unknowns (valuationOf last) (length rows) 0
+  turn-falls clear fresh e =
+      subst (λ l. unknowns (valuationOf given) (length rows) 0 < unknowns (valuationOf l) (length rows) 0) e
+      (subst (λ ρ. unknowns ρ (length rows) 0 < unknowns (valuationOf cells) (length rows) 0) (sym (t .between some .after clear))
+      (round-falls (variables (some .system)) (some .system .assertion) 0 (length rows)
+      (λ σ x v m. let h = assertion-targets (some .system) (some .wellFormed) σ x v m in (omega arith, omega (arith, h, rows-counted some)))
+      (valuationOf cells) (sym (t .between some .fresh) ∙ fresh)))
+
+-- ---- a round that is to be read: the first, or a later one
+
+module _ {ks : List ℕ} {ps : List ℤ} {nexts : List ℕ} {rows : List (List ℤ)} {at : ℕ} {cells₀ cells given : List ℤ} {queue waits : List ℕ} {found : Gathered} {queued pending r done : ℕ}
+    (some : AssertionStands ks ps nexts rows at) (ready : Ready ks ps nexts rows at cells₀ cells given queue waits found queued pending r done) where
+  pub when-first : r ≡ 1 → Unread ks ps nexts rows at cells₀ cells given waits queued r
+  when-first e = ⊎-elim (λ u. u) (λ s. absurd (omega (arith, e, s .next, s .turn .between some .first))) ready
+
+  pub when-later : (r ≡ 1 → ⊥) → Unsettled ks ps nexts rows at cells₀ cells given queue waits found queued pending r done
+  when-later n = ⊎-elim (λ u. absurd (n (u .first))) (λ s. s) ready
+
+  module _ {empty : Gathered} (nothing : empty ≡ nothingFound) (room : length rows ≤ length given) {found′ : Gathered} {given′ : List ℤ} {queued′ : ℕ} {queue′ waits′ : List ℕ} {pending′ : ℕ} where
+    pub first-goes : r ≡ 1
+        → ((j : Instruction) → InstructionAt ks ps j at
+        → held found′ given′ queued′ queue′ waits′ ≡ readBy (lowsIn rows) (highsIn rows) (valuationOf cells) at r j (held empty given queued queue waits))
+        → length given′ ≡ length given → Room given′ queued′ queue′ → pending′ ≡ markCount waits′
+        → Turn ks ps nexts rows at cells₀ cells given′ queue′ waits′ found′ queued′ pending′ r queued
+    first-goes e told l full counted =
+        let u = when-first e in
+        subst (λ c. Turn ks ps nexts rows at c cells given′ queue′ waits′ found′ queued′ pending′ r queued) (u .start)
+        (subst (λ n. Turn ks ps nexts rows at cells cells given′ queue′ waits′ found′ queued′ pending′ n queued) (sym e)
+        (subst (λ n. Turn ks ps nexts rows at cells cells given′ queue′ waits′ found′ queued′ pending′ 1 n) (sym (u .nothingQueued))
+        (turn-begins some cells given (u .same) empty nothing queue waits (u .blank) room found′ given′ queued′ queue′ waits′
+        (λ j h. told j h ∙ ap₂ (λ n m. readBy (lowsIn rows) (highsIn rows) (valuationOf cells) at n j (held empty given m queue waits)) e (u .nothingQueued)) l full counted)))
+
+    pub later-goes : (r ≡ 1 → ⊥) → {cells′ : List ℤ} → cells′ ≡ given → length waits ≡ length ks
+        → StillWaking ks ps nexts rows at cells′ r empty given queued queue waits found′ given′ queued′ queue′ waits′ pending′
+        → ((x : ℕ) → List·Memᴰ x (drop done (take queued queue)) → Passed ks ps at r waits′ x) → length given′ ≡ length given
+        → Turn ks ps nexts rows at cells₀ cells′ given′ queue′ waits′ found′ queued′ pending′ r queued
+    later-goes n {cells′} applied long still passes l =
+        let s = when-later n in
+        subst (λ m. StillWaking ks ps nexts rows at cells′ m empty given queued queue waits found′ given′ queued′ queue′ waits′ pending′
+        → ((x : ℕ) → List·Memᴰ x (drop done (take queued queue)) → Passed ks ps at m waits′ x)
+        → Turn ks ps nexts rows at cells₀ cells′ given′ queue′ waits′ found′ queued′ pending′ m queued) (sym (s .next))
+        (λ w f. turn-goes some (s .turn) (s .clear) applied nothing long (s .fresh) room w f l) still passes
+
+  pub later-wakes : (r ≡ 1 → ⊥) → {cells′ : List ℤ} → cells′ ≡ given → {empty : Gathered} → empty ≡ nothingFound → length waits ≡ length ks
+      → SomeWaking ks ps nexts rows at cells′ r empty given queued queue waits
+  later-wakes n {cells′} applied {empty} nothing long =
+      let s = when-later n in
+      subst (λ m. SomeWaking ks ps nexts rows at cells′ m empty given queued queue waits) (sym (s .next)) (turn-wakes some (s .turn) (s .clear) applied nothing long)
 
 -- ---- the ends of the loop
 

@@ -1,8 +1,9 @@
 // The rounds of the assertion, reading again only what waits and mentions what became known.
 
 ghost use mathlib.Core.Path.{_≡_};
-ghost use mathlib.Core.List.{List·Memᴰ};
+ghost use mathlib.Core.List.{List, List·Memᴰ};
 ghost use Prim.Native.Nat.{ℕ, suc, _<_, _≤_};
+ghost use lib.IntN.{ℤ};
 ghost use lib.ListN.{length, getD, take, drop, replicate};
 ghost use Rattle.model.specs.Trees as trees;
 ghost use Rattle.interpreter.specs.Gathering.{faultIn};
@@ -11,7 +12,7 @@ ghost use Rattle.semantics.specs.Propagation as propagation_specs;
 ghost use Rattle.waiting.specs.Index.{Indexed};
 ghost use Rattle.waiting.specs.Waking.{Passed};
 ghost use Rattle.rounds.specs.Cells.{AssertionStands, findingOf, reachedIn};
-ghost use Rattle.rounds.specs.Rounds.{Pending, Queued, Done, Fitting, SomeWaking, StillWaking, Resting};
+ghost use Rattle.rounds.specs.Rounds.{Pending, Queued, Done, Fitting, SomeWaking, StillWaking, Resting, Turn, Ready, SomeReady};
 use interpreter::Fault;
 use interpreter::Gathered;
 use interpreter::instructions;
@@ -265,6 +266,83 @@ pub fn scan(
     progress
 }
 
+// One round: the first reads the assertion, a later one what waits and mentions a flow that the last made known.
+fn read_round(
+    kinds: &[u8],
+    parameters: &[i32],
+    nexts: &[u16],
+    heads: &[u16],
+    links: &[u16],
+    variables: &[[i32; 3]],
+    assertion: usize,
+    cells: &mut [i64],
+    given: &mut [i64],
+    queue: &mut [u16],
+    waits: &mut [u16],
+    last: Progress,
+    round: u16,
+    done: usize,
+) -> Progress
+    requires { ⌜ SomeReady (now kinds) (now parameters) (now nexts) (now variables) assertion (now cells) (now given) (now queue) (now waits) (last .found) (last .queued) (last .pending) round done
+        × Fitting (now kinds) (now parameters) (now nexts) (now variables) assertion (now cells) (now given) (last .queued) (now queue) (now waits) (last .pending)
+        × Indexed (now kinds) (now parameters) assertion (length (now variables)) (now heads) (now links) ⌝ }
+    ensures { λ r. ⌜ ((start : List ℤ)
+        → Ready (now (kinds .entry)) (now (parameters .entry)) (now (nexts .entry)) (now (variables .entry)) assertion start (now (cells .entry)) (now (given .entry)) (now (queue .entry)) (now (waits .entry)) (last .found) (last .queued) (last .pending) round done
+        → Turn (now (kinds .entry)) (now (parameters .entry)) (now (nexts .entry)) (now (variables .entry)) assertion start (now (cells .exit)) (now (given .exit)) (now (queue .exit)) (now (waits .exit)) (r .found) (r .queued) (r .pending) round (last .queued))
+        × (now (cells .exit) ≡ now (given .entry)) ⌝ }
+{
+    let found = instructions::nothing_found();
+    let start = Progress {
+        found,
+        queued: last.queued,
+        pending: last.pending,
+    };
+    if round == 1 {
+        return reading::gather(
+            kinds,
+            parameters,
+            nexts,
+            variables,
+            cells,
+            given,
+            queue,
+            waits,
+            start,
+            round,
+            assertion,
+        );
+    }
+    apply(queue, done, last.queued, given, cells);
+    wake_all(
+        kinds,
+        parameters,
+        nexts,
+        heads,
+        links,
+        variables,
+        assertion,
+        cells,
+        given,
+        queue,
+        waits,
+        start,
+        round,
+        done,
+    )
+}
+
+// Before the first round: nothing is queued, and nothing waits.
+fn begin() -> Progress
+    ensures { λ r. ⌜ (r .queued ≡ 0) × (r .pending ≡ 0) ⌝ }
+{
+    let found = instructions::nothing_found();
+    Progress {
+        found,
+        queued: 0,
+        pending: 0,
+    }
+}
+
 // Rounds over the cells until one sets nothing, or a fault is met.
 pub fn rounds(
     kinds: &[u8],
@@ -287,28 +365,29 @@ pub fn rounds(
         → (reachedIn r (now (cells .exit)) ≡ propagation_specs.rounds (trees.variables (a .system)) (a .system .assertion) (suc (length (a .system .flows))) 0 (valuationOf (now (cells .entry))))
         × ((e : Rest) → r ≡ Ended.Rested e → Resting (now (kinds .entry)) (now (parameters .entry)) (now (nexts .entry)) (now (variables .entry)) assertion a (now (cells .exit)) (now (waits .exit)) e)) ⌝ }
 {
-    let empty = instructions::nothing_found();
-    let begin = Progress {
-        found: empty,
-        queued: 0,
-        pending: 0,
-    };
-    let mut progress = reading::gather(
-        kinds,
-        parameters,
-        nexts,
-        variables,
-        cells,
-        given,
-        queue,
-        waits,
-        begin,
-        1,
-        assertion,
-    );
+    let mut progress = begin();
     let mut round: u16 = 1;
     let mut done: usize = 0;
     loop {
+        let queued = progress.queued;
+        let now = read_round(
+            kinds,
+            parameters,
+            nexts,
+            heads,
+            links,
+            variables,
+            assertion,
+            cells,
+            given,
+            queue,
+            waits,
+            progress,
+            round,
+            done,
+        );
+        progress = now;
+        done = queued;
         let found = progress.found;
         match fault_in(found) {
             Finding::Faulty(fault) => break Ended::Refused(fault),
@@ -321,32 +400,6 @@ pub fn rounds(
             };
             break Ended::Rested(rest);
         }
-        let queued = progress.queued;
-        apply(queue, done, queued, given, cells);
         round += 1;
-        let empty = instructions::nothing_found();
-        let again = Progress {
-            found: empty,
-            queued,
-            pending: progress.pending,
-        };
-        let now = wake_all(
-            kinds,
-            parameters,
-            nexts,
-            heads,
-            links,
-            variables,
-            assertion,
-            cells,
-            given,
-            queue,
-            waits,
-            again,
-            round,
-            done,
-        );
-        progress = now;
-        done = queued;
     }
 }

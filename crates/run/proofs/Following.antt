@@ -12,7 +12,7 @@ use Rattle.semantics.specs.Meanings.{Meaning, meaningOf}
 use Rattle.semantics.specs.Firing.{begun}
 use Rattle.model.specs.Check.{Verdict}
 use Rattle.model.specs.Check.Verdict.{refusal, accepted}
-use Rattle.steps.specs.declared.Move.the-variants.{Start, Fire, Undo}
+use Rattle.replaying.specs.declared.Move.the-variants.{Start, Fire, Undo}
 use Rattle.standing.specs.Runs.{Run, Answer, run, answered}
 use Rattle.standing.specs.Runs as runs
 use Rattle.standing.specs.Runs.Answer.{refused, rounds, done, number, sizes, picked, outside}

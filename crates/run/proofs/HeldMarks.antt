@@ -13,7 +13,7 @@ use Rattle.standing.specs.Runs.{Run, Store, Done}
 use Rattle.standing.specs.Runs.Answer.{refused, rounds}
 use Rattle.marking.specs.Marks.{HoldsMarks}
 use Rattle.marking.proofs.Refreshed.{refreshed-holds}
-use Rattle.steps.specs.declared.Move.the-variants as Move
+use Rattle.replaying.specs.declared.Move.the-variants as Move
 use Rattle.replaying.specs.Replays.{initial}
 use Rattle.steps.specs.Calls.{stepOn}
 use Rattle.run.specs.Lists.{callOn, callBy, Performed, lastLeft}

@@ -12,7 +12,7 @@ use Rattle.model.specs.Theorems.{Bytes}
 use Rattle.run.specs.declared.Call.{Call}
 use Rattle.run.specs.declared.Call.the-variants.{Check, Start, Fire}
 use Rattle.steps.specs.declared.Answer as declared
-use Rattle.steps.specs.declared.Move.the-variants as moves
+use Rattle.replaying.specs.declared.Move.the-variants as moves
 use Rattle.standing.specs.Runs.{Run, Store, Answer, Done, run, store, answered}
 use Rattle.standing.specs.Runs.Answer.{rounds, done}
 use Rattle.steps.specs.Answers.{seen, onFile}

@@ -13,7 +13,7 @@ use Rattle.run.specs.declared.Call.the-variants.{Check, Start, Fire, Und
 use Rattle.standing.specs.Runs.{Run, Store, Done, run, store, answered}
 use Rattle.standing.specs.Runs.Answer.{refused, rounds}
 use Rattle.steps.specs.declared.Answer as declared
-use Rattle.steps.specs.declared.Move.{Move}
+use Rattle.replaying.specs.declared.Move.{Move}
 use Rattle.steps.specs.Calls.{stepOn}
 use Rattle.marking.specs.Marks.{HoldsMarks}
 use Rattle.run.specs.Lists.{callsOf, Promise, Performed, lastLeft}

@@ -3,8 +3,8 @@
 ghost use Rattle.standing.specs.Runs.{run, store};
 ghost use Rattle.run.specs.Promises.{CheckPromise, StartPromise, FirePromise, UndoPromise, MarksPromise, ValuePromise, PickPromise, FirstOutsidePromise, PerformPromise};
 use model::Checked;
+use replaying::Move;
 use steps::Answer;
-use steps::Move;
 
 // A call, with its transition or variable number.
 pub enum Call {
@@ -109,7 +109,7 @@ pub fn value(
 pub fn pick(model: &[u8], values: &[i32], marks: &[u8], history: &[u8], n: usize) -> Answer
     ensures { λ r. ⌜ PickPromise (now (model .entry)) (now (values .entry)) (now (marks .entry)) (now (history .entry)) n r ⌝ }
 {
-    inspection::pick(model, values, marks, history, n)
+    picking::pick(model, values, marks, history, n)
 }
 
 // The first variable whose value is outside its ends or none, and how many values were looked at. The values alone are lent.

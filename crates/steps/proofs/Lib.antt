@@ -3,3 +3,4 @@ pub mod FaultNumbers
 pub mod Parts
 pub mod StepTests
 pub mod Tags
+pub mod Declarations

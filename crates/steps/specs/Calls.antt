@@ -18,8 +18,8 @@ use Rattle.standing.specs.Runs.Answer.{refused, rounds, done}
 use Rattle.standing.specs.Holding.{tooShort, tooFew, holds}
 use Rattle.marking.specs.Marks.{refreshed}
 use Rattle.replaying.specs.Replays.{isFired, initial, replay}
-use Rattle.steps.specs.declared.Move.{Move}
-use Rattle.steps.specs.declared.Move.the-variants.{Start, Fire, Undo}
+use Rattle.replaying.specs.declared.Move.{Move}
+use Rattle.replaying.specs.declared.Move.the-variants.{Start, Fire, Undo}
 
 -- 23, 24 "guard false, guard failed", 25 to 30, or the round count
 unfoldable pub answerOf : Firing → Answer

@@ -3,4 +3,5 @@
 pub mod Calls
 pub mod Answers
 -- how the code goes about it:
+pub mod Declarations
 pub mod Lent

@@ -1,6 +1,6 @@
-// Start, fire and undo as far as the values and the marks go: on a model file.
+// Start, fire and undo: their definitions, the tests before them, and their answers.
 
-pub mod moves; // moves.rt: start, fire and undo
+pub mod moves; // moves.rt: the tests, and the answer to a move
 
 use model::Sizes;
 use results::Found;
@@ -18,9 +18,8 @@ pub enum Answer {
     Outside(RangeCheck),
 }
 
-// What is done with the values and the marks of a run.
-pub enum Move {
-    Start,
-    Fire(usize),
-    Undo,
+// What the tests before a move come to.
+pub enum Test {
+    Refused(u8),
+    Passed,
 }

@@ -1,26 +1,19 @@
-// Start, fire and undo (01: take back), as far as the values and the marks go.
+// The tests before start, fire and undo (01: take back), and the answer to what was done.
 
 ghost use mathlib.Core.Path.{_≡_};
-ghost use mathlib.Core.List.{List};
-ghost use Prim.Native.Nat.{ℕ, _≤_};
-ghost use lib.IntN.{pos};
-ghost use lib.ListN.{length, replicate};
-ghost use Rattle.scratch.specs.Blank.{unknownCell, BlankFiring};
 ghost use Rattle.interpreter.specs.Instructions.{numberOf};
 ghost use Rattle.interpreter.specs.Instructions.Place.{action, assertion};
-ghost use Rattle.waiting.specs.Index.{Indexed};
-ghost use Rattle.engine.specs.Cells.{Loaded, OnLoaded};
-ghost use Rattle.standing.specs.Runs.{run, answered};
-ghost use Rattle.marking.specs.Marks.{marksOver};
+ghost use Rattle.semantics.specs.Meanings.{Meaning};
+ghost use Rattle.standing.specs.Runs.{run};
+ghost use Rattle.replaying.specs.declared.Move.the-variants.{Fire, Undo};
 ghost use Rattle.steps.specs.Calls as calls;
-ghost use Rattle.steps.specs.Calls.{firedInto, stepOn};
-ghost use Rattle.steps.specs.Lent.{cellsLeft};
+ghost use Rattle.steps.specs.Declarations.{Declares};
+ghost use Rattle.steps.specs.Lent.{refusedBy, refusedBefore, tested, answerTo};
 ghost use Rattle.steps.specs.Answers.{seen};
 use super::Answer;
-use super::Move;
-use engine::transitions;
+use super::Test;
 use interpreter::Fault;
-use model::Model;
+use replaying::Move;
 use semantics::Firing;
 
 // The numbers of an action's faults.
@@ -58,343 +51,99 @@ fn answer_of(firing: Firing) -> Answer
     }
 }
 
-// The answer of a firing; if it was fired, the marks become those of the values that it left.
-fn conclude(
-    firing: Firing,
-    loaded: Model,
-    kinds: &[u8],
-    parameters: &[i32],
+// The answer to what was fired last: of an undo it tells only that it was done, or 31.
+pub fn answer_to(step: Move, firing: Firing) -> Answer
+    ensures { λ r. ⌜ seen r ≡ answerTo step firing ⌝ }
+{
+    match step {
+        Move::Start => answer_of(firing),
+        Move::Fire(_) => answer_of(firing),
+        Move::Undo => {
+            if replaying::is_fired(firing) {
+                Answer::Done
+            } else {
+                Answer::Refused(31)
+            }
+        }
+    }
+}
+
+// 11, 20, 21.
+fn test_fire(
+    transitions: usize,
     variables: &[[i32; 3]],
-    nexts: &[u16],
-    guards: &[u16],
     values: &[i32],
-    cells: &mut [i64],
-    marks: &mut [u8],
-) -> Answer
-    requires { ⌜ Loaded loaded (now kinds) (now parameters) (now variables) (now nexts) (now guards) ⌝ }
-    requires { ⌜ (length (now variables) ≤ length (now values)) × (length (now guards) ≤ length (now marks)) × (now cells ≡ replicate (length (now variables)) unknownCell) ⌝ }
-    ensures { λ r. ⌜ OnLoaded loaded (now (kinds .entry)) (now (parameters .entry)) (now (variables .entry)) (now (nexts .entry)) (now (guards .entry)) (λ m.
-        answered (seen r) (now (marks .exit)) ≡ firedInto (now (marks .entry)) (marksOver m (now (values .entry)) (now (marks .entry))) firing)
-        × (now (cells .exit) ≡ now (cells .entry)) ⌝ }
-{
-    let answer = answer_of(firing);
-    if !replaying::is_fired(firing) {
-        return answer;
-    }
-    marking::refresh(
-        loaded,
-        kinds,
-        parameters,
-        variables,
-        nexts,
-        guards,
-        values,
-        cells,
-        marks,
-    );
-    answer
-}
-
-// 9, 10, then the initial states and the assertion; if that is not refused, the marks of the new values.
-fn start(
-    loaded: Model,
-    kinds: &[u8],
-    parameters: &[i32],
-    variables: &[[i32; 3]],
-    nexts: &[u16],
-    guards: &[u16],
-    heads: &[u16],
-    links: &[u16],
-    states: &mut [i32],
-    cells: &mut [i64],
-    given: &mut [i64],
-    queue: &mut [u16],
-    waits: &mut [u16],
-    values: &mut [i32],
-    marks: &mut [u8],
-) -> Answer
-    requires { ⌜ Loaded loaded (now kinds) (now parameters) (now variables) (now nexts) (now guards) ⌝ }
-    requires { ⌜ Indexed (now kinds) (now parameters) (loaded .assertion) (length (now variables)) (now heads) (now links)
-        × BlankFiring (length (now variables)) (length (now kinds)) (now states) (now cells) (now given) (now queue) (now waits) ⌝ }
-    ensures { λ r. ⌜ OnLoaded loaded (now (kinds .entry)) (now (parameters .entry)) (now (variables .entry)) (now (nexts .entry)) (now (guards .entry)) (λ m.
-        (history : List ℕ) (n : ℕ) → answered (seen r) (now (values .exit), now (marks .exit)) ≡ cellsLeft (calls.start m (run (now (values .entry)) (now (marks .entry)) history n)))
-        × BlankFiring (length (now (variables .entry))) (length (now (kinds .entry))) (now (states .exit)) (now (cells .exit)) (now (given .exit)) (now (queue .exit)) (now (waits .exit)) ⌝ }
-{
-    if values.len() < variables.len() {
-        return Answer::Refused(9);
-    }
-    if marks.len() < guards.len() {
-        return Answer::Refused(10);
-    }
-    let firing = replaying::begin(
-        loaded,
-        kinds,
-        parameters,
-        variables,
-        nexts,
-        guards,
-        heads,
-        links,
-        states,
-        cells,
-        given,
-        queue,
-        waits,
-        values,
-    );
-    conclude(
-        firing,
-        loaded,
-        kinds,
-        parameters,
-        variables,
-        nexts,
-        guards,
-        values,
-        cells,
-        marks,
-    )
-}
-
-// 9, 10, 11, 20, 21, then guard, action and assertion; if none is refused, the marks of the new values.
-fn fire(
-    loaded: Model,
-    kinds: &[u8],
-    parameters: &[i32],
-    variables: &[[i32; 3]],
-    nexts: &[u16],
-    guards: &[u16],
-    heads: &[u16],
-    links: &[u16],
-    states: &mut [i32],
-    cells: &mut [i64],
-    given: &mut [i64],
-    queue: &mut [u16],
-    waits: &mut [u16],
-    values: &mut [i32],
-    marks: &mut [u8],
+    marks: &[u8],
     history: &[u8],
     n: usize,
     transition: usize,
-) -> Answer
-    requires { ⌜ Loaded loaded (now kinds) (now parameters) (now variables) (now nexts) (now guards) ⌝ }
-    requires { ⌜ Indexed (now kinds) (now parameters) (loaded .assertion) (length (now variables)) (now heads) (now links)
-        × BlankFiring (length (now variables)) (length (now kinds)) (now states) (now cells) (now given) (now queue) (now waits) ⌝ }
-    ensures { λ r. ⌜ OnLoaded loaded (now (kinds .entry)) (now (parameters .entry)) (now (variables .entry)) (now (nexts .entry)) (now (guards .entry)) (λ m.
-        answered (seen r) (now (values .exit), now (marks .exit)) ≡ cellsLeft (calls.fire m transition (run (now (values .entry)) (now (marks .entry)) (now (history .entry)) n)))
-        × BlankFiring (length (now (variables .entry))) (length (now (kinds .entry))) (now (states .exit)) (now (cells .exit)) (now (given .exit)) (now (queue .exit)) (now (waits .exit)) ⌝ }
+) -> Test
+    ensures { λ r. ⌜ ((m : Meaning) → Declares m transitions (now (variables .entry))
+        → tested r ≡ refusedBy m (Fire transition) (run (now (values .entry)) (now (marks .entry)) (now (history .entry)) n)) ⌝ }
 {
-    if values.len() < variables.len() {
-        return Answer::Refused(9);
+    if transitions <= transition {
+        return Test::Refused(11);
     }
-    if marks.len() < guards.len() {
-        return Answer::Refused(10);
-    }
-    if guards.len() <= transition {
-        return Answer::Refused(11);
-    }
-    if !standing::holds(guards.len(), variables, values, marks, history, n) {
-        return Answer::Refused(20);
+    if !standing::holds(transitions, variables, values, marks, history, n) {
+        return Test::Refused(20);
     }
     if n == history.len() {
-        return Answer::Refused(21);
+        return Test::Refused(21);
     }
-    let firing = transitions::fire(
-        loaded,
-        kinds,
-        parameters,
-        variables,
-        nexts,
-        guards,
-        heads,
-        links,
-        states,
-        cells,
-        given,
-        queue,
-        waits,
-        values,
-        transition,
-    );
-    conclude(
-        firing,
-        loaded,
-        kinds,
-        parameters,
-        variables,
-        nexts,
-        guards,
-        values,
-        cells,
-        marks,
-    )
+    Test::Passed
 }
 
-// 9, 10, 20, 22, then the history without its last entry, replayed; 31 if that is refused, else the marks of the new values.
-fn undo(
-    loaded: Model,
-    kinds: &[u8],
-    parameters: &[i32],
+// 20, 22.
+fn test_undo(
+    transitions: usize,
     variables: &[[i32; 3]],
-    nexts: &[u16],
-    guards: &[u16],
-    heads: &[u16],
-    links: &[u16],
-    states: &mut [i32],
-    cells: &mut [i64],
-    given: &mut [i64],
-    queue: &mut [u16],
-    waits: &mut [u16],
-    copy: &mut [i32],
-    values: &mut [i32],
-    marks: &mut [u8],
+    values: &[i32],
+    marks: &[u8],
     history: &[u8],
     n: usize,
-) -> Answer
-    requires { ⌜ Loaded loaded (now kinds) (now parameters) (now variables) (now nexts) (now guards) ⌝ }
-    requires { ⌜ Indexed (now kinds) (now parameters) (loaded .assertion) (length (now variables)) (now heads) (now links)
-        × BlankFiring (length (now variables)) (length (now kinds)) (now states) (now cells) (now given) (now queue) (now waits)
-        × (now copy ≡ replicate (length (now variables)) (pos 0)) ⌝ }
-    ensures { λ r. ⌜ OnLoaded loaded (now (kinds .entry)) (now (parameters .entry)) (now (variables .entry)) (now (nexts .entry)) (now (guards .entry)) (λ m.
-        answered (seen r) (now (values .exit), now (marks .exit)) ≡ cellsLeft (calls.undo m (run (now (values .entry)) (now (marks .entry)) (now (history .entry)) n)))
-        × BlankFiring (length (now (variables .entry))) (length (now (kinds .entry))) (now (states .exit)) (now (cells .exit)) (now (given .exit)) (now (queue .exit)) (now (waits .exit))
-        × (now (copy .exit) ≡ now (copy .entry)) ⌝ }
+) -> Test
+    ensures { λ r. ⌜ ((m : Meaning) → Declares m transitions (now (variables .entry))
+        → tested r ≡ refusedBy m Undo (run (now (values .entry)) (now (marks .entry)) (now (history .entry)) n)) ⌝ }
 {
-    if values.len() < variables.len() {
-        return Answer::Refused(9);
-    }
-    if marks.len() < guards.len() {
-        return Answer::Refused(10);
-    }
-    if !standing::holds(guards.len(), variables, values, marks, history, n) {
-        return Answer::Refused(20);
+    if !standing::holds(transitions, variables, values, marks, history, n) {
+        return Test::Refused(20);
     }
     if n == 0 {
-        return Answer::Refused(22);
+        return Test::Refused(22);
     }
-    if !replaying::replay(
-        loaded,
-        kinds,
-        parameters,
-        variables,
-        nexts,
-        guards,
-        heads,
-        links,
-        states,
-        cells,
-        given,
-        queue,
-        waits,
-        history,
-        n - 1,
-        copy,
-        values,
-    ) {
-        return Answer::Refused(31);
-    }
-    marking::refresh(
-        loaded,
-        kinds,
-        parameters,
-        variables,
-        nexts,
-        guards,
-        values,
-        cells,
-        marks,
-    );
-    Answer::Done
+    Test::Passed
 }
 
-// One of the three, on a decoded model.
-pub fn dispatch(
-    loaded: Model,
-    kinds: &[u8],
-    parameters: &[i32],
+// 9, 10, then what is tried for the move.
+pub fn test(
+    transitions: usize,
     variables: &[[i32; 3]],
-    nexts: &[u16],
-    guards: &[u16],
-    heads: &[u16],
-    links: &[u16],
-    states: &mut [i32],
-    cells: &mut [i64],
-    given: &mut [i64],
-    queue: &mut [u16],
-    waits: &mut [u16],
-    copy: &mut [i32],
-    values: &mut [i32],
-    marks: &mut [u8],
+    values: &[i32],
+    marks: &[u8],
     history: &[u8],
     n: usize,
     step: Move,
-) -> Answer
-    requires { ⌜ Loaded loaded (now kinds) (now parameters) (now variables) (now nexts) (now guards) ⌝ }
-    requires { ⌜ Indexed (now kinds) (now parameters) (loaded .assertion) (length (now variables)) (now heads) (now links)
-        × BlankFiring (length (now variables)) (length (now kinds)) (now states) (now cells) (now given) (now queue) (now waits)
-        × (now copy ≡ replicate (length (now variables)) (pos 0)) ⌝ }
-    ensures { λ r. ⌜ OnLoaded loaded (now (kinds .entry)) (now (parameters .entry)) (now (variables .entry)) (now (nexts .entry)) (now (guards .entry)) (λ m.
-        answered (seen r) (now (values .exit), now (marks .exit)) ≡ cellsLeft (stepOn m step (run (now (values .entry)) (now (marks .entry)) (now (history .entry)) n)))
-        × BlankFiring (length (now (variables .entry))) (length (now (kinds .entry))) (now (states .exit)) (now (cells .exit)) (now (given .exit)) (now (queue .exit)) (now (waits .exit))
-        × (now (copy .exit) ≡ now (copy .entry)) ⌝ }
+) -> Test
+    ensures { λ r. ⌜ ((m : Meaning) → Declares m transitions (now (variables .entry))
+        → tested r ≡ refusedBefore m step (run (now (values .entry)) (now (marks .entry)) (now (history .entry)) n)) ⌝ }
 {
+    if values.len() < variables.len() {
+        return Test::Refused(9);
+    }
+    if marks.len() < transitions {
+        return Test::Refused(10);
+    }
     match step {
-        Move::Start => start(
-            loaded,
-            kinds,
-            parameters,
+        Move::Start => Test::Passed,
+        Move::Fire(transition) => test_fire(
+            transitions,
             variables,
-            nexts,
-            guards,
-            heads,
-            links,
-            states,
-            cells,
-            given,
-            queue,
-            waits,
-            values,
-            marks,
-        ),
-        Move::Fire(transition) => fire(
-            loaded,
-            kinds,
-            parameters,
-            variables,
-            nexts,
-            guards,
-            heads,
-            links,
-            states,
-            cells,
-            given,
-            queue,
-            waits,
             values,
             marks,
             history,
             n,
             transition,
         ),
-        Move::Undo => undo(
-            loaded,
-            kinds,
-            parameters,
-            variables,
-            nexts,
-            guards,
-            heads,
-            links,
-            states,
-            cells,
-            given,
-            queue,
-            waits,
-            copy,
-            values,
-            marks,
-            history,
-            n,
-        ),
+        Move::Undo => test_undo(transitions, variables, values, marks, history, n),
     }
 }

@@ -4,16 +4,19 @@ use mathlib.Core.Bool.{true, false, true≢false, _&&_}
 use mathlib.Core.List.{List}
 use mathlib.Core.Option.{Option, some, none}
 use Prim.Native.Nat.{ℕ, _+_}
+use lib.IntN.{ℤ}
 use lib.ListN.{length, take, length-map}
-use Rattle.results.specs.Results.{Answered, answered}
+use Rattle.results.specs.Results.{Answered, answered, over}
 use Rattle.model.specs.declared.Model.{Model}
 use Rattle.model.specs.Trees.{Transition, System, variables, sortsOf}
-use Rattle.model.specs.Check.{verdict}
+use Rattle.model.specs.Sizes.{byteLayout}
+use Rattle.model.specs.Check.{verdict, kindsIn, parametersIn}
 use Rattle.standing.specs.Holding.{allBelow}
 use Rattle.decoding.specs.declared.Prepared.{Prepared}
 use Rattle.decoding.specs.declared.Prepared.the-variants as prepared
-use Rattle.decoding.specs.Decoding.{Arrays, decodedOver, preparedBy}
+use Rattle.decoding.specs.Decoding.{Arrays, VariablesRead, preparedBy}
 use Rattle.decoding.proofs.Decoded.{decoded-variables}
+use Rattle.decoding.proofs.Preparing.{variables-read}
 use Rattle.decoding.proofs.InUse.{DecodedIn, take-over, refused-verdict}
 use Rattle.synchronisation.specs.declared.Synchronised.{Synchronised}
 use Rattle.synchronisation.specs.declared.Synchronised.the-variants.{Refused}
@@ -81,27 +84,34 @@ module _ (t : System) (ms os old : List ℕ) where
 
 -- ---- the model's check
 
-module _ (m : List ℕ) (before after : Arrays) (r : Prepared) (e : answered r after ≡ preparedBy m before (verdict m)) where
-  pub model-refused : {n : ℕ} → r ≡ prepared.Refused n → (ms os old : List ℕ) → answered (Refused n) old ≡ synchronisedBy (verdict m) ms os old
+pub model-refused : (m : List ℕ) (before after : Arrays) (r : Prepared) → answered r after ≡ preparedBy m before (verdict m)
+    → {n : ℕ} → r ≡ prepared.Refused n → (ms os old : List ℕ) → answered (Refused n) old ≡ synchronisedBy (verdict m) ms os old
+unfolding synchronisedBy
+model-refused m before after r e {n} h ms os old = rw (refused-verdict m before after r n (verdict m) e h)
+
+module _ (m : List ℕ) (a : Arrays) (d : Model) (x : DecodedIn m a d) where
+  pub model-accepted : (ms os old : List ℕ) {y : Answered Synchronised (List ℕ)} → y ≡ synchronisedIn (x .system) ms os old
+      → y ≡ synchronisedBy (verdict m) ms os old
   unfolding synchronisedBy
-  model-refused {n} h ms os old = rw (refused-verdict m before after r n (verdict m) e h)
+  model-accepted ms os old h = h ∙ ap (λ v. synchronisedBy v ms os old) (sym (x .checked))
 
-  -- the sorts of an accepted model's variables
-  module _ (d : Model) (x : DecodedIn m after d) where
-    sorts-count : length (sortsOf (variables (x .system))) ≡ d .sizes .states + d .sizes .flows
-    sorts-count = length-map (variables (x .system)) (λ v. v .sort) ∙ decoded-variables m d _ _ _ _ _ x
+  -- the sorts of an accepted model's variables, read off its kinds
+  abbrev count : ℕ
+  count = d .sizes .states + d .sizes .flows
 
-    pub sorts-held : take (d .sizes .states + d .sizes .flows) (after .sorts) ≡ sortsOf (variables (x .system))
-    unfolding preparedBy decodedOver
-    sorts-held =
-        let left = ap (λ (a : Answered Prepared Arrays). a .left .sorts) (e ∙ ap (preparedBy m before) (x .checked)) in
-        ap (take (d .sizes .states + d .sizes .flows)) left
-        ∙ take-over (sortsOf (variables (x .system))) (before .sorts) (d .sizes .states + d .sizes .flows) sorts-count
+  module _ (kinds : List ℕ) (k : kinds ≡ kindsIn byteLayout (d .sizes .nodes) m) where
+    abbrev declared : VariablesRead kinds (parametersIn byteLayout (d .sizes .nodes) m) count
+    declared = variables-read m (d .sizes) kinds _ k refl (x .system) (x .checked)
 
-    pub sorts-counted : d .sizes .states + d .sizes .flows ≡ length (take (d .sizes .states + d .sizes .flows) (after .sorts))
-    sorts-counted = sym (ap length sorts-held ∙ sorts-count)
+    pub sorts-asked : (ps : List ℤ) × VariablesRead kinds ps count
+    sorts-asked = (parametersIn byteLayout (d .sizes .nodes) m, declared)
 
-    pub model-accepted : (ms os old : List ℕ) {y : Answered Synchronised (List ℕ)} → y ≡ synchronisedIn (x .system) ms os old
-        → y ≡ synchronisedBy (verdict m) ms os old
-    unfolding synchronisedBy
-    model-accepted ms os old h = h ∙ ap (λ v. synchronisedBy v ms os old) (sym (x .checked))
+    module _ (old sorts : List ℕ) (read : (ps : List ℤ) (r : VariablesRead kinds ps count) → sorts ≡ over (sortsOf (r .variables)) old) where
+      sorts-count : length (sortsOf (variables (x .system))) ≡ count
+      sorts-count = length-map (variables (x .system)) (λ v. v .sort) ∙ decoded-variables m d _ _ _ _ _ x
+
+      pub sorts-held : take count sorts ≡ sortsOf (variables (x .system))
+      sorts-held = ap (take count) (read _ declared) ∙ take-over (sortsOf (variables (x .system))) old count sorts-count
+
+      pub sorts-counted : count ≡ length (take count sorts)
+      sorts-counted = sym (ap length sorts-held ∙ sorts-count)

@@ -202,14 +202,12 @@ pub fn synchronise(
         ≡ synchronisedBy (verdict (now (model .entry))) (now (mandatory .entry)) (now (optional .entry)) (now (out .entry)) ⌝ }
 {
     let mut parameters = [0i32; Model::MAX_NODES];
-    let mut sorts = [0u8; Model::MAX_VARIABLES];
     let mut variables = [[0i32; 3]; Model::MAX_VARIABLES];
     let mut nexts = [0u16; Model::MAX_NODES];
     let mut guards = [0u16; Model::MAX_TRANSITIONS];
     match decoding::prepare(
         model,
         &mut parameters,
-        &mut sorts,
         &mut variables,
         &mut nexts,
         &mut guards,
@@ -219,9 +217,12 @@ pub fn synchronise(
             let nodes = ready.sizes.nodes;
             let count = ready.sizes.states + ready.sizes.flows;
             let transitions = ready.sizes.transitions;
+            let kinds = decoding::kinds_of(model, nodes);
+            let mut sorts = [0u8; Model::MAX_VARIABLES];
+            decoding::sorts_in(kinds, count, &mut sorts);
             join(
                 ready,
-                decoding::kinds_of(model, nodes),
+                kinds,
                 &parameters[..nodes],
                 &sorts[..count],
                 &nexts[..nodes],

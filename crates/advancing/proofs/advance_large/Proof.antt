@@ -37,107 +37,100 @@ array-borrow-prefix-parameters c = within-nodes (c .before .before .before)
 slice-aggregate-advance-in : tie.Need-slice-aggregate-advance-in
 slice-aggregate-advance-in c = sym (part-length (pos 0) (c .before .before .before .before .before .args .sizes .nodes) 4000 (within-nodes (c .before .before .before .before)))
 
-array-borrow-prefix-sorts : tie.Need-array-borrow-prefix-sorts
-array-borrow-prefix-sorts c = within-count (c .before .before .before .before)
+array-borrow-prefix-variables : tie.Need-array-borrow-prefix-variables
+array-borrow-prefix-variables c = within-count (c .before .before .before .before)
 
 slice-aggregate-advance-in-2 : tie.Need-slice-aggregate-advance-in-2
-slice-aggregate-advance-in-2 c = sym (part-length 0 ((c .before .before .before .before .before .before .args .sizes .states + c .before .before .before .before .before .before .args .sizes .flows)) 510 (within-count (c .before .before .before .before .before)))
-
-array-borrow-prefix-variables : tie.Need-array-borrow-prefix-variables
-array-borrow-prefix-variables c = within-count (c .before .before .before .before .before)
-
-slice-aggregate-advance-in-3 : tie.Need-slice-aggregate-advance-in-3
-slice-aggregate-advance-in-3 c = sym (part-length row ((c .before .before .before .before .before .before .before .args .sizes .states + c .before .before .before .before .before .before .before .args .sizes .flows)) 510 (within-count (c .before .before .before .before .before .before)))
+slice-aggregate-advance-in-2 c = sym (part-length row (c .before .before .before .before .before .before .args .sizes .states + c .before .before .before .before .before .before .args .sizes .flows) 510 (within-count (c .before .before .before .before .before)))
 
 array-borrow-prefix-nexts : tie.Need-array-borrow-prefix-nexts
-array-borrow-prefix-nexts c = within-nodes (c .before .before .before .before .before .before)
+array-borrow-prefix-nexts c = within-nodes (c .before .before .before .before .before)
 
-slice-aggregate-advance-in-4 : tie.Need-slice-aggregate-advance-in-4
-slice-aggregate-advance-in-4 c = sym (part-length 0 (c .before .before .before .before .before .before .before .before .args .sizes .nodes) 4000 (within-nodes (c .before .before .before .before .before .before .before)))
+slice-aggregate-advance-in-3 : tie.Need-slice-aggregate-advance-in-3
+slice-aggregate-advance-in-3 c = sym (part-length 0 (c .before .before .before .before .before .before .before .args .sizes .nodes) 4000 (within-nodes (c .before .before .before .before .before .before)))
 
 array-borrow-prefix-guards : tie.Need-array-borrow-prefix-guards
-array-borrow-prefix-guards c = within-transitions (c .before .before .before .before .before .before .before)
+array-borrow-prefix-guards c = within-transitions (c .before .before .before .before .before .before)
 
-slice-aggregate-advance-in-5 : tie.Need-slice-aggregate-advance-in-5
-slice-aggregate-advance-in-5 c = sym (part-length 0 (c .before .before .before .before .before .before .before .before .before .args .sizes .transitions) 255 (within-transitions (c .before .before .before .before .before .before .before .before)))
+slice-aggregate-advance-in-4 : tie.Need-slice-aggregate-advance-in-4
+slice-aggregate-advance-in-4 c = sym (part-length 0 (c .before .before .before .before .before .before .before .before .args .sizes .transitions) 255 (within-transitions (c .before .before .before .before .before .before .before)))
 
 array-borrow-prefix-heads : tie.Need-array-borrow-prefix-heads
-array-borrow-prefix-heads c = within-count (c .before .before .before .before .before .before .before .before)
+array-borrow-prefix-heads c = within-count (c .before .before .before .before .before .before .before)
 
-slice-aggregate-advance-in-6 : tie.Need-slice-aggregate-advance-in-6
-slice-aggregate-advance-in-6 c = sym (part-length 0 ((c .before .before .before .before .before .before .before .before .before .before .args .sizes .states + c .before .before .before .before .before .before .before .before .before .before .args .sizes .flows)) 510 (within-count (c .before .before .before .before .before .before .before .before .before)))
+slice-aggregate-advance-in-5 : tie.Need-slice-aggregate-advance-in-5
+slice-aggregate-advance-in-5 c = sym (part-length 0 (c .before .before .before .before .before .before .before .before .before .args .sizes .states + c .before .before .before .before .before .before .before .before .before .args .sizes .flows) 510 (within-count (c .before .before .before .before .before .before .before .before)))
 
 add-links : tie.Need-add-links
-add-links c = omega (arith, within-links (c .before .before .before .before .before .before .before .before .before))
+add-links c = omega (arith, within-links (c .before .before .before .before .before .before .before .before))
 
 array-borrow-prefix-links : tie.Need-array-borrow-prefix-links
-array-borrow-prefix-links c = within-links (c .before .before .before .before .before .before .before .before .before)
+array-borrow-prefix-links c = within-links (c .before .before .before .before .before .before .before .before)
 
-slice-aggregate-advance-in-7 : tie.Need-slice-aggregate-advance-in-7
-slice-aggregate-advance-in-7 c = sym (part-length 0 (c .before .before .before .before .before .before .before .before .before .before .before .args .sizes .nodes + c .before .before .before .before .before .before .before .before .before .before .before .args .sizes .nodes) 8000 (within-links (c .before .before .before .before .before .before .before .before .before .before)))
+slice-aggregate-advance-in-6 : tie.Need-slice-aggregate-advance-in-6
+slice-aggregate-advance-in-6 c = sym (part-length 0 (c .before .before .before .before .before .before .before .before .before .before .args .sizes .nodes + c .before .before .before .before .before .before .before .before .before .before .args .sizes .nodes) 8000 (within-links (c .before .before .before .before .before .before .before .before .before)))
 
 array-borrow-prefix-states : tie.Need-array-borrow-prefix-states
-array-borrow-prefix-states c = within-count (c .before .before .before .before .before .before .before .before .before .before)
+array-borrow-prefix-states c = within-count (c .before .before .before .before .before .before .before .before .before)
 
-slice-aggregate-advance-in-8 : tie.Need-slice-aggregate-advance-in-8
-slice-aggregate-advance-in-8 c = sym (part-length (pos 0) ((c .before .before .before .before .before .before .before .before .before .before .before .before .args .sizes .states + c .before .before .before .before .before .before .before .before .before .before .before .before .args .sizes .flows)) 510 (within-count (c .before .before .before .before .before .before .before .before .before .before .before)))
+slice-aggregate-advance-in-7 : tie.Need-slice-aggregate-advance-in-7
+slice-aggregate-advance-in-7 c = sym (part-length (pos 0) (c .before .before .before .before .before .before .before .before .before .before .before .args .sizes .states + c .before .before .before .before .before .before .before .before .before .before .before .args .sizes .flows) 510 (within-count (c .before .before .before .before .before .before .before .before .before .before)))
 
 array-borrow-prefix-cells : tie.Need-array-borrow-prefix-cells
-array-borrow-prefix-cells c = within-count (c .before .before .before .before .before .before .before .before .before .before .before)
+array-borrow-prefix-cells c = within-count (c .before .before .before .before .before .before .before .before .before .before)
 
-slice-aggregate-advance-in-9 : tie.Need-slice-aggregate-advance-in-9
-slice-aggregate-advance-in-9 c = sym (part-length unknownCell ((c .before .before .before .before .before .before .before .before .before .before .before .before .before .args .sizes .states + c .before .before .before .before .before .before .before .before .before .before .before .before .before .args .sizes .flows)) 510 (within-count (c .before .before .before .before .before .before .before .before .before .before .before .before)))
+slice-aggregate-advance-in-8 : tie.Need-slice-aggregate-advance-in-8
+slice-aggregate-advance-in-8 c = sym (part-length unknownCell (c .before .before .before .before .before .before .before .before .before .before .before .before .args .sizes .states + c .before .before .before .before .before .before .before .before .before .before .before .before .args .sizes .flows) 510 (within-count (c .before .before .before .before .before .before .before .before .before .before .before)))
 
 array-borrow-prefix-given : tie.Need-array-borrow-prefix-given
-array-borrow-prefix-given c = within-count (c .before .before .before .before .before .before .before .before .before .before .before .before)
+array-borrow-prefix-given c = within-count (c .before .before .before .before .before .before .before .before .before .before .before)
 
-slice-aggregate-advance-in-10 : tie.Need-slice-aggregate-advance-in-10
-slice-aggregate-advance-in-10 c = sym (part-length unknownCell ((c .before .before .before .before .before .before .before .before .before .before .before .before .before .before .args .sizes .states + c .before .before .before .before .before .before .before .before .before .before .before .before .before .before .args .sizes .flows)) 510 (within-count (c .before .before .before .before .before .before .before .before .before .before .before .before .before)))
+slice-aggregate-advance-in-9 : tie.Need-slice-aggregate-advance-in-9
+slice-aggregate-advance-in-9 c = sym (part-length unknownCell (c .before .before .before .before .before .before .before .before .before .before .before .before .before .args .sizes .states + c .before .before .before .before .before .before .before .before .before .before .before .before .before .args .sizes .flows) 510 (within-count (c .before .before .before .before .before .before .before .before .before .before .before .before)))
 
 array-borrow-prefix-queue : tie.Need-array-borrow-prefix-queue
-array-borrow-prefix-queue c = within-count (c .before .before .before .before .before .before .before .before .before .before .before .before .before)
+array-borrow-prefix-queue c = within-count (c .before .before .before .before .before .before .before .before .before .before .before .before)
 
-slice-aggregate-advance-in-11 : tie.Need-slice-aggregate-advance-in-11
-slice-aggregate-advance-in-11 c = sym (part-length 0 ((c .before .before .before .before .before .before .before .before .before .before .before .before .before .before .before .args .sizes .states + c .before .before .before .before .before .before .before .before .before .before .before .before .before .before .before .args .sizes .flows)) 510 (within-count (c .before .before .before .before .before .before .before .before .before .before .before .before .before .before)))
+slice-aggregate-advance-in-10 : tie.Need-slice-aggregate-advance-in-10
+slice-aggregate-advance-in-10 c = sym (part-length 0 (c .before .before .before .before .before .before .before .before .before .before .before .before .before .before .args .sizes .states + c .before .before .before .before .before .before .before .before .before .before .before .before .before .before .args .sizes .flows) 510 (within-count (c .before .before .before .before .before .before .before .before .before .before .before .before .before)))
 
 array-borrow-prefix-waits : tie.Need-array-borrow-prefix-waits
-array-borrow-prefix-waits c = within-nodes (c .before .before .before .before .before .before .before .before .before .before .before .before .before .before)
+array-borrow-prefix-waits c = within-nodes (c .before .before .before .before .before .before .before .before .before .before .before .before .before)
 
-slice-aggregate-advance-in-12 : tie.Need-slice-aggregate-advance-in-12
-slice-aggregate-advance-in-12 c = sym (part-length 0 (c .before .before .before .before .before .before .before .before .before .before .before .before .before .before .before .before .args .sizes .nodes) 4000 (within-nodes (c .before .before .before .before .before .before .before .before .before .before .before .before .before .before .before)))
+slice-aggregate-advance-in-11 : tie.Need-slice-aggregate-advance-in-11
+slice-aggregate-advance-in-11 c = sym (part-length 0 (c .before .before .before .before .before .before .before .before .before .before .before .before .before .before .before .args .sizes .nodes) 4000 (within-nodes (c .before .before .before .before .before .before .before .before .before .before .before .before .before .before)))
 
 array-borrow-prefix-copy : tie.Need-array-borrow-prefix-copy
-array-borrow-prefix-copy c = within-count (c .before .before .before .before .before .before .before .before .before .before .before .before .before .before .before)
+array-borrow-prefix-copy c = within-count (c .before .before .before .before .before .before .before .before .before .before .before .before .before .before)
 
-slice-aggregate-advance-in-13 : tie.Need-slice-aggregate-advance-in-13
-slice-aggregate-advance-in-13 c = sym (part-length (pos 0) ((c .before .before .before .before .before .before .before .before .before .before .before .before .before .before .before .before .before .args .sizes .states + c .before .before .before .before .before .before .before .before .before .before .before .before .before .before .before .before .before .args .sizes .flows)) 510 (within-count (c .before .before .before .before .before .before .before .before .before .before .before .before .before .before .before .before)))
+slice-aggregate-advance-in-12 : tie.Need-slice-aggregate-advance-in-12
+slice-aggregate-advance-in-12 c = sym (part-length (pos 0) (c .before .before .before .before .before .before .before .before .before .before .before .before .before .before .before .before .args .sizes .states + c .before .before .before .before .before .before .before .before .before .before .before .before .before .before .before .before .args .sizes .flows) 510 (within-count (c .before .before .before .before .before .before .before .before .before .before .before .before .before .before .before)))
 
 advance-in-requires : tie.Need-advance-in-requires
 advance-in-requires c κs = (
-  c .before .before .before .before .before .before .before .before .before .before .before .before .before .before .before .before .before .before .before .pre,
+  c .before .before .before .before .before .before .before .before .before .before .before .before .before .before .before .before .before .before .pre,
   (
-    part-length (pos 0) (c .before .before .before .before .before .before .before .before .before .before .before .before .before .before .before .before .before .before .before .args .sizes .nodes) 4000 (within-nodes (c .before .before .before .before .before .before .before .before .before .before .before .before .before .before .before .before .before .before)),
-    part-length 0 ((c .before .before .before .before .before .before .before .before .before .before .before .before .before .before .before .before .before .before .before .args .sizes .states + c .before .before .before .before .before .before .before .before .before .before .before .before .before .before .before .before .before .before .before .args .sizes .flows)) 510 (within-count (c .before .before .before .before .before .before .before .before .before .before .before .before .before .before .before .before .before .before)),
-    part-length row ((c .before .before .before .before .before .before .before .before .before .before .before .before .before .before .before .before .before .before .before .args .sizes .states + c .before .before .before .before .before .before .before .before .before .before .before .before .before .before .before .before .before .before .before .args .sizes .flows)) 510 (within-count (c .before .before .before .before .before .before .before .before .before .before .before .before .before .before .before .before .before .before)),
-    part-length 0 (c .before .before .before .before .before .before .before .before .before .before .before .before .before .before .before .before .before .before .before .args .sizes .nodes) 4000 (within-nodes (c .before .before .before .before .before .before .before .before .before .before .before .before .before .before .before .before .before .before)),
-    part-length 0 (c .before .before .before .before .before .before .before .before .before .before .before .before .before .before .before .before .before .before .before .args .sizes .transitions) 255 (within-transitions (c .before .before .before .before .before .before .before .before .before .before .before .before .before .before .before .before .before .before)),
-    part-length 0 ((c .before .before .before .before .before .before .before .before .before .before .before .before .before .before .before .before .before .before .before .args .sizes .states + c .before .before .before .before .before .before .before .before .before .before .before .before .before .before .before .before .before .before .before .args .sizes .flows)) 510 (within-count (c .before .before .before .before .before .before .before .before .before .before .before .before .before .before .before .before .before .before)),
-    part-length 0 (c .before .before .before .before .before .before .before .before .before .before .before .before .before .before .before .before .before .before .before .args .sizes .nodes + c .before .before .before .before .before .before .before .before .before .before .before .before .before .before .before .before .before .before .before .args .sizes .nodes) 8000 (within-links (c .before .before .before .before .before .before .before .before .before .before .before .before .before .before .before .before .before .before)),
+    part-length (pos 0) (c .before .before .before .before .before .before .before .before .before .before .before .before .before .before .before .before .before .before .args .sizes .nodes) 4000 (within-nodes (c .before .before .before .before .before .before .before .before .before .before .before .before .before .before .before .before .before)),
+    part-length row (c .before .before .before .before .before .before .before .before .before .before .before .before .before .before .before .before .before .before .args .sizes .states + c .before .before .before .before .before .before .before .before .before .before .before .before .before .before .before .before .before .before .args .sizes .flows) 510 (within-count (c .before .before .before .before .before .before .before .before .before .before .before .before .before .before .before .before .before)),
+    part-length 0 (c .before .before .before .before .before .before .before .before .before .before .before .before .before .before .before .before .before .before .args .sizes .nodes) 4000 (within-nodes (c .before .before .before .before .before .before .before .before .before .before .before .before .before .before .before .before .before)),
+    part-length 0 (c .before .before .before .before .before .before .before .before .before .before .before .before .before .before .before .before .before .before .args .sizes .transitions) 255 (within-transitions (c .before .before .before .before .before .before .before .before .before .before .before .before .before .before .before .before .before)),
+    part-length 0 (c .before .before .before .before .before .before .before .before .before .before .before .before .before .before .before .before .before .before .args .sizes .states + c .before .before .before .before .before .before .before .before .before .before .before .before .before .before .before .before .before .before .args .sizes .flows) 510 (within-count (c .before .before .before .before .before .before .before .before .before .before .before .before .before .before .before .before .before)),
+    part-length 0 (c .before .before .before .before .before .before .before .before .before .before .before .before .before .before .before .before .before .before .args .sizes .nodes + c .before .before .before .before .before .before .before .before .before .before .before .before .before .before .before .before .before .before .args .sizes .nodes) 8000 (within-links (c .before .before .before .before .before .before .before .before .before .before .before .before .before .before .before .before .before)),
   ),
   record {
-    zeros = part-blank (pos 0) ((c .before .before .before .before .before .before .before .before .before .before .before .before .before .before .before .before .before .before .before .args .sizes .states + c .before .before .before .before .before .before .before .before .before .before .before .before .before .before .before .before .before .before .before .args .sizes .flows)) 510 (within-count (c .before .before .before .before .before .before .before .before .before .before .before .before .before .before .before .before .before .before));
+    zeros = part-blank (pos 0) (c .before .before .before .before .before .before .before .before .before .before .before .before .before .before .before .before .before .before .args .sizes .states + c .before .before .before .before .before .before .before .before .before .before .before .before .before .before .before .before .before .before .args .sizes .flows) 510 (within-count (c .before .before .before .before .before .before .before .before .before .before .before .before .before .before .before .before .before));
     valuation =
         record {
-          nothingKnown = part-blank unknownCell ((c .before .before .before .before .before .before .before .before .before .before .before .before .before .before .before .before .before .before .before .args .sizes .states + c .before .before .before .before .before .before .before .before .before .before .before .before .before .before .before .before .before .before .before .args .sizes .flows)) 510 (within-count (c .before .before .before .before .before .before .before .before .before .before .before .before .before .before .before .before .before .before));
+          nothingKnown = part-blank unknownCell (c .before .before .before .before .before .before .before .before .before .before .before .before .before .before .before .before .before .before .args .sizes .states + c .before .before .before .before .before .before .before .before .before .before .before .before .before .before .before .before .before .before .args .sizes .flows) 510 (within-count (c .before .before .before .before .before .before .before .before .before .before .before .before .before .before .before .before .before));
           gathering =
               record {
-                nothingGiven = part-blank unknownCell ((c .before .before .before .before .before .before .before .before .before .before .before .before .before .before .before .before .before .before .before .args .sizes .states + c .before .before .before .before .before .before .before .before .before .before .before .before .before .before .before .before .before .before .before .args .sizes .flows)) 510 (within-count (c .before .before .before .before .before .before .before .before .before .before .before .before .before .before .before .before .before .before));
-                nothingQueued = part-blank 0 ((c .before .before .before .before .before .before .before .before .before .before .before .before .before .before .before .before .before .before .before .args .sizes .states + c .before .before .before .before .before .before .before .before .before .before .before .before .before .before .before .before .before .before .before .args .sizes .flows)) 510 (within-count (c .before .before .before .before .before .before .before .before .before .before .before .before .before .before .before .before .before .before));
-                nothingMarked = part-blank 0 (c .before .before .before .before .before .before .before .before .before .before .before .before .before .before .before .before .before .before .before .args .sizes .nodes) 4000 (within-nodes (c .before .before .before .before .before .before .before .before .before .before .before .before .before .before .before .before .before .before));
+                nothingGiven = part-blank unknownCell (c .before .before .before .before .before .before .before .before .before .before .before .before .before .before .before .before .before .before .args .sizes .states + c .before .before .before .before .before .before .before .before .before .before .before .before .before .before .before .before .before .before .args .sizes .flows) 510 (within-count (c .before .before .before .before .before .before .before .before .before .before .before .before .before .before .before .before .before));
+                nothingQueued = part-blank 0 (c .before .before .before .before .before .before .before .before .before .before .before .before .before .before .before .before .before .before .args .sizes .states + c .before .before .before .before .before .before .before .before .before .before .before .before .before .before .before .before .before .before .args .sizes .flows) 510 (within-count (c .before .before .before .before .before .before .before .before .before .before .before .before .before .before .before .before .before));
+                nothingMarked = part-blank 0 (c .before .before .before .before .before .before .before .before .before .before .before .before .before .before .before .before .before .before .args .sizes .nodes) 4000 (within-nodes (c .before .before .before .before .before .before .before .before .before .before .before .before .before .before .before .before .before));
               };
         };
   },
-  part-blank (pos 0) ((c .before .before .before .before .before .before .before .before .before .before .before .before .before .before .before .before .before .before .before .args .sizes .states + c .before .before .before .before .before .before .before .before .before .before .before .before .before .before .before .before .before .before .before .args .sizes .flows)) 510 (within-count (c .before .before .before .before .before .before .before .before .before .before .before .before .before .before .before .before .before .before)),
+  part-blank (pos 0) (c .before .before .before .before .before .before .before .before .before .before .before .before .before .before .before .before .before .before .args .sizes .states + c .before .before .before .before .before .before .before .before .before .before .before .before .before .before .before .before .before .before .args .sizes .flows) 510 (within-count (c .before .before .before .before .before .before .before .before .before .before .before .before .before .before .before .before .before)),
 )
 
 same-length : tie.Need-same-length
@@ -147,7 +140,7 @@ same-length-2 : tie.Need-same-length-2
 same-length-2 c = search needs
 
 returns : tie.Need-returns
-returns c = c .before .before .before .before .before .before .before .before .before .before .before .before .before .before .before .before .advance-in .ensures
+returns c = search needs
 
 pub advance-large-spec : {M : Type 1} → statement M
 advance-large-spec =
@@ -156,31 +149,29 @@ advance-large-spec =
     add-count
     array-borrow-prefix-parameters
     slice-aggregate-advance-in
-    array-borrow-prefix-sorts
-    slice-aggregate-advance-in-2
     array-borrow-prefix-variables
-    slice-aggregate-advance-in-3
+    slice-aggregate-advance-in-2
     array-borrow-prefix-nexts
-    slice-aggregate-advance-in-4
+    slice-aggregate-advance-in-3
     array-borrow-prefix-guards
-    slice-aggregate-advance-in-5
+    slice-aggregate-advance-in-4
     array-borrow-prefix-heads
-    slice-aggregate-advance-in-6
+    slice-aggregate-advance-in-5
     add-links
     array-borrow-prefix-links
-    slice-aggregate-advance-in-7
+    slice-aggregate-advance-in-6
     array-borrow-prefix-states
-    slice-aggregate-advance-in-8
+    slice-aggregate-advance-in-7
     array-borrow-prefix-cells
-    slice-aggregate-advance-in-9
+    slice-aggregate-advance-in-8
     array-borrow-prefix-given
-    slice-aggregate-advance-in-10
+    slice-aggregate-advance-in-9
     array-borrow-prefix-queue
-    slice-aggregate-advance-in-11
+    slice-aggregate-advance-in-10
     array-borrow-prefix-waits
-    slice-aggregate-advance-in-12
+    slice-aggregate-advance-in-11
     array-borrow-prefix-copy
-    slice-aggregate-advance-in-13
+    slice-aggregate-advance-in-12
     advance-in-requires
     same-length
     same-length-2

@@ -18,19 +18,18 @@ enum-known-sizes c = search needs
 
 decode-requires : tie.Need-decode-requires
 decode-requires c κs =
-    let read = c .before .before .before .before .before .before in
+    let read = c .before .before .before .before .before in
     let checked = read .before .before in
     let accepted = sym (checked .check .ensures) ∙ read .sizes .given .1 in
     let few = answer-sizes _ _ accepted .few in
     let f = answer-fits _ _ (checked .before .shared-slice-known .given) accepted in (
       accepted,
       (
-        omega (arith, few, c .before .before .before .before .decode-arg .given .0 .1),
-        omega (arith, c .before .before .before .decode-arg2 .given .0 .1),
-        omega (arith, c .before .before .decode-arg3 .given .0 .1),
-        omega (arith, few, c .before .decode-arg4 .given .0 .1),
-        omega (arith, c .decode-arg5 .given .0 .1),
-        omega (arith, c .before .decode-arg4 .given .0 .1),
+        omega (arith, few, c .before .before .before .decode-arg .given .0 .1),
+        omega (arith, c .before .before .decode-arg2 .given .0 .1),
+        omega (arith, few, c .before .decode-arg3 .given .0 .1),
+        omega (arith, c .decode-arg4 .given .0 .1),
+        omega (arith, c .before .decode-arg3 .given .0 .1),
       ),
     )
 
@@ -38,20 +37,17 @@ returns : tie.Need-returns
 returns c =
     let checked = c .before .before .before in
     let given = checked .before .before .args in
-    refused-prepared (given .model .now)
-    (arrays (given .parameters .now) (given .sorts .now) (given .variables .now) (given .nexts .now) (given .guards .now))
+    refused-prepared (given .model .now) (arrays (given .parameters .now) (given .variables .now) (given .nexts .now) (given .guards .now))
     _ (sym (checked .check .ensures) ∙ c .before .number .given .1)
 
 returns-2 : tie.Need-returns-2
 returns-2 c =
-    let read = c .before .before .before .before .before .before .before in
+    let read = c .before .before .before .before .before .before in
     let checked = read .before .before in
     let given = checked .before .before .args in
     let left = c .decode .last in
-    ready-prepared (given .model .now)
-    (arrays (given .parameters .now) (given .sorts .now) (given .variables .now) (given .nexts .now) (given .guards .now))
-    _
-    (arrays (left .1 .1 .0) (left .1 .1 .1 .0) (left .1 .1 .1 .1 .0) (left .1 .1 .1 .1 .1 .0) (left .1 .1 .1 .1 .1 .1 .0))
+    ready-prepared (given .model .now) (arrays (given .parameters .now) (given .variables .now) (given .nexts .now) (given .guards .now)) _
+    (arrays (left .1 .1 .0) (left .1 .1 .1 .0) (left .1 .1 .1 .1 .0) (left .1 .1 .1 .1 .1 .0))
     (c .decode .result) (sym (checked .check .ensures) ∙ read .sizes .given .1) (c .decode .ensures)
 
 pub prepare-spec : {M : Type 1} → statement M

@@ -34,14 +34,14 @@ answer c = sym (c .before .before .before .before .check .ensures) ∙ c .before
 fits : (c : tie.After-kinds-of) → Fits (sizes c)
 fits c = answer-fits _ _ (c .before .before .before .before .before .shared-slice-known .given) (answer c)
 
-add-read-sorts : tie.Need-add-read-sorts
-add-read-sorts c = omega (arith, fits (c .before))
+add-sorts-in : tie.Need-add-sorts-in
+add-sorts-in c = omega (arith, fits (c .before))
 
-read-sorts-requires : tie.Need-read-sorts-requires
-read-sorts-requires c κs =
+sorts-in-requires : tie.Need-sorts-in-requires
+sorts-in-requires c κs =
     let listed = c .before .before in (
       sorts-asked _ (sizes listed) _ (listed .kinds-of .ensures) (answer listed),
-      omega (arith, fits listed, c .read-sorts-arg .given .0 .1),
+      omega (arith, fits listed, c .sorts-in-arg .given .0 .1),
     )
 
 returns : tie.Need-returns
@@ -54,8 +54,8 @@ returns-2 : tie.Need-returns-2
 returns-2 c =
     let listed = c .before .before .before in
     let given = listed .before .before .before .before .before .before .args in
-    sorts-read (given .model .now) (given .sorts .now) (sizes listed) _ (c .read-sorts .last .1 .1 .0)
-    (answer listed) (listed .kinds-of .ensures) (c .read-sorts .ensures)
+    sorts-read (given .model .now) (given .sorts .now) (sizes listed) _ (c .sorts-in .last .1 .1 .0)
+    (answer listed) (listed .kinds-of .ensures) (c .sorts-in .ensures)
 
 pub sorts-of-spec : {M : Type 1} → statement M
 sorts-of-spec =
@@ -65,7 +65,7 @@ sorts-of-spec =
     enum-known-number
     enum-known-sizes
     kinds-of-requires
-    add-read-sorts
-    read-sorts-requires
+    add-sorts-in
+    sorts-in-requires
     returns
     returns-2)

@@ -7,7 +7,7 @@ use Rattle.propagation.proofs.Overwriting.{partly, partly-put}
 use Rattle.standing.specs.Runs.{run}
 use Rattle.standing.proofs.Holding.{stale, held}
 use Rattle.steps.specs.Answers.{seen}
-use Rattle.inspection.proofs.Declared.{rows-declared}
+use Rattle.steps.proofs.Declarations.{rows-declared}
 use Rattle.inspection.proofs.QueryTests.{marks-short, marks-few, buffer-few, marks-stale, marks-done}
 use Rattle.inspection.proofs.copy_marks.Statement.{statement}
 use Rattle.inspection.proofs.copy_marks.Tie as tie

@@ -6,7 +6,7 @@ use mir.ValLaws.{toZ-ofZ}
 use Rattle.standing.specs.Runs.{run}
 use Rattle.standing.proofs.Holding.{stale, held}
 use Rattle.steps.specs.Answers.{seen}
-use Rattle.inspection.proofs.Declared.{rows-declared}
+use Rattle.steps.proofs.Declarations.{rows-declared}
 use Rattle.inspection.proofs.QueryTests.{value-short, value-few, value-unknown, value-stale, value-done}
 use Rattle.inspection.proofs.held_value.Statement.{statement}
 use Rattle.inspection.proofs.held_value.Tie as tie

@@ -1,11 +1,10 @@
 -- An if-then: its mark, and its body, which is due or is skipped.
-use mathlib.Core.Path.{_∙_}
 use native.Mathlib.Omega.{arith}
 use mir.Syntax.{w32}
 use borrow.Author.Needs.{needs}
 use Rattle.evaluation.proofs.Signed.{equal-bits, other-bits, one-fits}
 use Rattle.expressions.specs.Cells.{valuationOf}
-use Rattle.reading.proofs.Walking.{condition-stands, body-within, tested-unknown, tested-failed, tested-false, tested-true}
+use Rattle.reading.proofs.Walking.{condition-stands, body-within, tested-nothing, tested-false, tested-true}
 use Rattle.reading.proofs.test.Statement.{statement}
 use Rattle.reading.proofs.test.Tie as tie
 
@@ -30,63 +29,38 @@ shared-slice-read-past c =
 cast-past : tie.Need-cast-past
 cast-past c = omega (arith, c .shared-slice-known3 .given (c .before .evaluate .result .next .at))
 
-enum-told : tie.Need-enum-told
-enum-told c = search needs
-
-mark-requires : tie.Need-mark-requires
-mark-requires c κs = search needs
-
-enum-told-2 : tie.Need-enum-told-2
-enum-told-2 c = search needs
-
-mark-requires-2 : tie.Need-mark-requires-2
-mark-requires-2 c κs = search needs
-
-fail-requires : tie.Need-fail-requires
-fail-requires c κs = search needs
+note-requires : tie.Need-note-requires
+note-requires c κs = search needs
 
 enum-known-condition : tie.Need-enum-known-condition
 enum-known-condition c = search needs
-
-mark-requires-3 : tie.Need-mark-requires-3
-mark-requires-3 c κs = search needs
 
 same-length : tie.Need-same-length
 same-length c = search needs
 
 returns : tie.Need-returns
 returns c =
-    let s = c .before .before .before .before .before .before .before .before .before .before .before in
-    let m = c .before .before .mark .ensures in
-    (λ lows highs given queue. tested-unknown (s .args .kinds .now) (s .args .parameters .now) (valuationOf (s .args .cells .now)) (s .args .at) (s .args .round) (s .args .start) (s .args .waits .now) (c .before .before .before .before .before .before .before .evaluate .ensures) lows highs given queue (s .args .nexts .now) (s .pre .0 .places) (c .before .before .before .before .enum-told .given .1) m, m .2, m .3)
+    let s = c .before .before .before .before .before .before .before .before .before .before .before .before .before in
+    let m = c .before .before .before .before .before .before .note .ensures in
+    (λ lows highs given queue. tested-true (s .args .kinds .now) (s .args .parameters .now) (valuationOf (s .args .cells .now)) (s .args .at) (s .args .round) (s .args .start) (s .args .waits .now) (c .before .before .before .before .before .before .before .before .before .evaluate .ensures) lows highs given queue (c .before .before .condition .given .1) (equal-bits w32 (record { sfits = c .before .known-told .given .0 .1 }) one-fits (c .if1 .taken)) m, m .2, m .3)
 
 same-length-2 : tie.Need-same-length-2
 same-length-2 c = search needs
 
 returns-2 : tie.Need-returns-2
 returns-2 c =
-    let s = c .before .before .before .before .before .before .before .before .before .before .before .before in
-    let m = c .before .before .before .mark2 .ensures in
-    let f = c .fail .ensures in
-    (λ lows highs given queue. tested-failed (s .args .kinds .now) (s .args .parameters .now) (valuationOf (s .args .cells .now)) (s .args .at) (s .args .round) (s .args .start) (s .args .waits .now) (c .before .before .before .before .before .before .before .before .evaluate .ensures) lows highs given queue (s .args .nexts .now) (s .pre .0 .places) (c .before .before .before .before .before .enum-told2 .given .1) m f, f .1 ∙ m .2, f .2 ∙ m .3)
+    let s = c .before .before .before .before .before .before .before .before .before .before .before .before .before in
+    let m = c .before .before .before .before .before .before .note .ensures in
+    (λ lows highs given queue. tested-false (s .args .kinds .now) (s .args .parameters .now) (valuationOf (s .args .cells .now)) (s .args .at) (s .args .round) (s .args .start) (s .args .waits .now) (c .before .before .before .before .before .before .before .before .before .evaluate .ensures) lows highs given queue (s .args .nexts .now) (s .pre .0 .places) (c .before .before .condition .given .1) (other-bits w32 (record { sfits = c .before .known-told .given .0 .1 }) one-fits (c .if1 .left)) m, m .2, m .3)
 
 same-length-3 : tie.Need-same-length-3
 same-length-3 c = search needs
 
 returns-3 : tie.Need-returns-3
 returns-3 c =
-    let s = c .before .before .before .before .before .before .before .before .before .before .before .before .before in
-    let m = c .before .before .before .mark3 .ensures in
-    (λ lows highs given queue. tested-true (s .args .kinds .now) (s .args .parameters .now) (valuationOf (s .args .cells .now)) (s .args .at) (s .args .round) (s .args .start) (s .args .waits .now) (c .before .before .before .before .before .before .before .before .before .evaluate .ensures) lows highs given queue (c .before .before .before .before .before .before .condition .given .1) (equal-bits w32 (record { sfits = c .before .before .before .before .before .known-told .given .0 .1 }) one-fits (c .if1 .taken)) m, m .2, m .3)
-
-same-length-4 : tie.Need-same-length-4
-same-length-4 c = search needs
-
-returns-4 : tie.Need-returns-4
-returns-4 c =
-    let s = c .before .before .before .before .before .before .before .before .before .before .before .before .before in
-    let m = c .before .before .before .mark3 .ensures in
-    (λ lows highs given queue. tested-false (s .args .kinds .now) (s .args .parameters .now) (valuationOf (s .args .cells .now)) (s .args .at) (s .args .round) (s .args .start) (s .args .waits .now) (c .before .before .before .before .before .before .before .before .before .evaluate .ensures) lows highs given queue (s .args .nexts .now) (s .pre .0 .places) (c .before .before .before .before .before .before .condition .given .1) (other-bits w32 (record { sfits = c .before .before .before .before .before .known-told .given .0 .1 }) one-fits (c .if1 .left)) m, m .2, m .3)
+    let s = c .before .before .before .before .before .before .before .before .before .before in
+    let m = c .before .before .before .note .ensures in
+    (λ lows highs given queue. tested-nothing (s .args .kinds .now) (s .args .parameters .now) (valuationOf (s .args .cells .now)) (s .args .at) (s .args .round) (s .args .start) (s .args .waits .now) (c .before .before .before .before .before .before .evaluate .ensures) lows highs given queue (s .args .nexts .now) (s .pre .0 .places) (c .match .keys2) m, m .2, m .3)
 
 pub test-spec : {M : Type 1} → statement M
 test-spec =
@@ -97,18 +71,11 @@ test-spec =
     mul-past
     shared-slice-read-past
     cast-past
-    enum-told
-    mark-requires
-    enum-told-2
-    mark-requires-2
-    fail-requires
+    note-requires
     enum-known-condition
-    mark-requires-3
     same-length
     returns
     same-length-2
     returns-2
     same-length-3
-    returns-3
-    same-length-4
-    returns-4)
+    returns-3)

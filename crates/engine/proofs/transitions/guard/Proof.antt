@@ -2,7 +2,7 @@
 use borrow.Author.Needs.{needs}
 use native.Mathlib.Omega.{arith}
 use Rattle.expressions.specs.Cells.{valuationOf}
-use Rattle.engine.proofs.Firings.{guard-missing, guard-stands, guard-evaluated}
+use Rattle.engine.proofs.Guards.{guard-missing, guard-stands, guard-evaluated}
 use Rattle.engine.proofs.transitions.guard.Statement.{statement}
 use Rattle.engine.proofs.transitions.guard.Tie as tie
 

@@ -1,2 +1,0 @@
--- Definitions of crate `advancing`: how the code goes about it.
-pub mod Lending

@@ -1,0 +1,2 @@
+-- Proofs of crate `loading`: what the function is proved by.
+pub mod Parts

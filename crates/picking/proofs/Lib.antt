@@ -1,0 +1,2 @@
+-- Proofs of crate `picking`: what its functions are proved by.
+pub mod Picking
