@@ -1,12 +1,14 @@
 // Start, fire and undo on a model file, checked and loaded in cells that are declared here and lent on.
 
+#![tactic(auto)]
+
 ghost use Rattle.std.specs.Prelude.{◌≡◌, ◌+◌, ◌≤◌};
 ghost use Rattle.model.specs.declared.Checked.TheVariants.{Accepted};
 ghost use Rattle.model.specs.Check.{verdict, answer_of};
 ghost use Rattle.standing.specs.Runs.{run, answered};
 ghost use Rattle.steps.specs.Calls.{step_on};
 ghost use Rattle.steps.specs.Lent.{cells_left};
-ghost use Rattle.steps.specs.Answers.{seen, onFile};
+ghost use Rattle.steps.specs.Answers.{seen, on_file};
 
 use model::{Checked, Model, Sizes, check};
 use replaying::Move;
@@ -25,7 +27,7 @@ fn advance_small(
 ) -> Answer
     requires { (answer_of (verdict model.now) ≡ Accepted sizes) × (sizes.nodes ≤ 1024) × (sizes.states + sizes.flows ≤ 256) }
     ensures { answered (seen result) (values.new, marks.new)
-        ≡ cells_left (onFile (verdict model.now) (λ m. step_on m step (run values.old marks.old history.now n)) (run values.old marks.old history.now n)) }
+        ≡ cells_left (on_file (verdict model.now) (λ m. step_on m step (run values.old marks.old history.now n)) (run values.old marks.old history.now n)) }
 {
     let mut parameters = [0i32; Model::FEW_NODES];
     let mut variables = [[0i32; 3]; Model::FEW_VARIABLES];
@@ -76,7 +78,7 @@ fn advance_large(
 ) -> Answer
     requires { answer_of (verdict model.now) ≡ Accepted sizes }
     ensures { answered (seen result) (values.new, marks.new)
-        ≡ cells_left (onFile (verdict model.now) (λ m. step_on m step (run values.old marks.old history.now n)) (run values.old marks.old history.now n)) }
+        ≡ cells_left (on_file (verdict model.now) (λ m. step_on m step (run values.old marks.old history.now n)) (run values.old marks.old history.now n)) }
 {
     let mut parameters = [0i32; Model::MAX_NODES];
     let mut variables = [[0i32; 3]; Model::MAX_VARIABLES];
@@ -125,7 +127,7 @@ pub fn advance(
     step: Move,
 ) -> Answer
     ensures { answered (seen result) (values.new, marks.new)
-        ≡ cells_left (onFile (verdict model.now) (λ m. step_on m step (run values.old marks.old history.now n)) (run values.old marks.old history.now n)) }
+        ≡ cells_left (on_file (verdict model.now) (λ m. step_on m step (run values.old marks.old history.now n)) (run values.old marks.old history.now n)) }
 {
     match check::check(model) {
         Checked::Refused(number) => Answer::Refused(number),

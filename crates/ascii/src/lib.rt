@@ -1,5 +1,7 @@
 // Bytes that stand for characters.
 
+#![tactic(auto)]
+
 ghost use Rattle.std.specs.Prelude.{◌≡◌, ◌||◌};
 ghost use Rattle.ascii.specs.Ascii.{same, is_digit, is_letter};
 

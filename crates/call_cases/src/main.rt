@@ -11,17 +11,22 @@
 // nothing, 7 a variable outside its ends, 8 all within), how many values were looked at (two bytes; 0 but in the last two forms), four
 // bytes of 0, then eight bytes each: the transition or variable, the answer's number (the sizes are S, F, E, T in a byte each and N in
 // two), and n afterwards.
+
+#![tactic(auto)]
+
 ghost use Rattle.std.specs.Prelude.{◌<◌, ◌≤◌};
 
-use libc::STDOUT_FILENO;
 use model::Sizes;
 use results::Found;
 use run::Call;
+use std::io;
+use std::io::Read;
+use std::rt::Files;
 use steps::Answer;
 use syntax::nodes;
 
 // How many lists and calls were carried out, and how many calls differed.
-#[derive(Drop)]
+#[derive(Clone, Copy)]
 struct Tally {
     lists: u64,
     calls: u64,
@@ -29,7 +34,7 @@ struct Tally {
 }
 
 // An answer as the header of a call has it: its form, its number, and how many values were looked at.
-#[derive(Drop)]
+#[derive(Clone, Copy)]
 struct Reply {
     form: u8,
     number: usize,
@@ -37,7 +42,7 @@ struct Reply {
 }
 
 // The header of a call: whether it was read, the call, the answer, and n afterwards.
-#[derive(Drop)]
+#[derive(Clone, Copy)]
 struct Head {
     is_whole: bool,
     call: Call,
@@ -73,39 +78,39 @@ fn eight(head: &[u8; 32], at: usize) -> usize
 }
 
 // Reads as many bytes as the row has; are they the row? A row of more than 520 bytes is not read.
-fn is_next_row(fd: i32, row: &[u8]) -> bool {
+fn is_next_row(file: &mut impl Read, row: &[u8]) -> io::Result<bool> {
     let mut stored = [0u8; 520];
-    let is_whole = cases::is_read(fd, &mut stored, row.len());
-    cases::is_same_bytes(&stored, row, 0) & is_whole
+    let is_whole = cases::is_read(file, &mut stored, row.len())?;
+    Ok(cases::is_same_bytes(&stored, row, 0) & is_whole)
 }
 
 // Reads as many values as there are, at most 520; are they the same?
-fn is_next_values(fd: i32, values: &[i32]) -> bool {
+fn is_next_values(file: &mut impl Read, values: &[i32]) -> io::Result<bool> {
     let mut stored = [0u8; 2080];
     if 520 < values.len() {
-        return false;
+        return Ok(false);
     }
     let count = 4 * values.len();
-    let is_whole = cases::is_read(fd, &mut stored, count);
-    cases::is_same_values(values, &stored[0..count], 0) & is_whole
+    let is_whole = cases::is_read(file, &mut stored, count)?;
+    Ok(cases::is_same_values(values, &stored[0..count], 0) & is_whole)
 }
 
 // The next values, so many.
-fn next_values(fd: i32, count: usize) -> [i32; 520]
+fn next_values(file: &mut impl Read, count: usize) -> io::Result<[i32; 520]>
     requires { count ≤ 520 }
 {
     let mut stored = [0u8; 2080];
     let mut values = [0i32; 520];
-    cases::is_read(fd, &mut stored, 4 * count);
+    cases::is_read(file, &mut stored, 4 * count)?;
     cases::load_values(&stored, &mut values);
-    values
+    Ok(values)
 }
 
 // The next bytes, so many, if they are 520 at most.
-fn next_row(fd: i32, count: usize) -> [u8; 520] {
+fn next_row(file: &mut impl Read, count: usize) -> io::Result<[u8; 520]> {
     let mut row = [0u8; 520];
-    cases::is_read(fd, &mut row, count);
-    row
+    cases::is_read(file, &mut row, count)?;
+    Ok(row)
 }
 
 // An answer whose number is all that it tells.
@@ -136,7 +141,7 @@ fn found_reply(found: Found, form: u8, nothing: u8, looked: usize) -> Reply {
 // A value as a number of eight bytes.
 fn value_number(value: i32) -> usize {
     if value < 0 {
-        return std::num::wrapping_sub_usize(0, nodes::magnitude(value));
+        return 0usize.wrapping_sub(nodes::magnitude(value));
     }
     nodes::magnitude(value)
 }
@@ -167,25 +172,17 @@ fn reply_of(wanted: usize, answer: Answer) -> Reply {
     }
 }
 
-// Prints a space and a number.
-fn tell_number(number: usize) {
-    io::write_all(STDOUT_FILENO, b" ");
-    io::print_decimal(STDOUT_FILENO, number as u64);
-}
-
 // Prints a word, an answer and n: the form, the number, how many values were looked at, and n. Sizes are told as the header packs them,
 // other sizes as 0; a negative value as it stands in eight bytes.
-fn tell(word: &[u8], reply: Reply, n: usize) {
-    io::write_all(STDOUT_FILENO, word);
-    tell_number(cases::wide(reply.form));
-    tell_number(reply.number);
-    tell_number(reply.looked);
-    tell_number(n);
-    io::write_all(STDOUT_FILENO, b"; ");
+fn tell(rt: &impl Print, word: &str, reply: Reply, n: usize) -> io::Result<()> {
+    print!(rt;
+        "{word} {} {} {} {n}; ",
+        reply.form, reply.number, reply.looked
+    )
 }
 
 // Was the header read, and are the answer and n those in it? If not, both are told.
-fn is_wanted(head: Head, answer: Answer, n: usize) -> bool {
+fn is_wanted(rt: &impl Print, head: Head, answer: Answer, n: usize) -> io::Result<bool> {
     let wanted = head.reply;
     let came = reply_of(wanted.number, answer);
     let is_same = (wanted.form == came.form)
@@ -193,11 +190,11 @@ fn is_wanted(head: Head, answer: Answer, n: usize) -> bool {
         & (wanted.looked == came.looked)
         & (head.n == n);
     if head.is_whole & is_same {
-        return true;
+        return Ok(true);
     }
-    tell(b"wanted", wanted, head.n);
-    tell(b"came", came, n);
-    false
+    tell(rt, "wanted", wanted, head.n)?;
+    tell(rt, "came", came, n)?;
+    Ok(false)
 }
 
 // The stored call.
@@ -215,65 +212,65 @@ fn call_of(call: u8, number: usize) -> Call {
 }
 
 // The next header of a call.
-fn next_head(fd: i32) -> Head {
+fn next_head(file: &mut impl Read) -> io::Result<Head> {
     let mut head = [0u8; 32];
-    let is_whole = cases::is_read(fd, &mut head, 32);
+    let is_whole = cases::is_read(file, &mut head, 32)?;
     let call = call_of(head[0], eight(&head, 8));
     let reply = Reply {
         form: head[1],
         number: eight(&head, 16),
         looked: cases::two(&head, 2),
     };
-    Head {
+    Ok(Head {
         is_whole,
         call,
         reply,
         n: eight(&head, 24),
-    }
+    })
 }
 
 // Reads the store after a call, all of it; is everything lent as in it? If not, that is told.
-fn is_left(fd: i32, values: &[i32], marks: &[u8], history: &[u8], buffer: &[u8]) -> bool {
-    let is_same = is_next_values(fd, values)
-        & is_next_row(fd, marks)
-        & is_next_row(fd, history)
-        & is_next_row(fd, buffer);
-    if is_same {
-        return true;
+fn is_left(
+    rt: &impl Print,
+    file: &mut impl Read,
+    values: &[i32],
+    marks: &[u8],
+    history: &[u8],
+    buffer: &[u8],
+) -> io::Result<bool> {
+    let is_same = is_next_values(file, values)?
+        & is_next_row(file, marks)?
+        & is_next_row(file, history)?
+        & is_next_row(file, buffer)?;
+    if !is_same {
+        print!(rt; "a value, a mark, an entry or a byte of the buffer is another; ")?;
     }
-    io::write_all(
-        STDOUT_FILENO,
-        b"a value, a mark, an entry or a byte of the buffer is another; ",
-    );
-    false
+    Ok(is_same)
 }
 
 // The tally with one call more; a call that differs is told.
-fn counted(tally: Tally, is_same: bool) -> Tally {
-    let calls = std::num::wrapping_add_u64(tally.calls, 1);
+fn counted(rt: &impl Print, tally: Tally, is_same: bool) -> io::Result<Tally> {
+    let calls = tally.calls.wrapping_add(1);
     if is_same {
-        return Tally {
+        return Ok(Tally {
             lists: tally.lists,
             calls,
             differing: tally.differing,
-        };
+        });
     }
-    io::write_all(STDOUT_FILENO, b"list ");
-    io::print_decimal(STDOUT_FILENO, tally.lists);
-    io::write_all(STDOUT_FILENO, b", call ");
-    io::print_decimal(STDOUT_FILENO, calls);
-    io::write_all(STDOUT_FILENO, b" differs\n");
-    Tally {
+    println!(rt; "list {}, call {calls} differs", tally.lists)?;
+    Ok(Tally {
         lists: tally.lists,
         calls,
-        differing: std::num::wrapping_add_u64(tally.differing, 1),
-    }
+        differing: tally.differing.wrapping_add(1),
+    })
 }
 
 // All calls of a list, on one run.
 fn all_calls(
-    fd: i32,
-    mut left: usize,
+    rt: &impl Print,
+    file: &mut impl Read,
+    calls: usize,
     model: &[u8],
     values: &mut [i32],
     marks: &mut [u8],
@@ -281,17 +278,16 @@ fn all_calls(
     mut n: usize,
     buffer: &mut [u8],
     mut tally: Tally,
-) -> Tally {
-    while 0 < left {
-        left -= 1;
-        let head = next_head(fd);
+) -> io::Result<Tally> {
+    for _ in 0..calls {
+        let head = next_head(file)?;
         let call = head.call;
         let answer = run::perform(call, model, values, marks, history, &mut n, buffer);
-        let is_answered = is_wanted(head, answer, n);
-        let is_same = is_left(fd, values, marks, history, buffer);
-        tally = counted(tally, is_answered & is_same);
+        let is_answered = is_wanted(rt, head, answer, n)?;
+        let is_same = is_left(rt, file, values, marks, history, buffer)?;
+        tally = counted(rt, tally, is_answered & is_same)?;
     }
-    tally
+    Ok(tally)
 }
 
 // A length in the header of a list, cut to 520: 517 values and 512 places are the most that a list has.
@@ -304,17 +300,24 @@ fn length_at(head: &[u8; 32], at: usize) -> usize
 }
 
 // A list from the store at the beginning, on a run that is made of parts of local arrays, with the stored lengths.
-fn one_list(fd: i32, head: &[u8; 32], model: &[u8], tally: Tally) -> Tally {
+fn one_list(
+    rt: &impl Print,
+    file: &mut impl Read,
+    head: &[u8; 32],
+    model: &[u8],
+    tally: Tally,
+) -> io::Result<Tally> {
     let variables = length_at(head, 8);
     let places = length_at(head, 10);
     let copied = length_at(head, 12);
     let held = length_at(head, 16);
-    let mut values = next_values(fd, variables);
-    let mut marks = next_row(fd, held);
-    let mut history = next_row(fd, places);
-    let mut buffer = next_row(fd, copied);
+    let mut values = next_values(file, variables)?;
+    let mut marks = next_row(file, held)?;
+    let mut history = next_row(file, places)?;
+    let mut buffer = next_row(file, copied)?;
     all_calls(
-        fd,
+        rt,
+        file,
         cases::two(head, 14),
         model,
         &mut values[0..variables],
@@ -329,53 +332,57 @@ fn one_list(fd: i32, head: &[u8; 32], model: &[u8], tally: Tally) -> Tally {
 // The tally with one list more.
 fn begun(tally: Tally) -> Tally {
     Tally {
-        lists: std::num::wrapping_add_u64(tally.lists, 1),
+        lists: tally.lists.wrapping_add(1),
         calls: tally.calls,
         differing: tally.differing,
     }
 }
 
 // Reads the model of a list and the twin, and carries the list out on one of them. A list whose models do not fit differs.
-fn next_list(fd: i32, of_twin: bool, head: &[u8; 32], tally: Tally) -> Tally {
+fn next_list(
+    rt: &impl Print,
+    file: &mut impl Read,
+    of_twin: bool,
+    head: &[u8; 32],
+    tally: Tally,
+) -> io::Result<Tally> {
     let mut files = [0u8; 49152];
     let first = cases::four(head, 0);
     let second = first + cases::four(head, 4);
     if files.len() < second {
-        return counted(tally, false);
+        return counted(rt, tally, false);
     }
-    cases::is_read(fd, &mut files, second);
+    cases::is_read(file, &mut files, second)?;
     if of_twin {
-        one_list(fd, head, &files[first..second], tally)
+        one_list(rt, file, head, &files[first..second], tally)
     } else {
-        one_list(fd, head, &files[0..first], tally)
+        one_list(rt, file, head, &files[0..first], tally)
     }
 }
 
-// All lists of data/cases, on the models or on their twins, with the tally before them. The turns fall, so the loop ends whatever the file holds.
-fn carried_out(of_twin: bool, mut tally: Tally) -> Tally {
-    let fd = cases::open();
+// All lists of data/cases, on the models or on their twins, with the tally before them.
+fn carried_out<R: Files + Print>(rt: &R, of_twin: bool, mut tally: Tally) -> io::Result<Tally> {
+    let mut file = cases::open(rt)?;
     let mut head = [0u8; 32];
-    let mut turns: u64 = 1000000;
-    while 0 < turns && cases::is_read(fd, &mut head, 32) {
-        turns -= 1;
-        tally = next_list(fd, of_twin, &head, begun(tally));
+    for _ in 0..u64::MAX {
+        if !cases::is_read(&mut file, &mut head, 32)? {
+            break;
+        }
+        tally = next_list(rt, &mut file, of_twin, &head, begun(tally))?;
     }
-    libc::close(fd);
-    tally
+    Ok(tally)
 }
 
-fn main() {
+fn main(rt: HostRuntime) -> io::Result<()> {
     let none = Tally {
         lists: 0,
         calls: 0,
         differing: 0,
     };
-    let models = carried_out(false, none);
-    let both = carried_out(true, models);
-    io::print_decimal(STDOUT_FILENO, models.lists);
-    io::write_all(STDOUT_FILENO, b" lists, ");
-    io::print_decimal(STDOUT_FILENO, both.calls);
-    io::write_all(STDOUT_FILENO, b" calls, ");
-    io::print_decimal(STDOUT_FILENO, both.differing);
-    io::write_all(STDOUT_FILENO, b" differ\n");
+    let models = carried_out(&rt, false, none)?;
+    let both = carried_out(&rt, true, models)?;
+    println!(rt;
+        "{} lists, {} calls, {} differ",
+        models.lists, both.calls, both.differing
+    )
 }

@@ -1,5 +1,7 @@
 // The calls on a run, on a text and on a model for C: 0 and the results, or the number of the refusal and nothing that was lent changed.
 
+#![tactic(auto)]
+
 ghost use Rattle.std.specs.Prelude.{◌≡◌};
 ghost use Rattle.results.specs.Results as results;
 ghost use Rattle.steps.specs.Answers.{seen};

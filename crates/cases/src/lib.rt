@@ -1,22 +1,29 @@
 // What the programs that run stored cases share: the numbers of a case, its reading, cells beside stored ones, and the tally.
 //
 // The cases stand one after the other in the file data/cases; numbers stand low byte first.
-ghost use Rattle.std.specs.Prelude.{◌≡◌, ◌+◌, ◌*◌, ◌<◌, ◌≤◌, length, take, replicate, slice_index_or};
+
+#![tactic(auto)]
+
+ghost use Rattle.std.specs.Prelude.{true, false, Ok, ◌≡◌, ◌+◌, ◌*◌, ◌<◌, ◌≤◌, length, take, replicate, slice_index_or};
+ghost use Rattle.std.specs.Io.KnownBytes.{Consumes};
 ghost use Rattle.model.specs.Sizes.{little_at};
 ghost use Rattle.model.specs.Check as model;
 ghost use Rattle.cases.specs.Cases.{same_bytes, same_values, values_in, no_cases, counted_in};
 
-use libc::STDOUT_FILENO;
+use std::fs::File;
+use std::io;
+use std::io::{ErrorKind, Read};
+use std::rt::Files;
 
 // How many cases were run, and how many differed.
-#[derive(Drop)]
+#[derive(Clone, Copy)]
 pub struct Tally {
     pub cases: u64,
     pub differing: u64,
 }
 
 // What running one case comes to: the end of the file, or whether it answered what is stored.
-#[derive(Drop)]
+#[derive(Clone, Copy)]
 pub enum Outcome {
     End,
     Equal(bool),
@@ -162,50 +169,54 @@ pub fn is_same_values(values: &[i32], stored: &[u8], fill: i32) -> bool
     true
 }
 
-// Opens data/cases. If it cannot be read that is told, and the descriptor reads nothing.
-pub fn open() -> i32 {
-    let fd = os::open_read(b"cases");
-    if fd < 0 {
-        os::fail(b"cases");
-    }
-    fd
+// Opens data/cases.
+pub fn open<R: Files>(files: &R) -> io::Result<R::File> {
+    File::open(files, "cases")
 }
 
 // Reads so many bytes into the beginning of the slice; false where it is shorter, or the file ends before.
-pub fn is_read(fd: i32, b: &mut [u8], count: usize) -> bool {
+pub fn is_read<R: Read>(file: &mut R, b: &mut [u8], count: usize) -> io::Result<bool>
+    ensures short { length b.old < count → result ≡ Ok false }
+    ensures read { result ≡ Ok true → Consumes (R.remaining file.old) (R.remaining file.new) (take count b.new) }
+{
     if b.len() < count {
-        return false;
+        return Ok(false);
     }
-    let filled = io::read_full(fd, &mut b[0..count]);
-    filled == count
+    match file.read_exact(&mut b[0..count]) {
+        Ok(()) => Ok(true),
+        Err(e) if e.kind() == ErrorKind::UnexpectedEof => Ok(false),
+        Err(e) => Err(e),
+    }
 }
 
-// The tally with one case more; a case that differs is told.
+// The tally with one case more.
 pub fn counted(tally: Tally, is_same: bool) -> Tally
     ensures { result ≡ counted_in tally is_same }
 {
-    let cases = std::num::wrapping_add_u64(tally.cases, 1);
+    let cases = tally.cases.wrapping_add(1);
     if is_same {
         return Tally {
             cases,
             differing: tally.differing,
         };
     }
-    io::write_all(STDOUT_FILENO, b"case ");
-    io::print_decimal(STDOUT_FILENO, cases);
-    io::write_all(STDOUT_FILENO, b" differs\n");
     Tally {
         cases,
-        differing: std::num::wrapping_add_u64(tally.differing, 1),
+        differing: tally.differing.wrapping_add(1),
     }
 }
 
+// Tells of the case counted last, where it differs.
+pub fn tell(rt: &impl Print, tally: &Tally, is_same: bool) -> io::Result<()> {
+    if !is_same {
+        println!(rt; "case {} differs", tally.cases)?;
+    }
+    Ok(())
+}
+
 // Prints the tally, with the word for what was counted.
-pub fn print(tally: Tally, word: &[u8]) {
-    io::print_decimal(STDOUT_FILENO, tally.cases);
-    io::write_all(STDOUT_FILENO, b" ");
-    io::write_all(STDOUT_FILENO, word);
-    io::write_all(STDOUT_FILENO, b", ");
-    io::print_decimal(STDOUT_FILENO, tally.differing);
-    io::write_all(STDOUT_FILENO, b" differ\n");
+pub fn print(rt: &impl Print, tally: Tally, word: &[u8]) -> io::Result<()> {
+    print!(rt; "{} ", tally.cases)?;
+    rt.write_all(word)?;
+    println!(rt; ", {} differ", tally.differing)
 }

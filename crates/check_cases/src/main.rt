@@ -5,11 +5,15 @@
 // body's length in four bytes. The five numbers of a model are its sizes; those of an expression are its sort (1 Boolean, 2
 // number) and its counts of kinds and parameters and the length of the model that it is handed beside, which stand in the
 // body in this order, a parameter in four bytes.
+
+#![tactic(auto)]
+
 ghost use Rattle.std.specs.Prelude.{◌*◌, ◌≤◌, length};
 
 use cases::{Outcome, Tally};
-use libc::STDOUT_FILENO;
 use model::{Checked, Given, Sizes, Sort};
+use std::io;
+use std::io::Read;
 
 fn sort_of(code: u8) -> Sort {
     if code == 1 {
@@ -90,51 +94,49 @@ fn answer(head: &[u8; 16], body: &[u8]) -> u8 {
 }
 
 // Is the answer the stored one? If not, both are told.
-fn is_wanted(answer: u8, wanted: u8) -> bool {
+fn is_wanted(rt: &impl Print, answer: u8, wanted: u8) -> io::Result<bool> {
     if answer == wanted {
-        return true;
+        return Ok(true);
     }
-    io::write_all(STDOUT_FILENO, b"answers ");
-    io::print_decimal(STDOUT_FILENO, answer as u64);
-    io::write_all(STDOUT_FILENO, b", wanted ");
-    io::print_decimal(STDOUT_FILENO, wanted as u64);
-    io::write_all(STDOUT_FILENO, b"; ");
-    false
+    print!(rt; "answers {answer}, wanted {wanted}; ")?;
+    Ok(false)
 }
 
 // Reads one case and runs it.
-fn next_case(fd: i32, buffer: &mut [u8]) -> Outcome {
+fn next_case(rt: &impl Print, file: &mut impl Read, buffer: &mut [u8]) -> io::Result<Outcome> {
     let mut head = [0u8; 16];
-    if !cases::is_read(fd, &mut head, 16) {
-        return Outcome::End;
+    if !cases::is_read(file, &mut head, 16)? {
+        return Ok(Outcome::End);
     }
     let length = cases::four(&head, 12);
     if buffer.len() < length {
-        return Outcome::End;
+        return Ok(Outcome::End);
     }
-    if !cases::is_read(fd, buffer, length) {
-        return Outcome::End;
+    if !cases::is_read(file, buffer, length)? {
+        return Ok(Outcome::End);
     }
-    Outcome::Equal(is_wanted(answer(&head, &buffer[0..length]), head[1]))
+    let answer = answer(&head, &buffer[0..length]);
+    Ok(Outcome::Equal(is_wanted(rt, answer, head[1])?))
 }
 
-// All cases of the file. The turns fall, so the loop ends whatever the file holds.
-fn run(fd: i32, buffer: &mut [u8]) -> Tally {
+// All cases of the file.
+fn run(rt: &impl Print, file: &mut impl Read, buffer: &mut [u8]) -> io::Result<Tally> {
     let mut tally = Tally::empty();
-    let mut turns: u64 = 1000000;
-    while 0 < turns {
-        turns -= 1;
-        match next_case(fd, buffer) {
-            Outcome::End => return tally,
-            Outcome::Equal(is_same) => tally = cases::counted(tally, is_same),
+    for _ in 0..u64::MAX {
+        match next_case(rt, file, buffer)? {
+            Outcome::End => return Ok(tally),
+            Outcome::Equal(is_same) => {
+                tally = cases::counted(tally, is_same);
+                cases::tell(rt, &tally, is_same)?;
+            }
         }
     }
-    tally
+    Ok(tally)
 }
 
-fn main() {
-    let fd = cases::open();
+fn main(rt: HostRuntime) -> io::Result<()> {
+    let mut file = cases::open(&rt)?;
     let mut buffer = [0u8; 32768];
-    cases::print(run(fd, &mut buffer), b"cases");
-    libc::close(fd);
+    let tally = run(&rt, &mut file, &mut buffer)?;
+    cases::print(&rt, tally, b"cases")
 }

@@ -1,11 +1,13 @@
 // The command that a line of the program's input is.
 
+#![tactic(auto)]
+
 ghost use Rattle.std.specs.Prelude.{◌≡◌, cond, [], ◌∷◌, ◌≤◌, length};
 ghost use Rattle.ascii.specs.Ascii.{are_digits, value_of};
 ghost use Rattle.commands.specs.Commands.{command_of, most_digits};
 
 // 01's commands; the last is none, refusal 13.
-#[derive(Drop)]
+#[derive(Clone, Copy)]
 pub enum Command {
     Fire(usize),
     Undo,

@@ -1,5 +1,7 @@
 // The nodes of a phrase, composed of those of its parts. A node stands in one cell, its kind times 2^32 plus its parameter.
 
+#![tactic(auto)]
+
 ghost use Rattle.std.specs.Prelude.{◌≡◌, cond, ◌&&◌, List, ◌∷◌, ◌++◌, map, ℕ, ◌+◌, ◌≤◌, ◌<◌, max, eqb, ltb, length, take, drop};
 ghost use Rattle.results.specs.Results.{over};
 ghost use Rattle.kinds.specs.Kinds.{boolean_sort, number_sort};
@@ -15,7 +17,7 @@ use grammar::Word;
 
 // A phrase as it was read: the places after its words and after its nodes, the depth of its nodes, its sort (0: types do not
 // fit), and whether its variables are all below S+F.
-#[derive(Drop)]
+#[derive(Clone, Copy)]
 pub struct Part {
     pub next: u16,
     pub end: u16,

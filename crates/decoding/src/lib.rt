@@ -1,5 +1,7 @@
 // An accepted file, decoded for the layers above, and the check of an expression handed outside a model.
 
+#![tactic(auto)]
+
 ghost use Rattle.std.specs.Prelude.{◌≡◌, List, ◌++◌, ℕ, ◌+◌, ◌<◌, ◌≤◌, ℤ, length, drop};
 ghost use Rattle.results.specs.Results.{answered, over};
 ghost use Rattle.kinds.specs.Kinds.{table};
@@ -24,7 +26,7 @@ const BOOLEAN_VARIABLE: u8 = 1;
 const BLOCK: u8 = 19;
 
 // The answer of the decoding.
-#[derive(Drop)]
+#[derive(Clone, Copy)]
 pub enum Prepared {
     Refused(u8),
     Ready(Model),

@@ -1,5 +1,7 @@
 // The program between its input and its output: the start, then the input part by part, each line answered by a line in a lent array.
 
+#![tactic(auto)]
+
 pub mod exchange; // exchange.rt: the start, a piece of the input, its end
 
 ghost use Rattle.std.specs.Prelude.{◌≡◌, [], ◌∷◌, ◌++◌, ◌+◌, take, drop};
@@ -11,7 +13,7 @@ ghost use Rattle.dialogue.specs.Cells.{kept_of};
 use commands::Command;
 
 // The program's sizes.
-#[derive(Drop)]
+#[derive(Clone, Copy)]
 pub struct Program {}
 
 impl Program {
@@ -32,14 +34,14 @@ impl Program {
 }
 
 // The first bytes of a line.
-#[derive(Drop)]
+#[derive(Clone, Copy)]
 pub struct Line {
     pub bytes: [u8; Program::KEPT_BYTES],
     pub length: usize,
 }
 
 // How many bytes of the file, values and marks are in use.
-#[derive(Drop)]
+#[derive(Clone, Copy)]
 pub struct Dimensions {
     pub bytes: usize,
     pub variables: usize,
@@ -47,7 +49,7 @@ pub struct Dimensions {
 }
 
 // The start: is the run started, what is in use, and how many bytes are to be printed.
-#[derive(Drop)]
+#[derive(Clone, Copy)]
 pub struct Opening {
     pub is_started: bool,
     pub dimensions: Dimensions,
@@ -55,7 +57,7 @@ pub struct Opening {
 }
 
 // A line taken from a part of the input: the line so far, the place after the bytes taken, and how many bytes are to be printed.
-#[derive(Drop)]
+#[derive(Clone, Copy)]
 pub struct Taken {
     pub line: Line,
     pub next: usize,
@@ -63,7 +65,7 @@ pub struct Taken {
 }
 
 // A part of the input read to the end of a line: the line, the place after the bytes read, and whether a line feed ended it.
-#[derive(Drop)]
+#[derive(Clone, Copy)]
 struct Scan {
     line: Line,
     next: usize,

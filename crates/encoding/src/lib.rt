@@ -1,5 +1,7 @@
 // The bytes of a model file, from its sizes and the kinds and parameters of its nodes.
 
+#![tactic(auto)]
+
 ghost use Rattle.std.specs.Prelude.{◌≡◌};
 ghost use mathlib.Core.List.{flat_map};
 ghost use Rattle.model.specs.Nodes.{little_bytes, twos_complement, parameter_bytes};

@@ -18,7 +18,7 @@ use syntax::Cursor;
 const TRUE: i32 = 1;
 
 // A firing is over, with this answer, or goes on.
-#[derive(Drop)]
+#[derive(Clone, Copy)]
 enum Stage {
     Over(Firing),
     Open,

@@ -1,12 +1,14 @@
 // Evaluations (01: readings), the operators, and the arithmetic of single operators over whole numbers of 32 bits.
 
+#![tactic(auto)]
+
 ghost use Rattle.std.specs.Prelude.{◌≡◌, ◌+ℤ◌, ◌-ℤ◌, ◌*ℤ◌};
 ghost use Rattle.std.specs.Int.Signed.{lt_z, le_z, quot_z, rem_z};
 ghost use Rattle.evaluation.specs.Numbers.{checked, eq_z, boolean};
 ghost use Rattle.evaluation.specs.Meaning.{divided};
 
 // What an expression evaluates to; a Boolean is 0 or 1.
-#[derive(Drop)]
+#[derive(Clone, Copy)]
 pub enum Evaluation {
     Unknown,
     Failed,
@@ -14,7 +16,7 @@ pub enum Evaluation {
 }
 
 // The operators with two operands.
-#[derive(Drop)]
+#[derive(Clone, Copy)]
 pub enum Operator {
     Conjunction,
     Disjunction,

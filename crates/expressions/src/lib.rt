@@ -1,5 +1,7 @@
 // What an expression comes to, over cells.
 
+#![tactic(auto)]
+
 ghost use Rattle.std.specs.Prelude.{◌≡◌, List, ◌+◌, ◌<◌, ℤ, get_or};
 ghost use Rattle.evaluation.specs.Numbers.{representable};
 ghost use Rattle.evaluation.specs.Meaning.{chosen};
@@ -14,7 +16,7 @@ use evaluation::Evaluation;
 use syntax::{Cursor, nodes};
 
 // An evaluation (01: reading) with the cursor after the expression.
-#[derive(Drop)]
+#[derive(Clone, Copy)]
 pub struct Evaluated {
     pub evaluation: Evaluation,
     pub next: Cursor,

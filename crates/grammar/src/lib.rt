@@ -1,8 +1,10 @@
 // The grammar of texts: what a word, a phrase and a reading are is in specs/. Here is how the code holds a word; there are no functions.
 
+#![tactic(auto)]
+
 // A word of a text: its number (of a number or a variable, else 0; the greatest of 32 bits stands for all from there on),
 // the place after it, and its code.
-#[derive(Drop)]
+#[derive(Clone, Copy)]
 pub struct Word {
     pub number: u32,
     pub next: u16,

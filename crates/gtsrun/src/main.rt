@@ -1,30 +1,49 @@
 // Reads the model in the file model.gts, starts it and answers the lines of standard input.
 
+#![tactic(auto)]
+
+ghost use Rattle.std.specs.Prelude.{◌≤◌, length};
+
 use dialogue::{Dimensions, Line, Program, exchange};
-use libc::{STDIN_FILENO, STDOUT_FILENO};
 use model::Model;
+use std::fs::File;
+use std::io;
+use std::io::Read;
+use std::rt::Files;
 
 // Bytes of the input read at a time.
 const PART: usize = 4096;
 
-// The first bytes of the file; none if it cannot be read.
-fn read_model(file: &mut [u8; Program::FILE_BYTES]) -> usize {
-    let fd = os::open_read(b"model.gts");
-    if fd < 0 {
-        return 0;
+// Reads until the slice is full, the source ends or a read fails; how many bytes were read.
+fn fill(source: &mut impl Read, bytes: &mut [u8]) -> usize
+    ensures { result ≤ length bytes.new }
+{
+    let mut filled = 0;
+    while filled < bytes.len() {
+        match source.read(&mut bytes[filled..]) {
+            Ok(0) | Err(_) => return filled,
+            Ok(count) => filled += count,
+        }
     }
-    let bytes = io::read_full(fd, file);
-    libc::close(fd);
-    bytes
+    filled
+}
+
+// The first bytes of the file; none if it cannot be read.
+fn read_model(files: &impl Files, file: &mut [u8; Program::FILE_BYTES]) -> usize {
+    match File::open(files, "model.gts") {
+        Ok(mut source) => fill(&mut source, file),
+        Err(_) => 0,
+    }
 }
 
 // Prints the line at the beginning of the array.
-fn print(out: &[u8; Program::LINE_BYTES], length: usize) {
-    io::write_all(STDOUT_FILENO, exchange::first(out, length));
+fn print(rt: &impl Print, out: &[u8; Program::LINE_BYTES], length: usize) -> io::Result<()> {
+    rt.write_all(exchange::first(out, length))
 }
 
 // Answers each line that a part of the input ends; the line that it begins.
 fn answer_part(
+    rt: &impl Print,
     begun: Line,
     part: &[u8],
     file: &[u8; Program::FILE_BYTES],
@@ -35,22 +54,23 @@ fn answer_part(
     n: &mut usize,
     buffer: &mut [u8; Model::MAX_TRANSITIONS],
     out: &mut [u8; Program::LINE_BYTES],
-) -> Line {
+) -> io::Result<Line> {
     let mut line = begun;
     let mut at = 0;
     while at < part.len() {
         let taken = exchange::take_line(
             line, part, at, file, dimensions, values, marks, history, n, buffer, out,
         );
-        print(out, taken.length);
+        print(rt, out, taken.length)?;
         line = taken.line;
         at = taken.next;
     }
-    line
+    Ok(line)
 }
 
-// Answers the lines of standard input. The turns fall, so the loop ends whatever the input is.
-fn answer_all(
+// Answers the lines of standard input.
+fn answer_all<R: Input + Print>(
+    rt: &R,
     file: &[u8; Program::FILE_BYTES],
     dimensions: Dimensions,
     values: &mut [i32; Model::MAX_VARIABLES],
@@ -59,18 +79,17 @@ fn answer_all(
     n: &mut usize,
     buffer: &mut [u8; Model::MAX_TRANSITIONS],
     out: &mut [u8; Program::LINE_BYTES],
-) {
+) -> io::Result<()> {
+    let mut input = rt.reader();
     let mut part = [0u8; PART];
     let mut line = Line::empty();
-    let mut turns = u64::MAX;
-    while 0 < turns {
-        turns -= 1;
-        let got = libc::read(STDIN_FILENO, &mut part);
-        if got <= 0 {
+    for _ in 0..u64::MAX {
+        let count = input.read(&mut part)?;
+        if count == 0 {
             break;
         }
-        let count = io::count(got, &part);
         line = answer_part(
+            rt,
             line,
             &part[0..count],
             file,
@@ -81,16 +100,20 @@ fn answer_all(
             n,
             buffer,
             out,
-        );
+        )?;
     }
     let length = exchange::close(
         line, file, dimensions, values, marks, history, n, buffer, out,
     );
-    print(out, length);
+    print(rt, out, length)
 }
 
 // Starts the run and, unless that is refused, answers the input.
-fn serve(file: &[u8; Program::FILE_BYTES], bytes: usize) {
+fn serve<R: Input + Print>(
+    rt: &R,
+    file: &[u8; Program::FILE_BYTES],
+    bytes: usize,
+) -> io::Result<()> {
     let mut values = [0i32; Model::MAX_VARIABLES];
     let mut marks = [0u8; Model::MAX_TRANSITIONS];
     let mut history = [0u8; Program::PLACES];
@@ -107,24 +130,25 @@ fn serve(file: &[u8; Program::FILE_BYTES], bytes: usize) {
         &mut buffer,
         &mut out,
     );
-    print(&out, opening.length);
-    if opening.is_started {
-        let dimensions = opening.dimensions;
-        answer_all(
-            file,
-            dimensions,
-            &mut values,
-            &mut marks,
-            &mut history,
-            &mut n,
-            &mut buffer,
-            &mut out,
-        );
+    print(rt, &out, opening.length)?;
+    if !opening.is_started {
+        return Ok(());
     }
+    answer_all(
+        rt,
+        file,
+        opening.dimensions,
+        &mut values,
+        &mut marks,
+        &mut history,
+        &mut n,
+        &mut buffer,
+        &mut out,
+    )
 }
 
-fn main() {
+fn main(rt: HostRuntime) -> io::Result<()> {
     let mut file = [0u8; Program::FILE_BYTES];
-    let bytes = read_model(&mut file);
-    serve(&file, bytes);
+    let bytes = read_model(&rt, &mut file);
+    serve(&rt, &file, bytes)
 }

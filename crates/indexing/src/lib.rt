@@ -1,5 +1,7 @@
 // The index of an assertion: where each variable is mentioned, and in which instruction.
 
+#![tactic(auto)]
+
 ghost use Rattle.std.specs.Prelude.{◌≡◌, ℕ, ◌<◌, ◌≤◌, ◌+◌, length, get_or};
 ghost use Rattle.waiting.specs.Index.{Linked, Owners, Indexed, owner_in};
 

@@ -1,10 +1,12 @@
 // Marks, value and the check of the values: on a model file.
 
+#![tactic(auto)]
+
 ghost use Rattle.std.specs.Prelude.{◌≡◌};
 ghost use Rattle.model.specs.Check.{verdict};
 ghost use Rattle.semantics.specs.Meanings.{Meaning};
 ghost use Rattle.standing.specs.Runs.{run, answered};
-ghost use Rattle.steps.specs.Answers.{seen, onFile, onFileAnswer};
+ghost use Rattle.steps.specs.Answers.{seen, on_file, on_file_answer};
 ghost use Rattle.steps.specs.Declarations.{Declares};
 ghost use Rattle.inspection.specs.Queries as queries;
 
@@ -54,7 +56,7 @@ pub fn marks(
     buffer: &mut [u8],
 ) -> Answer
     ensures { answered (seen result) buffer.new
-        ≡ onFile (verdict model.now) (λ m. queries.marks m (run values.now marks.now history.now n) buffer.old) buffer.old }
+        ≡ on_file (verdict model.now) (λ m. queries.marks m (run values.now marks.now history.now n) buffer.old) buffer.old }
 {
     let mut variables = [[0i32; 3]; Model::MAX_VARIABLES];
     match decoding::variables_of(model, &mut variables) {
@@ -112,7 +114,7 @@ pub fn value(
     n: usize,
     variable: usize,
 ) -> Answer
-    ensures { seen result ≡ onFileAnswer (verdict model.now) (λ m. queries.value m variable (run values.now marks.now history.now n)) }
+    ensures { seen result ≡ on_file_answer (verdict model.now) (λ m. queries.value m variable (run values.now marks.now history.now n)) }
 {
     let mut variables = [[0i32; 3]; Model::MAX_VARIABLES];
     match decoding::variables_of(model, &mut variables) {
@@ -134,7 +136,7 @@ pub fn value(
 
 // The check of the values: 9, then the first variable outside its ends, or none. Of the model its variables alone are decoded.
 pub fn first_outside(model: &[u8], values: &[i32]) -> Answer
-    ensures { seen result ≡ onFileAnswer (verdict model.now) (λ m. queries.range_check m values.now) }
+    ensures { seen result ≡ on_file_answer (verdict model.now) (λ m. queries.range_check m values.now) }
 {
     let mut variables = [[0i32; 3]; Model::MAX_VARIABLES];
     match decoding::variables_of(model, &mut variables) {

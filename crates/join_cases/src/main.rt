@@ -6,10 +6,14 @@
 // of the slice lent, and the length of the new model that is wanted (two bytes each), then four bytes of 0. The body: the model, the
 // mandatory and the optional members, eight bytes each, and the new model. Every cell past it must hold what it held before; of a
 // refusal no byte is stored.
+
+#![tactic(auto)]
+
 ghost use Rattle.std.specs.Prelude.{◌+◌, ◌≤◌, length};
 
 use cases::{Outcome, Tally};
-use libc::STDOUT_FILENO;
+use std::io;
+use std::io::Read;
 use synchronisation::Synchronised;
 
 // The most members of a list.
@@ -76,16 +80,15 @@ fn is_answer(head: &[u8; 16], answer: Synchronised) -> bool {
 }
 
 // Prints a word and a number.
-fn tell(word: &[u8], number: u64) {
-    io::write_all(STDOUT_FILENO, word);
-    io::print_decimal(STDOUT_FILENO, number);
+fn tell(rt: &impl Print, word: &str, number: u64) -> io::Result<()> {
+    print!(rt; "{word}{number}")
 }
 
 // Prints an answer.
-fn tell_answer(answer: Synchronised) {
+fn tell_answer(rt: &impl Print, answer: Synchronised) -> io::Result<()> {
     match answer {
-        Synchronised::Refused(number) => tell(b" refusal ", number as u64),
-        Synchronised::Length(length) => tell(b" length ", length as u64),
+        Synchronised::Refused(number) => tell(rt, " refusal ", number as u64),
+        Synchronised::Length(length) => tell(rt, " length ", length as u64),
     }
 }
 
@@ -99,41 +102,42 @@ fn wanted(head: &[u8; 16]) -> Synchronised {
 }
 
 // Is the answer the stored one? If not, both are told.
-fn is_wanted(head: &[u8; 16], answer: Synchronised) -> bool {
+fn is_wanted(rt: &impl Print, head: &[u8; 16], answer: Synchronised) -> io::Result<bool> {
     if is_answer(head, answer) {
-        return true;
+        return Ok(true);
     }
-    io::write_all(STDOUT_FILENO, b"wanted");
-    tell_answer(wanted(head));
-    io::write_all(STDOUT_FILENO, b", came");
-    tell_answer(answer);
-    io::write_all(STDOUT_FILENO, b"; ");
-    false
+    print!(rt; "wanted")?;
+    tell_answer(rt, wanted(head))?;
+    print!(rt; ", came")?;
+    tell_answer(rt, answer)?;
+    print!(rt; "; ")?;
+    Ok(false)
 }
 
 // Are the answer and every cell of the slice, whose cells hold the stored byte before, as stored?
 fn is_equal(
+    rt: &impl Print,
     head: &[u8; 16],
     model: &[u8],
     mandatory: &[usize],
     optional: &[usize],
     file: &[u8],
     out: &mut [u8],
-) -> bool {
+) -> io::Result<bool> {
     cases::fill_bytes(out, head[1]);
     let answer = synchronisation::synchronise(model, mandatory, optional, out);
-    if !is_wanted(head, answer) {
-        return false;
+    if !is_wanted(rt, head, answer)? {
+        return Ok(false);
     }
     if !cases::is_same_bytes(out, file, head[1]) {
-        io::write_all(STDOUT_FILENO, b"a byte is another; ");
-        return false;
+        print!(rt; "a byte is another; ")?;
+        return Ok(false);
     }
-    true
+    Ok(true)
 }
 
 // The same of a case, with lists and a slice of the stored lengths; false where there is no such case.
-fn is_case_equal(head: &[u8; 16], body: &[u8]) -> bool {
+fn is_case_equal(rt: &impl Print, head: &[u8; 16], body: &[u8]) -> io::Result<bool> {
     let first = cases::two(head, MANDATORY);
     let second = cases::two(head, OPTIONAL);
     let lent = cases::two(head, LENT);
@@ -142,16 +146,16 @@ fn is_case_equal(head: &[u8; 16], body: &[u8]) -> bool {
     let file = middle + 8 * second;
     let end = file + cases::two(head, WANTED);
     if body.len() < end {
-        return false;
+        return Ok(false);
     }
     if MEMBERS < first {
-        return false;
+        return Ok(false);
     }
     if MEMBERS < second {
-        return false;
+        return Ok(false);
     }
     if CELLS < lent {
-        return false;
+        return Ok(false);
     }
     let mut mandatory = [0usize; MEMBERS];
     let mut optional = [0usize; MEMBERS];
@@ -159,6 +163,7 @@ fn is_case_equal(head: &[u8; 16], body: &[u8]) -> bool {
     load_members(&body[model..middle], &mut mandatory);
     load_members(&body[middle..file], &mut optional);
     is_equal(
+        rt,
         head,
         &body[0..model],
         &mandatory[0..first],
@@ -169,34 +174,35 @@ fn is_case_equal(head: &[u8; 16], body: &[u8]) -> bool {
 }
 
 // Reads one case and runs it.
-fn next_case(fd: i32, buffer: &mut [u8]) -> Outcome {
+fn next_case(rt: &impl Print, file: &mut impl Read, buffer: &mut [u8]) -> io::Result<Outcome> {
     let mut head = [0u8; 16];
-    if !cases::is_read(fd, &mut head, 16) {
-        return Outcome::End;
+    if !cases::is_read(file, &mut head, 16)? {
+        return Ok(Outcome::End);
     }
-    if !cases::is_read(fd, buffer, body_length(&head)) {
-        return Outcome::End;
+    if !cases::is_read(file, buffer, body_length(&head))? {
+        return Ok(Outcome::End);
     }
-    Outcome::Equal(is_case_equal(&head, buffer))
+    Ok(Outcome::Equal(is_case_equal(rt, &head, buffer)?))
 }
 
-// All cases of the file. The turns fall, so the loop ends whatever the file holds.
-fn run(fd: i32, buffer: &mut [u8]) -> Tally {
+// All cases of the file.
+fn run(rt: &impl Print, file: &mut impl Read, buffer: &mut [u8]) -> io::Result<Tally> {
     let mut tally = Tally::empty();
-    let mut turns: u64 = 1000000;
-    while 0 < turns {
-        turns -= 1;
-        match next_case(fd, buffer) {
-            Outcome::End => return tally,
-            Outcome::Equal(is_same) => tally = cases::counted(tally, is_same),
+    for _ in 0..u64::MAX {
+        match next_case(rt, file, buffer)? {
+            Outcome::End => return Ok(tally),
+            Outcome::Equal(is_same) => {
+                tally = cases::counted(tally, is_same);
+                cases::tell(rt, &tally, is_same)?;
+            }
         }
     }
-    tally
+    Ok(tally)
 }
 
-fn main() {
-    let fd = cases::open();
+fn main(rt: HostRuntime) -> io::Result<()> {
+    let mut file = cases::open(&rt)?;
     let mut buffer = [0u8; 65536];
-    cases::print(run(fd, &mut buffer), b"joins");
-    libc::close(fd);
+    let tally = run(&rt, &mut file, &mut buffer)?;
+    cases::print(&rt, tally, b"joins")
 }

@@ -1,5 +1,7 @@
 // The table of kinds: where a kind may stand, how many children it has, what it yields.
 
+#![tactic(auto)]
+
 ghost use Rattle.std.specs.Prelude.{◌≡◌};
 ghost use Rattle.kinds.specs.Kinds.{row_in, table, operand_sort, operator_of};
 
@@ -8,7 +10,7 @@ use evaluation::Operator;
 mod table; // table.rt: the row of every byte
 
 // A row of the table of kinds.
-#[derive(Drop)]
+#[derive(Clone, Copy)]
 pub struct Row {
     pub place: u8,
     pub children: u8,

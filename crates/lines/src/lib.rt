@@ -1,12 +1,14 @@
 // Lines of the program's output, written into lent slices.
 
+#![tactic(auto)]
+
 ghost use Rattle.std.specs.Prelude.{◌≡◌, ◌∷◌, map, ◌+◌, ◌*◌, ◌≤◌, ◌<◌, ltb, nat_abs, length, set};
 ghost use Rattle.ascii.specs.Ascii.{space_byte};
 ghost use Rattle.lines.specs.Lines.{feed_byte, decimal, signed_decimal, spaced, ok_text, back_text, marks_text, refusal_text};
 ghost use Rattle.lines.specs.Lines.{room, value_width, mark_width, written_into, line_into, Put};
 
 // The answer of a function that writes a line: how many bytes it has, or that the slice is too short.
-#[derive(Drop)]
+#[derive(Clone, Copy)]
 pub enum Written {
     Length(usize),
     TooShort,

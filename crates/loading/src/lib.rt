@@ -1,5 +1,7 @@
 // A model decoded and indexed in cells that are lent, and a move made on it.
 
+#![tactic(auto)]
+
 ghost use Rattle.std.specs.Prelude.{◌≡◌, ◌+◌, pos, length, replicate};
 ghost use Rattle.scratch.specs.Blank.{BlankFiring};
 ghost use Rattle.model.specs.declared.Checked.TheVariants.{Accepted};
@@ -12,7 +14,7 @@ ghost use Rattle.waiting.specs.Index.{Indexed};
 ghost use Rattle.standing.specs.Runs.{run, answered};
 ghost use Rattle.steps.specs.Calls.{step_on};
 ghost use Rattle.steps.specs.Lent.{cells_left};
-ghost use Rattle.steps.specs.Answers.{seen, onFile};
+ghost use Rattle.steps.specs.Answers.{seen, on_file};
 ghost use Rattle.loading.specs.Lending.{Lent};
 
 use model::{Model, Sizes};
@@ -46,7 +48,7 @@ pub fn advance_in(
         × BlankFiring (sizes.states + sizes.flows) sizes.nodes states.old cells.old given.old queue.old waits.old
         × (copy.old ≡ replicate (sizes.states + sizes.flows) (pos 0)) }
     ensures { (answered (seen result) (values.new, marks.new)
-        ≡ cells_left (onFile (verdict model.now) (λ m. step_on m step (run values.old marks.old history.now n)) (run values.old marks.old history.now n)))
+        ≡ cells_left (on_file (verdict model.now) (λ m. step_on m step (run values.old marks.old history.now n)) (run values.old marks.old history.now n)))
         × ((t : System) → verdict model.now ≡ accepted sizes t →
         (arrays parameters.new variables.new nexts.new guards.new
         ≡ decoded_over model.now sizes t (arrays parameters.old variables.old nexts.old guards.old))

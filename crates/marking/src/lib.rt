@@ -1,5 +1,7 @@
 // The marks of the guards over the values of a run.
 
+#![tactic(auto)]
+
 ghost use Rattle.std.specs.Prelude.{◌≡◌, ◌≤◌, length, replicate};
 ghost use Rattle.scratch.specs.Blank.{unknown_cell};
 ghost use Rattle.engine.specs.Cells.{Loaded, OnLoaded};

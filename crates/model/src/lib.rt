@@ -1,5 +1,7 @@
 // The model file: the check.
 
+#![tactic(auto)]
+
 pub mod check; // check.rt: the check of a file, and of an expression handed outside a model
 pub mod header; // header.rt: the sizes and the parameters
 mod walk; // walk.rt: expressions, instructions, variables, transitions
@@ -7,7 +9,7 @@ mod walk; // walk.rt: expressions, instructions, variables, transitions
 use syntax::Cursor;
 
 // How a file's header is laid out: the bytes of each of S, F, E, T, and the most nodes.
-#[derive(Drop)]
+#[derive(Clone, Copy)]
 pub struct Layout {
     pub width: usize,
     pub max_nodes: usize,
@@ -26,7 +28,7 @@ impl Layout {
 }
 
 // The five sizes S, F, E, T, N.
-#[derive(Drop)]
+#[derive(Clone, Copy)]
 pub struct Sizes {
     pub states: usize,
     pub flows: usize,
@@ -36,7 +38,7 @@ pub struct Sizes {
 }
 
 // A decoded model: its sizes and the place of its assertion.
-#[derive(Drop)]
+#[derive(Clone, Copy)]
 pub struct Model {
     pub sizes: Sizes,
     pub assertion: usize,
@@ -74,42 +76,42 @@ impl Model {
 }
 
 // What reading the sizes comes to: the refusal's number, or the five sizes.
-#[derive(Drop)]
+#[derive(Clone, Copy)]
 pub enum Sized {
     Refused(u8),
     Read(Sizes),
 }
 
 // What a walk over a subtree comes to: the refusal's number, or the place of the next node.
-#[derive(Drop)]
+#[derive(Clone, Copy)]
 pub enum Walked {
     Refused(u8),
     Next(Cursor),
 }
 
 // What a walk over a variable comes to: its sort, ends and first value, and the place of the next node.
-#[derive(Drop)]
+#[derive(Clone, Copy)]
 pub enum Declaration {
     Refused(u8),
     Variable(u8, i32, i32, i32, Cursor),
 }
 
 // The answer of the check of a file.
-#[derive(Drop)]
+#[derive(Clone, Copy)]
 pub enum Checked {
     Refused(u8),
     Accepted(Sizes),
 }
 
 // What an expression handed outside a model must yield.
-#[derive(Drop)]
+#[derive(Clone, Copy)]
 pub enum Sort {
     Boolean,
     Number,
 }
 
 // The answer of the check of an expression.
-#[derive(Drop)]
+#[derive(Clone, Copy)]
 pub enum Given {
     Refused(u8),
     Accepted,

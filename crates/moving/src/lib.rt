@@ -1,5 +1,7 @@
 // Start, fire and undo on a decoded model, as far as the values and the marks go.
 
+#![tactic(auto)]
+
 ghost use Rattle.std.specs.Prelude.{◌≡◌, cond, ◌≤◌, pos, length, replicate};
 ghost use Rattle.results.specs.Results.{over};
 ghost use Rattle.scratch.specs.Blank.{unknown_cell, BlankFiring};

@@ -1,5 +1,7 @@
 // The operators on evaluations: and, or, not and if-then-else, and every other operator by its own arithmetic.
 
+#![tactic(auto)]
+
 ghost use Rattle.std.specs.Prelude.{◌≡◌, cond, ◌||◌};
 ghost use Rattle.evaluation.specs.Meaning.{calculated, decisive, decision, operated, negated, is_unknown, agree, chosen};
 

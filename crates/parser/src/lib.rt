@@ -7,6 +7,8 @@
 //
 // `at` is a place in the text; `end` is how many nodes are written so far; `from` is where those of a first operand begin.
 
+#![tactic(auto)]
+
 ghost use Rattle.std.specs.Prelude.{◌≡◌, List, ℕ, ◌<◌, ◌≤◌, length, take, drop};
 ghost use Rattle.grammar.specs.Tokens.{tokens_of, div_code, mod_code, open_code, close_code};
 ghost use Rattle.grammar.specs.Phrases.{Phrase, call_level, product_level, sign_level, negation_level, conjunction_level, whole_level, is_sign};
@@ -20,7 +22,7 @@ use composition::Part;
 use grammar::Word;
 
 // What reading comes to: no phrase, or one.
-#[derive(Drop)]
+#[derive(Clone, Copy)]
 pub enum Parsed {
     Refused,
     Read(Part),

@@ -1,10 +1,12 @@
 // Pick: the lowest transition whose guard is true, on a model file.
 
+#![tactic(auto)]
+
 ghost use Rattle.std.specs.Prelude.{◌≡◌, length};
 ghost use Rattle.model.specs.Check.{verdict};
 ghost use Rattle.engine.specs.Cells.{Loaded, OnLoaded};
 ghost use Rattle.standing.specs.Runs.{run};
-ghost use Rattle.steps.specs.Answers.{seen, onFileAnswer};
+ghost use Rattle.steps.specs.Answers.{seen, on_file_answer};
 ghost use Rattle.inspection.specs.Queries as queries;
 
 use decoding::Prepared;
@@ -57,7 +59,7 @@ fn pick_loaded(
 
 // The lowest transition whose guard is true, or none: decodes the model and works the guards out.
 pub fn pick(model: &[u8], values: &[i32], marks: &[u8], history: &[u8], n: usize) -> Answer
-    ensures { seen result ≡ onFileAnswer (verdict model.now) (λ m. queries.pick m (run values.now marks.now history.now n)) }
+    ensures { seen result ≡ on_file_answer (verdict model.now) (λ m. queries.pick m (run values.now marks.now history.now n)) }
 {
     let mut parameters = [0i32; Model::MAX_NODES];
     let mut variables = [[0i32; 3]; Model::MAX_VARIABLES];

@@ -1,21 +1,26 @@
 // Runs the stored programs of data/cases through the functions that gtsrun uses, and compares what they print with what is stored.
 //
 // A case is the lengths of a model file, of an input and of an output (four bytes each, low byte first), and these three.
+
+#![tactic(auto)]
+
 ghost use Rattle.std.specs.Prelude.{◌≤◌, ◌<◌};
 
 use cases::{Outcome, Tally};
 use dialogue::{Dimensions, Line, Program, exchange};
 use model::Model;
+use std::io;
+use std::io::Read;
 
 // How many bytes of the wanted output have been printed, and whether no other was.
-#[derive(Drop)]
+#[derive(Clone, Copy)]
 struct Output {
     at: usize,
     is_same: bool,
 }
 
 // The line so far, and the output.
-#[derive(Drop)]
+#[derive(Clone, Copy)]
 struct Progress {
     line: Line,
     output: Output,
@@ -211,42 +216,53 @@ fn keep(model: &[u8], file: &mut [u8; Program::FILE_BYTES]) -> usize {
 }
 
 // Reads a case and runs it.
-fn next_case(fd: i32, body: &mut [u8], file: &mut [u8; Program::FILE_BYTES]) -> Outcome {
+fn next_case(
+    source: &mut impl Read,
+    body: &mut [u8],
+    file: &mut [u8; Program::FILE_BYTES],
+) -> io::Result<Outcome> {
     let mut head = [0u8; 12];
-    if !cases::is_read(fd, &mut head, 12) {
-        return Outcome::End;
+    if !cases::is_read(source, &mut head, 12)? {
+        return Ok(Outcome::End);
     }
     let first = cases::four(&head, 0);
     let second = first + cases::four(&head, 4);
     let third = second + cases::four(&head, 8);
     if body.len() < third {
-        return Outcome::End;
+        return Ok(Outcome::End);
     }
-    if !cases::is_read(fd, body, third) {
-        return Outcome::End;
+    if !cases::is_read(source, body, third)? {
+        return Ok(Outcome::End);
     }
     let bytes = keep(&body[0..first], file);
-    Outcome::Equal(is_equal(file, bytes, &body[first..second], &body[second..third]))
+    let is_same = is_equal(file, bytes, &body[first..second], &body[second..third]);
+    Ok(Outcome::Equal(is_same))
 }
 
-// All cases of the file. The turns fall, so the loop ends whatever the file holds.
-fn run(fd: i32, body: &mut [u8], file: &mut [u8; Program::FILE_BYTES]) -> Tally {
+// All cases of the file.
+fn run(
+    rt: &impl Print,
+    source: &mut impl Read,
+    body: &mut [u8],
+    file: &mut [u8; Program::FILE_BYTES],
+) -> io::Result<Tally> {
     let mut tally = Tally::empty();
-    let mut turns: u64 = 1000000;
-    while 0 < turns {
-        turns -= 1;
-        match next_case(fd, body, file) {
-            Outcome::End => return tally,
-            Outcome::Equal(is_same) => tally = cases::counted(tally, is_same),
+    for _ in 0..u64::MAX {
+        match next_case(source, body, file)? {
+            Outcome::End => return Ok(tally),
+            Outcome::Equal(is_same) => {
+                tally = cases::counted(tally, is_same);
+                cases::tell(rt, &tally, is_same)?;
+            }
         }
     }
-    tally
+    Ok(tally)
 }
 
-fn main() {
-    let fd = cases::open();
+fn main(rt: HostRuntime) -> io::Result<()> {
+    let mut source = cases::open(&rt)?;
     let mut body = [0u8; 32768];
     let mut file = [0u8; Program::FILE_BYTES];
-    cases::print(run(fd, &mut body, &mut file), b"programs");
-    libc::close(fd);
+    let tally = run(&rt, &mut source, &mut body, &mut file)?;
+    cases::print(&rt, tally, b"programs")
 }

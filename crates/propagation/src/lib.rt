@@ -1,5 +1,7 @@
 // Actions, and the assertion over states.
 
+#![tactic(auto)]
+
 ghost use Rattle.std.specs.Prelude.{◌≡◌, ◌≤◌, length, take};
 ghost use Rattle.results.specs.Results.{answered, over};
 ghost use Rattle.scratch.specs.Blank.{BlankGathering, BlankCells};

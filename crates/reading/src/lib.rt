@@ -1,5 +1,7 @@
 // Instructions over cells, with marks of what waits and a queue of the flows that become known.
 
+#![tactic(auto)]
+
 ghost use Rattle.std.specs.Prelude.{◌≡◌, List, [], ◌∷◌, ◌++◌, ℕ, ◌<◌, ◌≤◌, ◌+◌, ◌^◌, ℤ, length, take, set};
 ghost use Rattle.variables.specs.Rows.{lows_in, highs_in};
 ghost use Rattle.model.specs.Trees.{Expression, Instruction};
@@ -25,7 +27,7 @@ const ASSIGNMENT: u8 = 17;
 const IF_THEN: u8 = 18;
 
 // One node done: the progress, the place of what is due next, and how many instructions came due.
-#[derive(Drop)]
+#[derive(Clone, Copy)]
 pub struct Walk {
     pub progress: Progress,
     pub next: usize,

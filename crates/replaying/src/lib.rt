@@ -1,5 +1,7 @@
 // Starting from the initial states, and firing transitions one after another, on a decoded model.
 
+#![tactic(auto)]
+
 ghost use Rattle.std.specs.Prelude.{◌≡◌, ◌<◌, length, get_or};
 ghost use Rattle.results.specs.Results.{answered};
 ghost use Rattle.scratch.specs.Blank.{BlankFiring};
@@ -13,7 +15,7 @@ use model::Model;
 use semantics::Firing;
 
 // What is done with the values and the marks of a run.
-#[derive(Drop)]
+#[derive(Clone, Copy)]
 pub enum Move {
     Start,
     Fire(usize),

@@ -2,6 +2,8 @@
 //
 // No function asks anything of its caller. If `out` is too short for the longest line of the run, nothing is done.
 
+#![tactic(auto)]
+
 ghost use Rattle.std.specs.Prelude.{◌≡◌, not, ◌&&◌, ◌≤◌, length};
 ghost use Rattle.results.specs.Results.{answered};
 ghost use Rattle.standing.specs.Runs.{run, store};
@@ -19,7 +21,7 @@ use steps::Answer;
 const NO_COMMAND: u8 = 13;
 
 // The start: is the run started, and what is to be printed.
-#[derive(Drop)]
+#[derive(Clone, Copy)]
 pub struct Opening {
     pub is_started: bool,
     pub written: Written,

@@ -1,5 +1,7 @@
 // The rounds of the assertion, reading again only what waits and mentions what became known.
 
+#![tactic(auto)]
+
 ghost use Rattle.std.specs.Prelude.{◌≡◌, ℕ, suc, ◌<◌, ◌≤◌, ℤ, length, get_or, take, drop, replicate};
 ghost use mathlib.Core.List.{List, Memᴰ};
 ghost use Rattle.model.specs.Trees as trees;
@@ -16,14 +18,14 @@ use semantics::Finding;
 use waiting::Progress;
 
 // Where the rounds came to rest: how many were made, and how many instructions still wait.
-#[derive(Drop)]
+#[derive(Clone, Copy)]
 pub struct Rest {
     pub count: usize,
     pub pending: usize,
 }
 
 // What the rounds came to: a fault, or rest.
-#[derive(Drop)]
+#[derive(Clone, Copy)]
 pub enum Ended {
     Refused(Fault),
     Rested(Rest),

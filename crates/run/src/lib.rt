@@ -1,5 +1,7 @@
 // The calls on a run.
 
+#![tactic(auto)]
+
 ghost use Rattle.standing.specs.Runs.{run, store};
 ghost use Rattle.run.specs.Promises.{CheckPromise, StartPromise, FirePromise, UndoPromise, MarksPromise, ValuePromise, PickPromise, FirstOutsidePromise, PerformPromise};
 
@@ -8,7 +10,7 @@ use replaying::Move;
 use steps::Answer;
 
 // A call, with its transition or variable number.
-#[derive(Drop)]
+#[derive(Clone, Copy)]
 pub enum Call {
     Check,
     Start,

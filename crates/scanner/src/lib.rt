@@ -1,5 +1,7 @@
 // The words of a text, read one after another.
 
+#![tactic(auto)]
+
 ghost use Rattle.std.specs.Prelude.{◌≡◌, false, cond, not, ◌||◌, ◌+◌, ◌≤◌, ◌<◌, eqb, length, drop, get_or};
 ghost use Rattle.ascii.specs.Ascii.{space_byte, is_digit};
 ghost use Rattle.grammar.specs.Words.{is_letter_or_digit, times_in};
@@ -10,7 +12,7 @@ ghost use Rattle.scanner.specs.Scanning.{total, parts_of, spaces_in, run_in, num
 use grammar::Word;
 
 // Digits without leading zeros, or anything else.
-#[derive(Drop)]
+#[derive(Clone, Copy)]
 enum Numeral {
     Value(u32),
     Nothing,

@@ -1,10 +1,12 @@
 // Cells that one function lends another to work in: blank when they are lent, and left blank.
 
+#![tactic(auto)]
+
 ghost use Rattle.std.specs.Prelude.{◌≡◌, pos, length, replicate};
 ghost use Rattle.scratch.specs.Blank.{unknown_cell};
 
 // What a blank cell holds.
-#[derive(Drop)]
+#[derive(Clone, Copy)]
 pub struct Blank {}
 
 impl Blank {

@@ -1,5 +1,7 @@
 // Does a run hold: number 20, and the check of the values behind it.
 
+#![tactic(auto)]
+
 ghost use Rattle.std.specs.Prelude.{◌≡◌, map, length, take};
 ghost use Rattle.results.specs.Results.{found};
 ghost use Rattle.standing.specs.Runs.{run};
@@ -11,7 +13,7 @@ use results::Found;
 const MARKS: usize = 3;
 
 // What a check of values found: the first variable outside its ends or none, and how many values it looked at.
-#[derive(Drop)]
+#[derive(Clone, Copy)]
 pub struct RangeCheck {
     pub outside: Found,
     pub looked: usize,

@@ -1,5 +1,7 @@
 // Start, fire and undo: their definitions, the tests before them, and their answers.
 
+#![tactic(auto)]
+
 pub mod moves; // moves.rt: the tests, and the answer to a move
 
 use model::Sizes;
@@ -8,7 +10,7 @@ use standing::RangeCheck;
 
 // What a call answers: the number of a refusal, the round count, that it was done, a value, the five sizes, the transition
 // picked or none, what a check of the values found.
-#[derive(Drop)]
+#[derive(Clone, Copy)]
 pub enum Answer {
     Refused(u8),
     Rounds(usize),
@@ -20,7 +22,7 @@ pub enum Answer {
 }
 
 // What the tests before a move come to.
-#[derive(Drop)]
+#[derive(Clone, Copy)]
 pub enum Test {
     Refused(u8),
     Passed,

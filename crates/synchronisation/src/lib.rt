@@ -1,5 +1,7 @@
 // Events that happen together: a model with one transition more, which fires mandatory and optional ones at once.
 
+#![tactic(auto)]
+
 ghost use Rattle.std.specs.Prelude.{◌≡◌, ◌&&◌, length};
 ghost use Rattle.results.specs.Results.{answered};
 ghost use Rattle.model.specs.Trees.{variables, sorts_of};
@@ -14,7 +16,7 @@ use model::{Layout, Model, Sizes, Walked, check};
 mod nodes; // nodes.rt: the nodes of the new model
 
 // The answer: a refusal's number, or the new model's length in bytes.
-#[derive(Drop)]
+#[derive(Clone, Copy)]
 pub enum Synchronised {
     Refused(u8),
     Length(usize),

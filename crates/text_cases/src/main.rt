@@ -5,10 +5,14 @@
 // wanted (two bytes each), and the number that every cell of parameters holds before (four bytes). The body: the model, the text,
 // the kinds of the nodes and their parameters, a parameter in four bytes. Every cell past the nodes must hold what it held before;
 // of a refusal no node is stored.
+
+#![tactic(auto)]
+
 ghost use Rattle.std.specs.Prelude.{◌<◌};
 
 use cases::{Outcome, Tally};
-use libc::STDOUT_FILENO;
+use std::io;
+use std::io::Read;
 use texts::Typed;
 
 // The most cells of a slice lent.
@@ -53,16 +57,15 @@ fn is_answer(head: &[u8; 16], typed: Typed) -> bool {
 }
 
 // Prints a word and a number.
-fn tell(word: &[u8], number: u64) {
-    io::write_all(STDOUT_FILENO, word);
-    io::print_decimal(STDOUT_FILENO, number);
+fn tell(rt: &impl Print, word: &str, number: u64) -> io::Result<()> {
+    print!(rt; "{word}{number}")
 }
 
 // Prints an answer.
-fn tell_answer(typed: Typed) {
+fn tell_answer(rt: &impl Print, typed: Typed) -> io::Result<()> {
     match typed {
-        Typed::Refused(number) => tell(b" refusal ", number as u64),
-        Typed::Nodes(count) => tell(b" nodes ", count as u64),
+        Typed::Refused(number) => tell(rt, " refusal ", number as u64),
+        Typed::Nodes(count) => tell(rt, " nodes ", count as u64),
     }
 }
 
@@ -76,33 +79,39 @@ fn wanted(head: &[u8; 16]) -> Typed {
 }
 
 // Is the answer the stored one? If not, both are told.
-fn is_wanted(head: &[u8; 16], typed: Typed) -> bool {
+fn is_wanted(rt: &impl Print, head: &[u8; 16], typed: Typed) -> io::Result<bool> {
     if is_answer(head, typed) {
-        return true;
+        return Ok(true);
     }
-    io::write_all(STDOUT_FILENO, b"wanted");
-    tell_answer(wanted(head));
-    io::write_all(STDOUT_FILENO, b", came");
-    tell_answer(typed);
-    io::write_all(STDOUT_FILENO, b"; ");
-    false
+    print!(rt; "wanted")?;
+    tell_answer(rt, wanted(head))?;
+    print!(rt; ", came")?;
+    tell_answer(rt, typed)?;
+    print!(rt; "; ")?;
+    Ok(false)
 }
 
 // Are all cells as stored? If not, that is told.
-fn is_same_cells(head: &[u8; 16], nodes: &[u8], kinds: &[u8], parameters: &[i32]) -> bool {
+fn is_same_cells(
+    rt: &impl Print,
+    head: &[u8; 16],
+    nodes: &[u8],
+    kinds: &[u8],
+    parameters: &[i32],
+) -> io::Result<bool> {
     let count = nodes_of(head);
     if nodes.len() < count {
-        return false;
+        return Ok(false);
     }
     if !cases::is_same_bytes(kinds, &nodes[0..count], head[1]) {
-        io::write_all(STDOUT_FILENO, b"a kind is another; ");
-        return false;
+        print!(rt; "a kind is another; ")?;
+        return Ok(false);
     }
     if !cases::is_same_values(parameters, &nodes[count..], fill_of(head)) {
-        io::write_all(STDOUT_FILENO, b"a parameter is another; ");
-        return false;
+        print!(rt; "a parameter is another; ")?;
+        return Ok(false);
     }
-    true
+    Ok(true)
 }
 
 // Types a text into the two slices, whose cells hold the stored numbers before.
@@ -120,39 +129,41 @@ fn typed_over(
 
 // Are the answer and every cell of the two slices as stored?
 fn is_equal(
+    rt: &impl Print,
     head: &[u8; 16],
     model: &[u8],
     text: &[u8],
     nodes: &[u8],
     kinds: &mut [u8],
     parameters: &mut [i32],
-) -> bool {
+) -> io::Result<bool> {
     let typed = typed_over(head, model, text, kinds, parameters);
-    if !is_wanted(head, typed) {
-        return false;
+    if !is_wanted(rt, head, typed)? {
+        return Ok(false);
     }
-    is_same_cells(head, nodes, kinds, parameters)
+    is_same_cells(rt, head, nodes, kinds, parameters)
 }
 
 // The same of a case, with slices of the stored lengths; false where there is no such case.
-fn is_case_equal(head: &[u8; 16], body: &[u8]) -> bool {
+fn is_case_equal(rt: &impl Print, head: &[u8; 16], body: &[u8]) -> io::Result<bool> {
     let model = cases::two(head, 2);
     let text = model + cases::two(head, 4);
     let nodes = text + 5 * nodes_of(head);
     if body.len() < nodes {
-        return false;
+        return Ok(false);
     }
     let first = cases::two(head, 6);
     let second = cases::two(head, 8);
     if CELLS < first {
-        return false;
+        return Ok(false);
     }
     if CELLS < second {
-        return false;
+        return Ok(false);
     }
     let mut kinds = [0u8; CELLS];
     let mut parameters = [0i32; CELLS];
     is_equal(
+        rt,
         head,
         &body[0..model],
         &body[model..text],
@@ -163,34 +174,35 @@ fn is_case_equal(head: &[u8; 16], body: &[u8]) -> bool {
 }
 
 // Reads one case and runs it.
-fn next_case(fd: i32, buffer: &mut [u8]) -> Outcome {
+fn next_case(rt: &impl Print, file: &mut impl Read, buffer: &mut [u8]) -> io::Result<Outcome> {
     let mut head = [0u8; 16];
-    if !cases::is_read(fd, &mut head, 16) {
-        return Outcome::End;
+    if !cases::is_read(file, &mut head, 16)? {
+        return Ok(Outcome::End);
     }
-    if !cases::is_read(fd, buffer, body_length(&head)) {
-        return Outcome::End;
+    if !cases::is_read(file, buffer, body_length(&head))? {
+        return Ok(Outcome::End);
     }
-    Outcome::Equal(is_case_equal(&head, buffer))
+    Ok(Outcome::Equal(is_case_equal(rt, &head, buffer)?))
 }
 
-// All cases of the file. The turns fall, so the loop ends whatever the file holds.
-fn run(fd: i32, buffer: &mut [u8]) -> Tally {
+// All cases of the file.
+fn run(rt: &impl Print, file: &mut impl Read, buffer: &mut [u8]) -> io::Result<Tally> {
     let mut tally = Tally::empty();
-    let mut turns: u64 = 1000000;
-    while 0 < turns {
-        turns -= 1;
-        match next_case(fd, buffer) {
-            Outcome::End => return tally,
-            Outcome::Equal(is_same) => tally = cases::counted(tally, is_same),
+    for _ in 0..u64::MAX {
+        match next_case(rt, file, buffer)? {
+            Outcome::End => return Ok(tally),
+            Outcome::Equal(is_same) => {
+                tally = cases::counted(tally, is_same);
+                cases::tell(rt, &tally, is_same)?;
+            }
         }
     }
-    tally
+    Ok(tally)
 }
 
-fn main() {
-    let fd = cases::open();
+fn main(rt: HostRuntime) -> io::Result<()> {
+    let mut file = cases::open(&rt)?;
     let mut buffer = [0u8; 16384];
-    cases::print(run(fd, &mut buffer), b"texts");
-    libc::close(fd);
+    let tally = run(&rt, &mut file, &mut buffer)?;
+    cases::print(&rt, tally, b"texts")
 }

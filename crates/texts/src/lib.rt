@@ -1,5 +1,7 @@
 // Guards and other expressions typed as text: their nodes.
 
+#![tactic(auto)]
+
 ghost use Rattle.std.specs.Prelude.{◌≡◌, ◌≤◌, length};
 ghost use Rattle.results.specs.Results.{answered};
 ghost use Rattle.model.specs.Check.{verdict};
@@ -9,7 +11,7 @@ use model::{Checked, Model};
 use parser::Parsed;
 
 // The answer: a refusal's number, or how many nodes were written.
-#[derive(Drop)]
+#[derive(Clone, Copy)]
 pub enum Typed {
     Refused(u8),
     Nodes(usize),

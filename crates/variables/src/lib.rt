@@ -1,5 +1,7 @@
 // A variable as the decoded model holds it: a row of its low end, its high end and its first value.
 
+#![tactic(auto)]
+
 ghost use Rattle.std.specs.Prelude.{◌≡◌, ◌<◌, ◌≤◌, pos, length, get_or};
 ghost use Rattle.results.specs.Results.{over};
 ghost use Rattle.variables.specs.Rows.{lows_in, highs_in, firsts_in, within_ends};

@@ -1,10 +1,12 @@
 // What waits: the reached instructions whose own expression is unknown. Where they stand, what a round has to read again, and the
 // index by which it is found. Definitions and laws, with what the crates above speak of. There are no functions.
 
+#![tactic(auto)]
+
 use interpreter::Gathered;
 
 // What was found so far, how many flows are queued, and how many instructions are marked.
-#[derive(Drop)]
+#[derive(Clone, Copy)]
 pub struct Progress {
     pub found: Gathered,
     pub queued: usize,
