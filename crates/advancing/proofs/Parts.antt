@@ -10,12 +10,12 @@ use Rattle.decoding.proofs.Preparing.{answer_refused}
 use Rattle.semantics.specs.Meanings.{Meaning}
 use Rattle.standing.specs.Runs.{Done, answered}
 use Rattle.standing.specs.Runs.Answer.{refused}
-use Rattle.steps.specs.Answers.{onFile}
+use Rattle.steps.specs.Answers.{on_file}
 
 -- a refused file leaves what is lent
 pub refused_file : (m : List ℕ) (k : ℕ) → answer_of (verdict m) ≡ checked.Refused k → {A : Type 0} (f : Meaning → Done A) (lent : A)
-    → answered (refused k) lent ≡ onFile (verdict m) f lent
-unfolding onFile
+    → answered (refused k) lent ≡ on_file (verdict m) f lent
+unfolding on_file
 refused_file m k e f lent = rw (answer_refused k (verdict m) e)
 
 -- ---- parts of arrays that are declared blank

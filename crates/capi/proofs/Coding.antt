@@ -23,7 +23,7 @@ use Rattle.steps.specs.contracts.Answer.{the_type}
 use Rattle.steps.proofs.Tags.{none_of_pick, none_of_range_check}
 use Rattle.standing.specs.Runs.{Run, Answer, Done, run}
 use Rattle.standing.specs.Runs.Answer.{rounds}
-use Rattle.steps.specs.Answers.{seen, onFile}
+use Rattle.steps.specs.Answers.{seen, on_file}
 use Rattle.steps.specs.Calls as calls
 use Rattle.run.specs.Lists.{CountWithin, CountBounded}
 use Rattle.run.specs.Promises.{StartPromise, FirePromise, UndoPromise, MarksPromise, ValuePromise, PickPromise, FirstOutsidePromise}
@@ -55,14 +55,14 @@ cell_bounded z t (suc code) count h = tt
 -- a call whose result is the round count
 module _ (f : Meaning → Done Run) (counts : (m : Meaning) → Counts (f m).answer) (r left : Run) (a : Answer) (old code count : ℕ)
     (coded : code ≡ code_of a) (counted : count ≡ rounds_or old a) where
-  rounds_bounded : (v : Verdict) → answered a left ≡ onFile v f r → CountBounded v a → CellBounded v code count
-  unfolding onFile CountWithin CountBounded CellBounded
+  rounds_bounded : (v : Verdict) → answered a left ≡ on_file v f r → CountBounded v a → CellBounded v code count
+  unfolding on_file CountWithin CountBounded CellBounded
   rounds_bounded (refusal k) e b = tt
   rounds_bounded (accepted z t) e b =
       let c : Counts a = subst Counts (sym (ap (λ (d : Done Run). d.answer) e)) (counts (meaning_of t)) in
       cell_bounded z t code count (λ none. subst (CountWithin z.flows) (c old (sym coded ∙ none) ∙ ap rounds (sym counted)) b)
 
-  rounds_coded : (v : Verdict) → answered a left ≡ onFile v f r → answered code (left, count) ≡ coded_rounds old (onFile v f r)
+  rounds_coded : (v : Verdict) → answered a left ≡ on_file v f r → answered code (left, count) ≡ coded_rounds old (on_file v f r)
   rounds_coded v e = ap₂ (λ c k. answered c (left, k)) coded counted ∙ ap (coded_rounds old) e
 
 module _ (m : List ℕ) (old code count : ℕ) (r : declared.Answer) (coded : code ≡ code_of (seen r)) (counted : count ≡ rounds_or old (seen r)) where

@@ -5,7 +5,7 @@ use Prim.Native.Nat.{ℕ}
 use Rattle.results.specs.Results.{Answered, answered}
 use Rattle.model.specs.Check.{verdict, answer_of}
 use Rattle.standing.specs.Runs.{Run, Store, Done, run, store}
-use Rattle.steps.specs.Answers.{onFile, onFileAnswer}
+use Rattle.steps.specs.Answers.{on_file, on_file_answer}
 use Rattle.steps.specs.Calls as calls
 use Rattle.inspection.specs.Queries as queries
 use Rattle.run.proofs.Reached as runs
@@ -35,27 +35,27 @@ calls_reached = record {
       let p = runs.check_reached s (verdict m) (answer_of (verdict m)) refl in
       (e ∙ ap (coded_sizes sizes) (answer_of_lem p), left_of p);
   start = λ m values marks history n buffer rounds code values' marks' n' rounds' e.
-      let d = onFile (verdict m) (λ m. calls.start m (run values marks history n)) (run values marks history n) in
+      let d = on_file (verdict m) (λ m. calls.start m (run values marks history n)) (run values marks history n) in
       ap (in_store_beside buffer) (e.0 history)
       ∙ ap (coded_rounds rounds) (runs.start_reached m (store (run values marks history n) buffer) d.answer d.left refl);
   fire = λ m values marks history n t buffer rounds code values' marks' history' n' rounds' e.
-      let d = onFile (verdict m) (λ m. calls.fire m t (run values marks history n)) (run values marks history n) in
+      let d = on_file (verdict m) (λ m. calls.fire m t (run values marks history n)) (run values marks history n) in
       ap (in_store_beside buffer) e.0
       ∙ ap (coded_rounds rounds) (runs.fire_reached m (store (run values marks history n) buffer) d.answer d.left t refl);
   undo = λ m values marks history n buffer code values' marks' n' e.
-      let d = onFile (verdict m) (λ m. calls.undo m (run values marks history n)) (run values marks history n) in
+      let d = on_file (verdict m) (λ m. calls.undo m (run values marks history n)) (run values marks history n) in
       ap (in_store buffer) e ∙ ap coded_by (runs.undo_reached m (store (run values marks history n) buffer) d.answer d.left refl);
   marks = λ m values marks history n buffer code buffer' e.
-      let d = onFile (verdict m) (λ m. queries.marks m (run values marks history n) buffer) buffer in
+      let d = on_file (verdict m) (λ m. queries.marks m (run values marks history n) buffer) buffer in
       ap (buffer_in_store (run values marks history n)) e
       ∙ ap coded_by (runs.marks_reached (store (run values marks history n) buffer) (verdict m) d.answer d.left refl);
   value = λ m values marks history n x buffer old code new e.
-      let p = runs.value_reached (store (run values marks history n) buffer) x (verdict m) (onFileAnswer (verdict m) (λ m. queries.value m x (run values marks history n))) refl in
+      let p = runs.value_reached (store (run values marks history n) buffer) x (verdict m) (on_file_answer (verdict m) (λ m. queries.value m x (run values marks history n))) refl in
       (e ∙ ap (coded_number old) (answer_of_lem p), left_of p);
   pick = λ m values marks history n buffer transition found code transition' found' e.
-      let p = runs.pick_reached (store (run values marks history n) buffer) (verdict m) (onFileAnswer (verdict m) (λ m. queries.pick m (run values marks history n))) refl in
+      let p = runs.pick_reached (store (run values marks history n) buffer) (verdict m) (on_file_answer (verdict m) (λ m. queries.pick m (run values marks history n))) refl in
       (e ∙ ap (coded_pick (transition, found)) (answer_of_lem p), left_of p);
   first_outside = λ m values marks history n buffer variable found looked code variable' found' looked' e.
-      let p = runs.range_reached (store (run values marks history n) buffer) (verdict m) (onFileAnswer (verdict m) (λ m. queries.range_check m values)) refl in
+      let p = runs.range_reached (store (run values marks history n) buffer) (verdict m) (on_file_answer (verdict m) (λ m. queries.range_check m values)) refl in
       (e ∙ ap (coded_outside ((variable, found), looked)) (answer_of_lem p), left_of p);
 }

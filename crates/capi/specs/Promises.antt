@@ -4,7 +4,7 @@ use Rattle.results.specs.Results.{answered}
 use Rattle.model.specs.Check.{Verdict, verdict, answer_of}
 use Rattle.model.specs.Check.Verdict.{refusal, accepted}
 use Rattle.standing.specs.Runs.{run}
-use Rattle.steps.specs.Answers.{onFile, onFileAnswer}
+use Rattle.steps.specs.Answers.{on_file, on_file_answer}
 use Rattle.steps.specs.Calls as calls
 use Rattle.inspection.specs.Queries as queries
 use Rattle.run.specs.Promises.{seen_check}
@@ -25,43 +25,43 @@ CheckCoded m sizes code sizes' = answered code sizes' ≡ coded_sizes sizes (see
 abbrev pub StartCoded : List ℕ → List ℤ → List ℕ → ℕ → ℕ → ℕ → List ℤ → List ℕ → ℕ → ℕ → Type 0
 StartCoded m values marks n rounds code values' marks' n' rounds' =
     ((history : List ℕ) → answered code (run values' marks' history n', rounds')
-    ≡ coded_rounds rounds (onFile (verdict m) (λ m. calls.start m (run values marks history n)) (run values marks history n)))
+    ≡ coded_rounds rounds (on_file (verdict m) (λ m. calls.start m (run values marks history n)) (run values marks history n)))
     × CellBounded (verdict m) code rounds'
 
 abbrev pub FireCoded : List ℕ → List ℤ → List ℕ → List ℕ → ℕ → ℕ → ℕ → ℕ → List ℤ → List ℕ → List ℕ → ℕ → ℕ → Type 0
 FireCoded m values marks history n t rounds code values' marks' history' n' rounds' =
     (answered code (run values' marks' history' n', rounds')
-    ≡ coded_rounds rounds (onFile (verdict m) (λ m. calls.fire m t (run values marks history n)) (run values marks history n)))
+    ≡ coded_rounds rounds (on_file (verdict m) (λ m. calls.fire m t (run values marks history n)) (run values marks history n)))
     × CellBounded (verdict m) code rounds'
 
 abbrev pub UndoCoded : List ℕ → List ℤ → List ℕ → List ℕ → ℕ → ℕ → List ℤ → List ℕ → ℕ → Type 0
 UndoCoded m values marks history n code values' marks' n' =
     answered code (run values' marks' history n')
-    ≡ coded_by (onFile (verdict m) (λ m. calls.undo m (run values marks history n)) (run values marks history n))
+    ≡ coded_by (on_file (verdict m) (λ m. calls.undo m (run values marks history n)) (run values marks history n))
 
 abbrev pub MarksCoded : List ℕ → List ℤ → List ℕ → List ℕ → ℕ → List ℕ → ℕ → List ℕ → Type 0
 MarksCoded m values marks history n buffer code buffer' =
-    answered code buffer' ≡ coded_by (onFile (verdict m) (λ m. queries.marks m (run values marks history n) buffer) buffer)
+    answered code buffer' ≡ coded_by (on_file (verdict m) (λ m. queries.marks m (run values marks history n) buffer) buffer)
 
 abbrev pub ValueCoded : List ℕ → List ℤ → List ℕ → List ℕ → ℕ → ℕ → ℤ → ℕ → ℤ → Type 0
 ValueCoded m values marks history n x value code value' =
-    answered code value' ≡ coded_number value (onFileAnswer (verdict m) (λ m. queries.value m x (run values marks history n)))
+    answered code value' ≡ coded_number value (on_file_answer (verdict m) (λ m. queries.value m x (run values marks history n)))
 
 abbrev pub PickCoded : List ℕ → List ℤ → List ℕ → List ℕ → ℕ → ℕ → ℕ → ℕ → ℕ → ℕ → Type 0
 PickCoded m values marks history n transition found code transition' found' =
     answered code (transition', found')
-    ≡ coded_pick (transition, found) (onFileAnswer (verdict m) (λ m. queries.pick m (run values marks history n)))
+    ≡ coded_pick (transition, found) (on_file_answer (verdict m) (λ m. queries.pick m (run values marks history n)))
 
 -- neither the marks nor the history nor n is lent
 abbrev pub FirstOutsideCoded : List ℕ → List ℤ → ℕ → ℕ → ℕ → ℕ → ℕ → ℕ → ℕ → Type 0
 FirstOutsideCoded m values variable found looked code variable' found' looked' =
     answered code ((variable', found'), looked')
-    ≡ coded_outside ((variable, found), looked) (onFileAnswer (verdict m) (λ m. queries.range_check m values))
+    ≡ coded_outside ((variable, found), looked) (on_file_answer (verdict m) (λ m. queries.range_check m values))
 
 abbrev pub TextCoded : List ℕ → List ℕ → List ℕ → List ℤ → ℕ → ℕ → List ℕ → List ℤ → ℕ → Type 0
 TextCoded m text kinds parameters count code kinds' parameters' count' =
     answered code (slices kinds' parameters', count') ≡ coded_text count (typed_in (verdict m) text (slices kinds parameters))
 
 abbrev pub SynchroniseCoded : List ℕ → List ℕ → List ℕ → List ℕ → ℕ → ℕ → List ℕ → ℕ → Type 0
-SynchroniseCoded m mandatory optional out newLength code out' newLength' =
-    answered code (out', newLength') ≡ coded_length newLength (synchronised_by (verdict m) mandatory optional out)
+SynchroniseCoded m mandatory optional out new_length code out' new_length' =
+    answered code (out', new_length') ≡ coded_length new_length (synchronised_by (verdict m) mandatory optional out)

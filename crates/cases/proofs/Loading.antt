@@ -1,5 +1,5 @@
 -- Cells written one after the other, from the first to the last.
-use Rattle.std.proofs.Common.{◌≡◌, ℕ, suc, ◌+◌, ◌<◌, ◌≤◌, List, [], ◌∷◌, ◌++◌, length, get_or, take, drop, set, replicate, sym, ap, ◌∙◌, append_assoc, append_nil, add-one, arith, drop_of_length-le, length-take, drop-cons, take-suc}
+use Rattle.std.proofs.Common.{◌≡◌, ℕ, suc, ◌+◌, ◌<◌, ◌≤◌, List, [], ◌∷◌, ◌++◌, length, get_or, take, drop, set, replicate, sym, ap, ◌∙◌, append_assoc, append-nil, add-one, arith, drop_of_length-le, length-take, drop-cons, take-suc}
 use lib.ListN.{length-replicate, replicate-append-replicate}
 use lib.Seq.{drop-length, set_at}
 
@@ -12,7 +12,7 @@ module _ {A : Type 0} (d : A) (old : List A) (i : ℕ) {new : List A} where
 
   -- every cell
   all : (p : List A) → length old ≤ i → new ≡ p ++ drop i old → new ≡ p
-  all p h e = rw (drop_of_length-le old h) at e ∙ append_nil p
+  all p h e = rw (drop_of_length-le old h) at e ∙ append-nil p
 
   pub filled_more : (a : A) → i < length old → new ≡ replicate i a ++ drop i old → set new i a ≡ replicate (i + 1) a ++ drop (i + 1) old
   filled_more a h e =
@@ -32,4 +32,4 @@ module _ {A : Type 0} (d : A) (old : List A) (i : ℕ) {new : List A} where
 
 -- nothing of the old cells is left
 pub whole : {A : Type 0} (p old : List A) {new : List A} → new ≡ p ++ drop (length old) old → new ≡ p
-whole p old e = rw (drop-length old) at e ∙ append_nil p
+whole p old e = rw (drop-length old) at e ∙ append-nil p

@@ -1,6 +1,6 @@
 -- Two runs of cells exchanged: those of the second are put in before the first, one by one.
 use mathlib.Core.Path.{◌≡◌, refl, sym, ap, ◌∙◌}
-use mathlib.Core.List.{List, [], ◌∷◌, ◌++◌, append_nil, append_assoc}
+use mathlib.Core.List.{List, [], ◌∷◌, ◌++◌, append-nil, append_assoc}
 use Prim.Native.Nat.{ℕ, ◌+◌, ◌≤◌, ◌<◌}
 use native.Mathlib.Numerals.{add-one}
 use native.Mathlib.Omega.{arith}
@@ -32,7 +32,7 @@ module _ (old : List ℕ) (from middle end : ℕ) (ordered : from ≤ middle) wh
         high = h;
         place = refl;
         size = refl;
-        second = sym (ap (λ l. take from old ++ l) (drop_take middle old) ∙ append_nil (take from old));
+        second = sym (ap (λ l. take from old ++ l) (drop_take middle old) ∙ append-nil (take from old));
         first = refl;
         rest = refl;
       }

@@ -1,7 +1,7 @@
 -- A table whose entries follow their children's leads from every tree to the place after it, and is the list of next places.
 use mathlib.Core.Path.{◌≡◌, refl, sym, ap, ◌∙◌, subst}
 use mathlib.Core.Bool.{Bool, true, false, cond}
-use mathlib.Core.List.{List, [], ◌∷◌, ◌++◌, append_nil, flat_map}
+use mathlib.Core.List.{List, [], ◌∷◌, ◌++◌, append-nil, flat_map}
 use Prim.Native.Nat.{ℕ, suc, ◌+◌, ◌≤◌, ◌<◌}
 use native.Mathlib.Numerals.{add-one}
 use native.Mathlib.Omega.{arith}
@@ -273,5 +273,5 @@ module _ (ks : List ℕ) (ps : List ℤ) (t : System) (h : SystemAt ks ps t) whe
       subst (λ l. FollowsFrom ks ps l 0)
       (filled_nexts zeros (omega (arith, zeros_long))
       ∙ ap (λ l. nexts_of_system t ++ l) (drop_of_length-le zeros {i = length (nexts_of_system t)} (omega (arith, zeros_long, nexts_length)))
-      ∙ append_nil (nexts_of_system t))
+      ∙ append-nil (nexts_of_system t))
       (filled_all ks ps zeros (omega (arith, zeros_long)))

@@ -1,7 +1,7 @@
 -- An input taken byte by byte is answered as its lines are, and how it is cut into parts does not matter.
 use mathlib.Core.Path.{◌≡◌, refl, sym, ap, ◌∙◌}
 use mathlib.Core.Bool.{Bool, true, false, cond}
-use mathlib.Core.List.{List, [], ◌∷◌, ◌++◌, append_nil, append_assoc, flatten}
+use mathlib.Core.List.{List, [], ◌∷◌, ◌++◌, append-nil, append_assoc, flatten}
 use Prim.Native.Nat.{ℕ}
 use lib.Dec.{eqb}
 use lib.ListN.{take}
@@ -35,7 +35,7 @@ module _ (m : List ℕ) where
   by_lines : (input begun : List ℕ) (s : Store) → to_end (turns m input (progress (take kept_bytes begun) s)) ≡ replies m (lines_after input begun) s
   unfolding turns replies lines_after closing_by
   by_lines [] [] s = refl
-  by_lines [] (b ∷ begun) s = ap (λ r. r.answer) (first_answered (b ∷ begun) s) ∙ sym (append_nil (reply m (command_of (b ∷ begun)) s).answer)
+  by_lines [] (b ∷ begun) s = ap (λ r. r.answer) (first_answered (b ∷ begun) s) ∙ sym (append-nil (reply m (command_of (b ∷ begun)) s).answer)
   by_lines (byte ∷ input) begun s =
       let t = turn m byte (progress (take kept_bytes begun) s) in
       after_to_end t (turns m input t.left) ∙ by (eqb byte feed_byte) refl (by_lines input)

@@ -1,7 +1,7 @@
 -- The first cells of a slice, lent and given back; a line for which there is room.
 use mathlib.Core.Path.{◌≡◌, refl, sym, ap, ap₂, ◌∙◌}
 use mathlib.Core.Bool.{Bool, true, false, cond, ◌||◌}
-use mathlib.Core.List.{List, ◌++◌, append_nil}
+use mathlib.Core.List.{List, ◌++◌, append-nil}
 use Prim.Native.Nat.{ℕ, ◌+◌, ◌≤◌, ◌<◌}
 use native.Mathlib.Omega.{arith}
 use borrow.Author.Tests.{ltb-true, ltb-false, le-ltb}
@@ -41,7 +41,7 @@ module _ {A : Type 0} (old : List A) (n : ℕ) where
   first_given new =
       by_count (λ k. length new ≡ length (take k old) → take n (new ++ drop k old) ≡ new)
       (λ h e.
-      ap (λ x. take n (new ++ x)) (drop_of_length-le old {i = length old} (omega arith)) ∙ ap (take n) (append_nil new)
+      ap (λ x. take n (new ++ x)) (drop_of_length-le old {i = length old} (omega arith)) ∙ ap (take n) (append-nil new)
       ∙ take_all n new (omega (arith, e, length-take (length old) old)))
       (λ h e. take_at new (drop n old) n (e ∙ length-take-le n old h))
 
@@ -49,7 +49,7 @@ module _ {A : Type 0} (old : List A) (n : ℕ) where
   past_given new =
       by_count (λ k. length new ≡ length (take k old) → drop n (new ++ drop k old) ≡ drop n old)
       (λ h e.
-      ap (λ x. drop n (new ++ x)) (drop_of_length-le old {i = length old} (omega arith)) ∙ ap (drop n) (append_nil new)
+      ap (λ x. drop n (new ++ x)) (drop_of_length-le old {i = length old} (omega arith)) ∙ ap (drop n) (append-nil new)
       ∙ drop_of_length-le new {i = n} (omega (arith, e, length-take (length old) old)) ∙ sym (drop_of_length-le old {i = n} (omega arith)))
       (λ h e. drop_at new (drop n old) n (e ∙ length-take-le n old h))
 

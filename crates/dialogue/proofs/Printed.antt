@@ -1,7 +1,7 @@
 -- By the promises of the functions the program prints 01's transcript: theorem TranscriptOfKept.
 use mathlib.Core.Path.{◌≡◌, refl, sym, ap, ap₂, ◌∙◌}
 use mathlib.Core.Bool.{Bool, true, false, cond}
-use mathlib.Core.List.{List, [], ◌∷◌, ◌++◌, append_nil, flatten}
+use mathlib.Core.List.{List, [], ◌∷◌, ◌++◌, append-nil, flatten}
 use Prim.Native.Nat.{ℕ, ◌+◌, ◌-◌, ◌≤◌}
 use native.Mathlib.Omega.{arith}
 use borrow.Author.Tests.{ltb-true, ltb-false}
@@ -72,7 +72,7 @@ module _ (m : List ℕ) where
       ap (λ v.
       let d = call_by v calls.Start s in
       (run_reply d).answer ++ cond (is_accepted d.answer) (replies m (lines_of input) d.left) []) e
-      ∙ append_nil (refusal_text n)
+      ∙ append-nil (refusal_text n)
 
 -- ---- the program
 

@@ -1,7 +1,7 @@
 -- The first line of a part, byte by byte, and the end of the input.
 use mathlib.Core.Path.{◌≡◌, refl, sym, ap, ap₂, ◌∙◌}
 use mathlib.Core.Bool.{Bool, true, false, cond}
-use mathlib.Core.List.{List, [], ◌∷◌, ◌++◌, append_nil, append_assoc}
+use mathlib.Core.List.{List, [], ◌∷◌, ◌++◌, append-nil, append_assoc}
 use Prim.Native.Nat.{ℕ, zero, suc, ◌+◌, ◌≤◌, ◌<◌}
 use native.Mathlib.Numerals.{add-one}
 use native.Mathlib.Omega.{arith}
@@ -97,7 +97,7 @@ module _ (part : List ℕ) (from : ℕ) (begun : List ℕ) (at : ℕ) (kept : Li
     feed_scanned e =
         let byte = get_or part at 0 in
         let rest = drop (at + 1) part in (
-          sym i.short ∙ ap (take kept_bytes) (sym (append_nil kept))
+          sym i.short ∙ ap (take kept_bytes) (sym (append-nil kept))
               ∙ ap (λ x. take kept_bytes (kept ++ x)) (sym (ap before_line_feed here ∙ before_feed byte rest e)) ∙ i.line,
           (
             (let t : to_line_feed (drop at part) ≡ 1 = ap to_line_feed here ∙ to_feed byte rest e in omega (arith, i.next)),
@@ -109,7 +109,7 @@ module _ (part : List ℕ) (from : ℕ) (begun : List ℕ) (at : ℕ) (kept : Li
   unfolding before_line_feed to_line_feed has_line_feed
   part_scanned h =
       let none : drop at part ≡ [] = drop_of_length-le part h in (
-        sym i.short ∙ ap (take kept_bytes) (sym (append_nil kept))
+        sym i.short ∙ ap (take kept_bytes) (sym (append-nil kept))
             ∙ ap (λ x. take kept_bytes (kept ++ x)) (sym (ap before_line_feed none)) ∙ i.line,
         (
           (let t : to_line_feed (drop at part) ≡ 0 = ap to_line_feed none in omega (arith, i.next)),
@@ -143,7 +143,7 @@ module _ (m : List ℕ) where
   first_turns : (part kept : List ℕ) (s : Store) → take kept_bytes kept ≡ kept
       → turns m (first_line part) (progress kept s) ≡ line_turn (has_line_feed part) (take kept_bytes (kept ++ before_line_feed part)) s
   unfolding turns before_line_feed has_line_feed to_line_feed
-  first_turns [] kept s h = ap (λ k. answered [] (progress k s)) (sym (ap (take kept_bytes) (append_nil kept) ∙ h))
+  first_turns [] kept s h = ap (λ k. answered [] (progress k s)) (sym (ap (take kept_bytes) (append-nil kept) ∙ h))
   first_turns (byte ∷ part) kept s h = by (eqb byte feed_byte) refl (first_turns part)
     where
       by : (t : Bool) → eqb byte feed_byte ≡ t
@@ -153,8 +153,8 @@ module _ (m : List ℕ) where
           ≡ line_turn (cond t true (has_line_feed part)) (take kept_bytes (kept ++ cond t [] (byte ∷ before_line_feed part))) s
       by true e rest =
           ap (λ t. after t (answered [] t.left)) (turn_ended byte kept s e)
-          ∙ ap (λ x. answered x (progress [] (reply m (command_of kept) s).left)) (append_nil (reply m (command_of kept) s).answer)
-          ∙ ap (λ k. ended (reply m (command_of k) s)) (sym (ap (take kept_bytes) (append_nil kept) ∙ h))
+          ∙ ap (λ x. answered x (progress [] (reply m (command_of kept) s).left)) (append-nil (reply m (command_of kept) s).answer)
+          ∙ ap (λ k. ended (reply m (command_of k) s)) (sym (ap (take kept_bytes) (append-nil kept) ∙ h))
       by false e rest =
           let kept' = take kept_bytes (kept ++ (byte ∷ [])) in
           ap (λ t. after t (turns m (first_line part) t.left)) (turn_kept byte kept s e)

@@ -1,6 +1,6 @@
 -- A text that is read has as many opening as closing parentheses.
 use mathlib.Core.Path.{◌≡◌, refl, sym, ap₂, ◌∙◌}
-use mathlib.Core.Bool.{Bool, true, false, cond, ◌&&◌, true≢false, and_true}
+use mathlib.Core.Bool.{Bool, true, false, cond, ◌&&◌, true≢false, and-true}
 use mathlib.Core.Option.{Option, some, none}
 use mathlib.Core.List.{List, [], ◌∷◌, ◌++◌, map}
 use Prim.Native.Nat.{ℕ, zero, suc, ◌+◌, ◌≤◌, ◌<◌}
@@ -182,7 +182,7 @@ module _ (k i : ℕ) (alone : Alone k i) where
   in_no_other : (w : List ℕ) → T (is_word w) → same (k ∷ []) w ≡ false → times_in k w ≡ 0
   unfolding times_in same
   in_no_other [] h e = refl
-  in_no_other (a ∷ []) h e = rw (sym (and_true (eqb k a)) ∙ e)
+  in_no_other (a ∷ []) h e = rw (sym (and-true (eqb k a)) ∙ e)
   in_no_other (a ∷ x ∷ t) h e =
       run_or_sign a x t (run_times k (a ∷ x ∷ t) alone.letter)
       (λ s. let g = sign_bytes a x t s in rw (ne_eqb k a (alone.sign g), ne_eqb k x (λ q. alone.equals (q ∙ g.second)), g.last)) h

@@ -1,7 +1,7 @@
 -- What is read from the left is exactly what the grammar derives, and in one way.
 use mathlib.Core.Path.{◌≡◌, refl, sym, ap, ◌∙◌}
 use mathlib.Core.Bool.{Bool, true, false, cond, ◌&&◌}
-use mathlib.Core.List.{List, [], ◌∷◌, ◌++◌, map, append_nil}
+use mathlib.Core.List.{List, [], ◌∷◌, ◌++◌, map, append-nil}
 use mathlib.Core.Option.{some}
 use Prim.Native.Nat.{ℕ, suc, ◌+◌, ◌*◌, ◌<◌}
 use native.Mathlib.Omega.{arith}
@@ -57,12 +57,12 @@ derived_read : (ts : List Token) (p : Phrase) → Plain ts → entire (read_leve
 derived_read ts p h e =
     let r : read_level whole_level ts ≡ parsed p [] = entire_some (read_level whole_level ts) p e in
     let f : Found whole_level ts p [] = sound_found (rw r at (read_sound (9 * length ts + suc whole_level) whole_level ts (lit≤ tt) h)) in
-    rw (f.parts ∙ append_nil f.used) f.derived
+    rw (f.parts ∙ append-nil f.used) f.derived
 
 -- completeness, for a whole text
 read_derived : (ts : List Token) (p : Phrase) → Derives whole_level ts p → read_level whole_level ts ≡ parsed p []
 read_derived ts p d =
-    rw (append_nil ts) at (reads_with (complete d) [] tt (9 * length (ts ++ []) + suc whole_level) (omega arith))
+    rw (append-nil ts) at (reads_with (complete d) [] tt (9 * length (ts ++ []) + suc whole_level) (omega arith))
 
 -- 02: "32 not in the grammar" is said exactly where no derivation exists
 pub reading_exact : ReadingExact

@@ -2,7 +2,7 @@
 use mathlib.Core.Path.{◌≡◌, refl, sym, ap, subst, ◌∙◌}
 use mathlib.Core.Bool.{Bool, true, false, cond, not, ◌&&◌, ◌||◌, and-false}
 use mathlib.Core.Logic.{◌⊎◌, inl, inr}
-use mathlib.Core.List.{List, [], ◌∷◌, ◌++◌, append_nil, append_assoc, cons≢nil, nil≢cons, head-eq_of_cons-eq}
+use mathlib.Core.List.{List, [], ◌∷◌, ◌++◌, append-nil, append_assoc, cons≢nil, nil≢cons, head-eq_of_cons-eq}
 use Prim.Native.Nat.{ℕ}
 use native.Mathlib.Omega.{arith}
 use borrow.Author.Tests.{eqb-true, eqb-false, ne_eqb}
@@ -133,7 +133,7 @@ beginning_at (a ∷ u) b v h = beginning a (u ++ (b ∷ [])) v (rw (append_assoc
 -- bytes that go on to a word
 pub along : (v u text : List ℕ) → T (is_word (u ++ v)) → words_after (v ++ text) u ≡ words_after text (u ++ v)
 unfolding words_after
-along [] u text h = ap (words_after text) (sym (append_nil u))
+along [] u text h = ap (words_after text) (sym (append-nil u))
 along (b ∷ v) u text h =
     rw (is_true (is_word (u ++ (b ∷ []))) (beginning_at u b v h))
     (along v (u ++ (b ∷ [])) text (rw (append_assoc u (b ∷ []) v) h) ∙ ap (words_after text) (append_assoc u (b ∷ []) v))

@@ -18,18 +18,18 @@ use Rattle.results.specs.Results.{answered}
 use Rattle.semantics.specs.Meanings.{Meaning, meaning_of}
 use Rattle.standing.specs.Runs.{Answer, Done}
 use Rattle.standing.specs.Runs.Answer.{refused}
-use Rattle.steps.specs.Answers.{onFile, onFileAnswer}
+use Rattle.steps.specs.Answers.{on_file, on_file_answer}
 use Rattle.steps.specs.Declarations.{Declares}
 
 -- ---- on a file
 
 module _ (m : List ℕ) (old left : List (List ℤ)) (r : Checked) (n : ℕ) (e : answered r left ≡ rows_after (verdict m) old) (h : r ≡ Refused n) where
-  pub refused_rows : {A : Type 0} (f : Meaning → Done A) (a : A) → answered (refused n) a ≡ onFile (verdict m) f a
-  unfolding onFile
+  pub refused_rows : {A : Type 0} (f : Meaning → Done A) (a : A) → answered (refused n) a ≡ on_file (verdict m) f a
+  unfolding on_file
   refused_rows f a = rw (after_refused variable_rows old left r n (verdict m) e h)
 
-  pub refused_rows_answer : (f : Meaning → Answer) → refused n ≡ onFileAnswer (verdict m) f
-  unfolding onFileAnswer
+  pub refused_rows_answer : (f : Meaning → Answer) → refused n ≡ on_file_answer (verdict m) f
+  unfolding on_file_answer
   refused_rows_answer f = rw (after_refused variable_rows old left r n (verdict m) e h)
 
 module _ (m : List ℕ) (s : Sizes) (left : List (List ℤ)) (u : RowsInUse m s left) where
@@ -41,10 +41,10 @@ module _ (m : List ℕ) (s : Sizes) (left : List (List ℤ)) (u : RowsInUse m s 
         declared = u.decoded;
       }
 
-  pub on_rows : {A : Type 0} (f : Meaning → Done A) (a : A) → f (meaning_of u.system) ≡ onFile (verdict m) f a
-  unfolding onFile
+  pub on_rows : {A : Type 0} (f : Meaning → Done A) (a : A) → f (meaning_of u.system) ≡ on_file (verdict m) f a
+  unfolding on_file
   on_rows f a = rw u.checked
 
-  pub on_rows_answer : (f : Meaning → Answer) → f (meaning_of u.system) ≡ onFileAnswer (verdict m) f
-  unfolding onFileAnswer
+  pub on_rows_answer : (f : Meaning → Answer) → f (meaning_of u.system) ≡ on_file_answer (verdict m) f
+  unfolding on_file_answer
   on_rows_answer f = rw u.checked

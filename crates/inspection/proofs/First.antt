@@ -23,10 +23,10 @@ module _ (So Not : ℕ → Type 0) where
 
   pub later : (n x : ℕ) → Not 0 → (p : Option ℕ) → IsFirst (λ k. So (suc k)) (λ k. Not (suc k)) n (suc x) p → IsFirst So Not (suc n) x p
   unfolding IsFirst
-  later n x o none f = λ k. elim k [ zero ↦ λ h. o | suc j ↦ λ h. f j (omega arith) ]
+  later n x o none f = λ k. elim k as (λ k. k < suc n → Not k) [ zero ↦ λ h. o | suc j ↦ λ h. f j (omega arith) ]
   later n x o (some t) f =
       let e : t - x ≡ suc (t - suc x) = omega (arith, f.0) in
-      (omega (arith, f.0), omega (arith, f.0, f.1), rw e f.2, λ k. elim k [ zero ↦ λ h. o | suc j ↦ λ h. f.3 j (omega (arith, e)) ])
+      (omega (arith, f.0), omega (arith, f.0, f.1), rw e f.2, λ k. elim k as (λ k. k < t - x → Not k) [ zero ↦ λ h. o | suc j ↦ λ h. f.3 j (omega (arith, e)) ])
 
   pub counted_from : (n x t : ℕ) → IsFirst So Not n x (some t) → x ≤ t
   unfolding IsFirst

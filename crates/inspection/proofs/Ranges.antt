@@ -21,13 +21,13 @@ use Rattle.standing.specs.Runs.{Answer}
 use Rattle.standing.specs.Runs.Answer.{refused, outside}
 use Rattle.standing.specs.Holding.{ends_of, first_outside, looked_at}
 use Rattle.standing.proofs.Holding.{outside_rows}
-use Rattle.steps.specs.Answers.{onFileAnswer}
+use Rattle.steps.specs.Answers.{on_file_answer}
 use Rattle.inspection.specs.Queries.{range_check}
 use Rattle.inspection.proofs.Declared.{refused_rows_answer}
 
 module _ (m : List ℕ) (values : List ℤ) where
   abbrev Answers : Answer → Type 0
-  Answers a = a ≡ onFileAnswer (verdict m) (λ m. range_check m values)
+  Answers a = a ≡ on_file_answer (verdict m) (λ m. range_check m values)
 
   pub range_refused : (old left : List (List ℤ)) (r : Checked) (n : ℕ) → answered r left ≡ rows_after (verdict m) old → r ≡ Refused n → Answers (refused n)
   range_refused old left r n e h = refused_rows_answer m old left r n e h (λ m. range_check m values)
@@ -47,13 +47,13 @@ module _ (m : List ℕ) (values : List ℤ) where
     same = ap (λ l. first_outside (map ends_of l) values 0) u.decoded ∙ outside_rows declared values 0
 
     pub range_short : length values < s.states + s.flows → Answers (refused 9)
-    unfolding onFileAnswer range_check meaning_of
+    unfolding on_file_answer range_check meaning_of
     range_short h = rw (u.checked, lt-ltb (length values) (length declared) (omega (arith, count)))
 
     pub range_done : s.states + s.flows ≤ length values → (r : RangeCheck)
         → (found r.outside ≡ first_outside (map ends_of rows) values 0) × (r.looked ≡ looked_at (length rows) (first_outside (map ends_of rows) values 0))
         → Answers (outside (found r.outside) r.looked)
-    unfolding onFileAnswer range_check meaning_of
+    unfolding on_file_answer range_check meaning_of
     range_done h r e =
         let z : length rows ≡ length declared = sym u.part ∙ count in
         rw (u.checked, le-ltb (length values) (length declared) (omega (arith, count)), e.0, e.1, same, z)

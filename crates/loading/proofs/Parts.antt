@@ -27,7 +27,7 @@ use Rattle.semantics.specs.Meanings.{Meaning, meaning_of}
 use Rattle.engine.specs.Cells.{Loaded}
 use Rattle.engine.proofs.Loading.{loaded_assertion}
 use Rattle.standing.specs.Runs.{Done}
-use Rattle.steps.specs.Answers.{onFile}
+use Rattle.steps.specs.Answers.{on_file}
 use Rattle.steps.proofs.StepTests.{over_all}
 
 -- as many cells as the sizes say
@@ -89,8 +89,8 @@ module _ (m : List ℕ) (bytes : Bytes m) (s : Sizes) (e : answer_of (verdict m)
       }
 
   -- what is done on the file is done on the meaning of its model
-  pub on_loaded : {A : Type 0} (f : Meaning → Done A) (lent : A) → onFile (verdict m) f lent ≡ f (meaning_of loaded_whole.decoded.system)
-  unfolding onFile
+  pub on_loaded : {A : Type 0} (f : Meaning → Done A) (lent : A) → on_file (verdict m) f lent ≡ f (meaning_of loaded_whole.decoded.system)
+  unfolding on_file
   on_loaded f lent = rw is_accepted_lem
 
   pub kinds_count : length kinds ≡ s.nodes

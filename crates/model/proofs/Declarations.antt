@@ -1,6 +1,6 @@
 -- What the functions that walk over variables answer: a law for each place where one of them returns.
 use mathlib.Core.Path.{◌≡◌, refl, sym, ap, ◌∙◌}
-use mathlib.Core.List.{List, [], ◌∷◌, ◌++◌, append_assoc, append_nil}
+use mathlib.Core.List.{List, [], ◌∷◌, ◌++◌, append_assoc, append-nil}
 use Prim.Native.Nat.{ℕ, zero, suc, ◌+◌, ◌-◌, ◌≤◌, ◌<◌}
 use native.Mathlib.Numerals.{add-one}
 use native.Mathlib.Omega.{arith}
@@ -168,5 +168,5 @@ module _ (item : ℕ → Walk Variable) where
       row_done (list_row item) n at l S.outcomes,
       λ vs next q.
           let s = S.stored vs next q in
-          rw (sym k) (sym (append_nil (take i sorts)) ∙ ap (λ (x : List Variable). take i sorts ++ sorts_of x) (sym (rest_none item n at l s.1)) ∙ s.2),
+          rw (sym k) (sym (append-nil (take i sorts)) ∙ ap (λ (x : List Variable). take i sorts ++ sorts_of x) (sym (rest_none item n at l s.1)) ∙ s.2),
     )

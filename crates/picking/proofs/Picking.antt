@@ -17,7 +17,7 @@ use Rattle.standing.specs.Runs.{Run, Answer, answered}
 use Rattle.standing.specs.Runs.Answer.{refused, picked}
 use Rattle.standing.specs.Holding.{holds}
 use Rattle.marking.specs.Marks.{mark_of, marks_from, marks_of}
-use Rattle.steps.specs.Answers.{onFile, onFileAnswer}
+use Rattle.steps.specs.Answers.{on_file, on_file_answer}
 use Rattle.inspection.specs.Queries.{first_fireable, pick}
 
 -- ---- the refusals, or what is found
@@ -72,7 +72,7 @@ all_marks m values used total e q =
 
 -- ---- an answer alone
 
-pub alone : {A : Type 0} (v : Verdict) (f : Meaning → Answer) (a : A) → (onFile v (λ m. answered (f m) a) a).answer ≡ onFileAnswer v f
-unfolding onFile onFileAnswer
+pub alone : {A : Type 0} (v : Verdict) (f : Meaning → Answer) (a : A) → (on_file v (λ m. answered (f m) a) a).answer ≡ on_file_answer v f
+unfolding on_file on_file_answer
 alone (refusal n) f a = refl
 alone (accepted z t) f a = refl

@@ -1,7 +1,7 @@
 -- The reading after the reset, over what still waits.
 use mathlib.Core.Path.{◌≡◌, refl, sym, ap, ◌∙◌}
 use mathlib.Core.Bool.{false}
-use mathlib.Core.List.{List, [], ◌∷◌, ◌++◌, append_nil, Memᴰ}
+use mathlib.Core.List.{List, [], ◌∷◌, ◌++◌, append-nil, Memᴰ}
 use mathlib.Core.Option.{Option, some, none}
 use Prim.Native.Nat.{ℕ, ◌+◌, ◌≤◌, ◌<◌}
 use native.Mathlib.Omega.{arith}
@@ -52,7 +52,7 @@ use Rattle.propagation.proofs.Valuations.{filled_known}
 pub over_all : (new old : List ℤ) → length new ≡ length old → over new old ≡ new
 over_all new old e =
     let z : length old ≤ length new = omega (arith, e) in
-    ap (λ l. new ++ l) (drop_of_length-le old z) ∙ append_nil new
+    ap (λ l. new ++ l) (drop_of_length-le old z) ∙ append-nil new
 
 all_append : {A : Type 0} (P : A → Type 0) (l m : List A) → All P l → All P m → All P (l ++ m)
 unfolding All

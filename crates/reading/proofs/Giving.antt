@@ -1,7 +1,7 @@
 -- A value given: a variable that has one is not news; one that had none is queued, and there is room for it.
 use mathlib.Core.Path.{◌≡◌, sym, ap, subst, ◌∙◌}
 use mathlib.Core.Bool.{Bool, true, false}
-use mathlib.Core.List.{List, [], ◌∷◌, ◌++◌, append_nil}
+use mathlib.Core.List.{List, [], ◌∷◌, ◌++◌, append-nil}
 use Prim.Native.Nat.{ℕ, suc, ◌+◌, ◌<◌, ◌^◌}
 use native.Mathlib.Omega.{arith}
 use lib.IntN.{ℤ, pos}
@@ -39,7 +39,7 @@ module _ (lows highs given : List ℤ) (queue : List ℕ) (x : ℕ) {v : ℤ} (f
   unfolding news_of
   known_given k =
       let kept : given' ≡ given = ap (λ a. a.given) gave ∙ one_given lows highs x v (gathering found given) ∙ rw (told k) in
-      let news : take queued queue ≡ take queued queue ++ news_of (gives x v ∷ []) given = rw (told k) (sym (append_nil (take queued queue))) in
+      let news : take queued queue ≡ take queued queue ++ news_of (gives x v ∷ []) given = rw (told k) (sym (append-nil (take queued queue))) in
       (gave, news, subst (λ l. Room l queued queue) (sym kept) r)
 
   module _ (k : t ≡ false) (l : x < length given) where

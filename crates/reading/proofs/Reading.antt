@@ -1,6 +1,6 @@
 -- The loop of `gather`: what is left of the instruction.
 use mathlib.Core.Path.{◌≡◌, refl, sym, ap, ap₂, ◌∙◌}
-use mathlib.Core.List.{List, ◌++◌, append_nil, append_assoc}
+use mathlib.Core.List.{List, ◌++◌, append-nil, append_assoc}
 use Prim.Native.Nat.{ℕ, ◌+◌, ◌-◌, ◌≤◌, ◌<◌}
 use native.Mathlib.Omega.{arith}
 use lib.IntN.{ℤ}
@@ -65,7 +65,7 @@ module _ (ks : List ℕ) (ps : List ℤ) (σ : Valuation) (lows highs : List ℤ
     pub all_left : InstructionAt ks ps i at → Left start at i start at 1
     unfolding InstructionsAt count effects_of_all AllTargetsBelow marked_in read_by
     all_left h =
-        let e = append_nil (effects i σ) in
+        let e = append-nil (effects i σ) in
         record {
           rest = more i no_branch;
           stands = (h, tt);
@@ -87,7 +87,7 @@ module _ (ks : List ℕ) (ps : List ℤ) (σ : Valuation) (lows highs : List ℤ
       none_left d = by left.rest left.counted left.same
         where
           by : (is : Instructions) → count is ≡ due → read_by lows highs σ at r i start ≡ read_all σ lows highs r is here now → now ≡ read_by lows highs σ at r i start
-          by no_branch e s = (λ k. record { gathered = now.gathered; news = sym (append_nil now.news) k; waits = now.waits }) ∙ sym s
+          by no_branch e s = (λ k. record { gathered = now.gathered; news = sym (append-nil now.news) k; waits = now.waits }) ∙ sym s
           by (more k is) e s = absurd (omega arith)
 
       pub next_stands : 0 < due → (nexts : List ℕ) → NextPlaces ks ps nexts → {variables given : ℕ} → TargetsBelow i variables → TargetsBelow i given → InstructionStands ks ps nexts variables given here

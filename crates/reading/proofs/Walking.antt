@@ -2,7 +2,7 @@
 use mathlib.Core.Path.{◌≡◌, refl, sym, ap, subst, ◌∙◌}
 use mathlib.Core.Logic.{◌⊎◌, inl, inr, ⊎_elim}
 use mathlib.Core.Bool.{true, false}
-use mathlib.Core.List.{List, [], ◌∷◌, ◌++◌, append_nil}
+use mathlib.Core.List.{List, [], ◌∷◌, ◌++◌, append-nil}
 use Prim.Native.Nat.{ℕ, suc, ◌+◌, ◌-◌, ◌<◌, ◌^◌}
 use native.Mathlib.Omega.{arith}
 use lib.IntN.{ℤ, pos, nat_abs}
@@ -96,12 +96,12 @@ module _ (ks : List ℕ) (ps : List ℤ) where
       assigned_unknown : r.evaluation ≡ Unknown → {after : Progress} {waits' : List ℕ} → Noted after waits'
           → (x : ℕ) (e : Expression) → InstructionAt ks ps (assign x e) at → Walks after given queue waits' r.next.at 0 (assign x e)
       unfolding walked_by at_once due_after size_of size_of_all count gather_all assigned news_of mark_at_once stamp_of found_by
-      assigned_unknown p m x e h = rw (m.0, m.1, m.2, p, value x e h p, place x e h, append_nil (take start.queued queue))
+      assigned_unknown p m x e h = rw (m.0, m.1, m.2, p, value x e h p, place x e h, append-nil (take start.queued queue))
 
       assigned_failed : r.evaluation ≡ Failed → {after : Progress} {waits' : List ℕ} → Noted after waits'
           → (x : ℕ) (e : Expression) → InstructionAt ks ps (assign x e) at → Walks after given queue waits' r.next.at 0 (assign x e)
       unfolding walked_by at_once due_after size_of size_of_all count gather_all gather assigned news_of mark_at_once stamp_of found_by
-      assigned_failed p m x e h = rw (m.0, m.1, m.2, p, value x e h p, place x e h, append_nil (take start.queued queue))
+      assigned_failed p m x e h = rw (m.0, m.1, m.2, p, value x e h p, place x e h, append-nil (take start.queued queue))
 
       pub assigned_nothing : OneOf all_but_value (tag_of the_type r.evaluation) → {after : Progress} {waits' : List ℕ} → Noted after waits'
           → (x : ℕ) (e : Expression) → InstructionAt ks ps (assign x e) at → Walks after given queue waits' r.next.at 0 (assign x e)
@@ -142,12 +142,12 @@ module _ (ks : List ℕ) (ps : List ℤ) where
         tested_unknown : r.evaluation ≡ Unknown → {after : Progress} {waits' : List ℕ} → Noted after waits'
             → (c : Expression) (i : Instruction) → InstructionAt ks ps (if_then c i) at → Walks after given queue waits' (get_or nexts r.next.at 0) 0 (if_then c i)
         unfolding walked_by at_once due_after chosen_branch size_of size_of_all count gather_all under news_of mark_at_once stamp_of found_by
-        tested_unknown p m c i h = rw (m.0, m.1, m.2, p, condition c i h p, place_past c i h nexts places, append_nil (take start.queued queue))
+        tested_unknown p m c i h = rw (m.0, m.1, m.2, p, condition c i h p, place_past c i h nexts places, append-nil (take start.queued queue))
 
         tested_failed : r.evaluation ≡ Failed → {after : Progress} {waits' : List ℕ} → Noted after waits'
             → (c : Expression) (i : Instruction) → InstructionAt ks ps (if_then c i) at → Walks after given queue waits' (get_or nexts r.next.at 0) 0 (if_then c i)
         unfolding walked_by at_once due_after chosen_branch size_of size_of_all count gather_all gather under news_of mark_at_once stamp_of found_by
-        tested_failed p m c i h = rw (m.0, m.1, m.2, p, condition c i h p, place_past c i h nexts places, append_nil (take start.queued queue))
+        tested_failed p m c i h = rw (m.0, m.1, m.2, p, condition c i h p, place_past c i h nexts places, append-nil (take start.queued queue))
 
         pub tested_nothing : OneOf all_but_value (tag_of the_type r.evaluation) → {after : Progress} {waits' : List ℕ} → Noted after waits'
             → (c : Expression) (i : Instruction) → InstructionAt ks ps (if_then c i) at → Walks after given queue waits' (get_or nexts r.next.at 0) 0 (if_then c i)
@@ -156,12 +156,12 @@ module _ (ks : List ℕ) (ps : List ℤ) where
         pub tested_false : {v : ℤ} → r.evaluation ≡ Value v → eq_z v (boolean true) ≡ false → {after : Progress} {waits' : List ℕ} → Noted after waits'
             → (c : Expression) (i : Instruction) → InstructionAt ks ps (if_then c i) at → Walks after given queue waits' (get_or nexts r.next.at 0) 0 (if_then c i)
         unfolding walked_by at_once due_after chosen_branch size_of size_of_all count gather_all under news_of mark_at_once stamp_of found_by
-        tested_false p t m c i h = rw (m.0, m.1, m.2, p, condition c i h p, t, place_past c i h nexts places, append_nil (take start.queued queue))
+        tested_false p t m c i h = rw (m.0, m.1, m.2, p, condition c i h p, t, place_past c i h nexts places, append-nil (take start.queued queue))
 
       pub tested_true : {v : ℤ} → r.evaluation ≡ Value v → eq_z v (boolean true) ≡ true → {after : Progress} {waits' : List ℕ} → Noted after waits'
           → (c : Expression) (i : Instruction) → InstructionAt ks ps (if_then c i) at → Walks after given queue waits' r.next.at 1 (if_then c i)
       unfolding walked_by at_once due_after chosen_branch size_of size_of_all count gather_all under news_of mark_at_once stamp_of found_by
-      tested_true p t m c i h = rw (m.0, m.1, m.2, p, condition c i h p, t, body_due c i h, append_nil (take start.queued queue))
+      tested_true p t m c i h = rw (m.0, m.1, m.2, p, condition c i h p, t, body_due c i h, append-nil (take start.queued queue))
 
   -- ---- any instruction, by its kind
 
@@ -200,7 +200,7 @@ module _ (ks : List ℕ) (ps : List ℤ) where
       of_test k t (block is) h = absurd (omega (arith, h.0.kind))
 
     quiet : start ≡ record { gathered = start.gathered; news = start.news ++ []; waits = start.waits }
-    quiet = λ j. record { gathered = start.gathered; news = sym (append_nil start.news) j; waits = start.waits }
+    quiet = λ j. record { gathered = start.gathered; news = sym (append-nil start.news) j; waits = start.waits }
 
     pub of_count : (get_or ks at 0 ≡ 17 → ⊥) → (get_or ks at 0 ≡ 18 → ⊥) → mag (get_or ps at (pos 0)) < 2 ^ 31
         → {n : ℕ} → n ≡ nat_abs (to_z w32 (of_z w32 (get_or ps at (pos 0))))

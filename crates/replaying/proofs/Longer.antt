@@ -1,7 +1,7 @@
 -- A move over exactly the variables' cells comes to what it comes to over more cells; those past the variables stay.
 use mathlib.Core.Path.{◌≡◌, refl, sym, ap, ◌∙◌}
 use mathlib.Core.Bool.{Bool, true, false, cond, not, ◌||◌}
-use mathlib.Core.List.{List, [], ◌∷◌, ◌++◌, append_nil}
+use mathlib.Core.List.{List, [], ◌∷◌, ◌++◌, append-nil}
 use Prim.Native.Nat.{ℕ}
 use native.Mathlib.Omega.{arith}
 use borrow.Author.Tests.{le-ltb}
@@ -37,7 +37,7 @@ module _ (m : Meaning) (complete : Complete m) (rest : List ℤ) where
     settling_longer ss (settled count new) e =
         let size : length new ≡ length m.declarations = complete ss count new e in
         let full : new ++ drop (length new) a ≡ new =
-        ap (λ k. new ++ k) (drop_of_length-le a {i = length new} (omega arith)) ∙ append_nil new in
+        ap (λ k. new ++ k) (drop_of_length-le a {i = length new} (omega arith)) ∙ append-nil new in
         ap (λ left. answered (Fired count) left)
         (ap (λ k. new ++ k) (drop_at a rest (length new) (h ∙ sym size)) ∙ ap (λ k. k ++ rest) (sym full))
 

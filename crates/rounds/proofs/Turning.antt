@@ -2,7 +2,7 @@
 use mathlib.Core.Path.{◌≡◌, refl, sym, ap, ap₂, subst, fun_ext, ◌∙◌}
 use mathlib.Core.Logic.{◌⊎◌, inl, inr, ⊎_elim}
 use mathlib.Core.Bool.{true, false, true≢false}
-use mathlib.Core.List.{List, [], ◌∷◌, ◌++◌, append_nil, Memᴰ}
+use mathlib.Core.List.{List, [], ◌∷◌, ◌++◌, append-nil, Memᴰ}
 use mathlib.Core.Option.{some, none}
 use Prim.Native.Nat.{ℕ, zero, suc, ◌+◌, ◌-◌, ◌≤◌, ◌<◌}
 use native.Mathlib.Omega.{arith}
@@ -256,7 +256,7 @@ module _ {ks : List ℕ} {ps : List ℤ} {nexts : List ℕ} {rows : List (List �
         woken =
             woken_begins i at (valuation_of cells) (valuation_of given) (r + 1) waits (omega (arith, instruction_ends ks ps i at a.stands, long)) b.marked (λ p. omega (arith, b.stamps p));
         gathered = refl;
-        news = sym (append_nil (take queued queue));
+        news = sym (append-nil (take queued queue));
       }
 
   module _ {before : List ℕ} {found' : Gathered} {given' : List ℤ} {queued' : ℕ} {queue' waits' : List ℕ}

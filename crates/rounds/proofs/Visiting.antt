@@ -3,7 +3,7 @@ use mathlib.Core.Path.{◌≡◌, refl, sym, ap, ap₂, subst, ◌∙◌}
 use mathlib.Core.Logic.{◌⊎◌, inl, inr, ⊎_elim}
 use mathlib.Core.Bool.{Bool, true, false}
 use mathlib.Core.List.Memᴰ
-use mathlib.Core.List.{List, [], ◌∷◌, ◌++◌, append_nil, append_assoc, Memᴰ}
+use mathlib.Core.List.{List, [], ◌∷◌, ◌++◌, append-nil, append_assoc, Memᴰ}
 use Prim.Native.Nat.{ℕ, zero, suc, ◌+◌, ◌≤◌, ◌<◌}
 use native.Mathlib.Omega.{arith}
 use native.Mathlib.Nat.{eq-or-lt_of_le}
@@ -44,7 +44,7 @@ use Rattle.rounds.proofs.Propagating.{rows_counted}
 -- the effects of one more
 more_effects : (read : List Spot) (s : Spot) (τ : Valuation) → effects_of_each (instructions_of (read ++ (s ∷ []))) τ ≡ effects_of_each (instructions_of read) τ ++ effects s.instruction τ
 unfolding effects_of_each instructions_of
-more_effects [] s τ = append_nil (effects s.instruction τ)
+more_effects [] s τ = append-nil (effects s.instruction τ)
 more_effects (r ∷ read) s τ =
     ap (λ l. effects r.instruction τ ++ l) (more_effects read s τ) ∙ sym (append_assoc (effects r.instruction τ) (effects_of_each (instructions_of read) τ) (effects s.instruction τ))
 
@@ -53,7 +53,7 @@ module _ {ks : List ℕ} {ps : List ℤ} {nexts : List ℕ} {rows : List (List �
   pub still_same : {found : Gathered} {given : List ℤ} {queued : ℕ} {queue waits : List ℕ} {pending : ℕ} → Room given queued queue → pending ≡ mark_count waits
       → StillWaking ks ps nexts rows at cells r found given queued queue waits found given queued queue waits pending
   still_same {found} {given} {queued} {queue} room counted =
-      record { still = λ a σ before w. w; done = λ p d. d; room = room; counted = counted; more = []; queue_kept = sym (append_nil (take queued queue)) }
+      record { still = λ a σ before w. w; done = λ p d. d; room = room; counted = counted; more = []; queue_kept = sym (append-nil (take queued queue)) }
 
   module _ {f₀ f₁ : Gathered} {g₀ g₁ : List ℤ} {n₀ n₁ : ℕ} {q₀ w₀ q₁ w₁ : List ℕ} {m₁ : ℕ} where
     -- one after the other

@@ -22,7 +22,7 @@ use Rattle.steps.specs.Calls as calls
 use Rattle.steps.specs.Calls.{answer_of, step_on}
 use Rattle.replaying.specs.Replays.{is_fired, initial}
 use Rattle.steps.specs.Lent.{Cells, cells_left}
-use Rattle.steps.specs.Answers.{onFile, seen}
+use Rattle.steps.specs.Answers.{on_file, seen}
 use Rattle.steps.specs.declared.Answer as declared
 use Rattle.steps.specs.declared.Answer.TheVariants.{Refused, Rounds, Done, Number, Sizes, Picked, Outside}
 use Rattle.steps.specs.contracts.Answer.{the_type}
@@ -104,32 +104,32 @@ module _ (m : Meaning) (values : List ℤ) (marks history : List ℕ) (n : ℕ) 
 -- ---- on a file
 
 module _ (v : Verdict) (values : List ℤ) (marks history : List ℕ) (n : ℕ) (a : Answer) (new : List ℤ) (marked : List ℕ) where
-  pub start_on_file : answered a (new, marked) ≡ cells_left (onFile v (λ m. step_on m Start (run values marks [] 0)) (run values marks [] 0))
-      → answered a (run new marked history (after_rounds a 0 n)) ≡ onFile v (λ m. calls.start m (run values marks history n)) (run values marks history n)
-  unfolding onFile after_rounds step_on
+  pub start_on_file : answered a (new, marked) ≡ cells_left (on_file v (λ m. step_on m Start (run values marks [] 0)) (run values marks [] 0))
+      → answered a (run new marked history (after_rounds a 0 n)) ≡ on_file v (λ m. calls.start m (run values marks history n)) (run values marks history n)
+  unfolding on_file after_rounds step_on
   start_on_file e = ap (after_start history n) e ∙ go v
     where
-      go : (v : Verdict) → after_start history n (cells_left (onFile v (λ m. step_on m Start (run values marks [] 0)) (run values marks [] 0)))
-          ≡ onFile v (λ m. calls.start m (run values marks history n)) (run values marks history n)
+      go : (v : Verdict) → after_start history n (cells_left (on_file v (λ m. step_on m Start (run values marks [] 0)) (run values marks [] 0)))
+          ≡ on_file v (λ m. calls.start m (run values marks history n)) (run values marks history n)
       go (refusal k) = refl
       go (accepted z t) =
           ap (after_start history n) (start_lent (meaning_of t) values marks history n) ∙ sym (start_follows (meaning_of t) values marks history n)
 
-  pub fire_on_file : (t : ℕ) → answered a (new, marked) ≡ cells_left (onFile v (λ m. step_on m (Fire t) (run values marks history n)) (run values marks history n))
-      → answered a (run new marked (after_rounds a (set history n t) history) (after_rounds a (suc n) n)) ≡ onFile v (λ m. calls.fire m t (run values marks history n)) (run values marks history n)
-  unfolding onFile after_rounds step_on
+  pub fire_on_file : (t : ℕ) → answered a (new, marked) ≡ cells_left (on_file v (λ m. step_on m (Fire t) (run values marks history n)) (run values marks history n))
+      → answered a (run new marked (after_rounds a (set history n t) history) (after_rounds a (suc n) n)) ≡ on_file v (λ m. calls.fire m t (run values marks history n)) (run values marks history n)
+  unfolding on_file after_rounds step_on
   fire_on_file t e = ap (after_fire history n t) e ∙ go v
     where
-      go : (v : Verdict) → after_fire history n t (cells_left (onFile v (λ m. step_on m (Fire t) (run values marks history n)) (run values marks history n))) ≡ onFile v (λ m. calls.fire m t (run values marks history n)) (run values marks history n)
+      go : (v : Verdict) → after_fire history n t (cells_left (on_file v (λ m. step_on m (Fire t) (run values marks history n)) (run values marks history n))) ≡ on_file v (λ m. calls.fire m t (run values marks history n)) (run values marks history n)
       go (refusal k) = refl
       go (accepted z s) = sym (fire_follows (meaning_of s) values marks history n t)
 
-  pub undo_on_file : answered a (new, marked) ≡ cells_left (onFile v (λ m. step_on m Undo (run values marks history n)) (run values marks history n))
-      → answered a (run new marked history (count_after_undo a n)) ≡ onFile v (λ m. calls.undo m (run values marks history n)) (run values marks history n)
-  unfolding onFile count_after_undo step_on
+  pub undo_on_file : answered a (new, marked) ≡ cells_left (on_file v (λ m. step_on m Undo (run values marks history n)) (run values marks history n))
+      → answered a (run new marked history (count_after_undo a n)) ≡ on_file v (λ m. calls.undo m (run values marks history n)) (run values marks history n)
+  unfolding on_file count_after_undo step_on
   undo_on_file e = ap (after_undo history n) e ∙ go v
     where
-      go : (v : Verdict) → after_undo history n (cells_left (onFile v (λ m. step_on m Undo (run values marks history n)) (run values marks history n))) ≡ onFile v (λ m. calls.undo m (run values marks history n)) (run values marks history n)
+      go : (v : Verdict) → after_undo history n (cells_left (on_file v (λ m. step_on m Undo (run values marks history n)) (run values marks history n))) ≡ on_file v (λ m. calls.undo m (run values marks history n)) (run values marks history n)
       go (refusal k) = refl
       go (accepted z s) = sym (undo_follows (meaning_of s) values marks history n)
 
@@ -159,20 +159,20 @@ not_undone (Outside c) h n = refl
 -- ---- the code's answers on a file
 
 module _ (v : Verdict) (values : List ℤ) (marks history : List ℕ) (n : ℕ) (r : declared.Answer) (new : List ℤ) (marked : List ℕ) where
-  module _ (e : answered (seen r) (new, marked) ≡ cells_left (onFile v (λ m. step_on m Start (run values marks [] 0)) (run values marks [] 0))) where
-    pub start_counted : (k : ℕ) → r ≡ Rounds k → answered (seen r) (run new marked history 0) ≡ onFile v (λ m. calls.start m (run values marks history n)) (run values marks history n)
+  module _ (e : answered (seen r) (new, marked) ≡ cells_left (on_file v (λ m. step_on m Start (run values marks [] 0)) (run values marks [] 0))) where
+    pub start_counted : (k : ℕ) → r ≡ Rounds k → answered (seen r) (run new marked history 0) ≡ on_file v (λ m. calls.start m (run values marks history n)) (run values marks history n)
     unfolding seen after_rounds
     start_counted k q =
         let zero-count : after_rounds (seen r) 0 n ≡ 0 = ap (λ x. after_rounds (seen x) 0 n) q in
         rw zero-count at (start_on_file v values marks history n (seen r) new marked e)
 
     pub start_kept : OneOf all_but_rounds (tag_of the_type r)
-        → answered (seen r) (run new marked history n) ≡ onFile v (λ m. calls.start m (run values marks history n)) (run values marks history n)
+        → answered (seen r) (run new marked history n) ≡ on_file v (λ m. calls.start m (run values marks history n)) (run values marks history n)
     start_kept h = rw (no_rounds r h 0 n) at (start_on_file v values marks history n (seen r) new marked e)
 
-  module _ (t : ℕ) (e : answered (seen r) (new, marked) ≡ cells_left (onFile v (λ m. step_on m (Fire t) (run values marks history n)) (run values marks history n))) where
+  module _ (t : ℕ) (e : answered (seen r) (new, marked) ≡ cells_left (on_file v (λ m. step_on m (Fire t) (run values marks history n)) (run values marks history n))) where
     pub fire_counted : (k : ℕ) → r ≡ Rounds k
-        → answered (seen r) (run new marked (set history n t) (n + 1)) ≡ onFile v (λ m. calls.fire m t (run values marks history n)) (run values marks history n)
+        → answered (seen r) (run new marked (set history n t) (n + 1)) ≡ on_file v (λ m. calls.fire m t (run values marks history n)) (run values marks history n)
     unfolding seen after_rounds
     fire_counted k q =
         let one_more : after_rounds (seen r) (suc n) n ≡ n + 1 = ap (λ x. after_rounds (seen x) (suc n) n) q ∙ sym (add-one n) in
@@ -180,17 +180,17 @@ module _ (v : Verdict) (values : List ℤ) (marks history : List ℕ) (n : ℕ) 
         rw (one_more, entered) at (fire_on_file v values marks history n (seen r) new marked t e)
 
     pub fire_kept : OneOf all_but_rounds (tag_of the_type r)
-        → answered (seen r) (run new marked history n) ≡ onFile v (λ m. calls.fire m t (run values marks history n)) (run values marks history n)
+        → answered (seen r) (run new marked history n) ≡ on_file v (λ m. calls.fire m t (run values marks history n)) (run values marks history n)
     fire_kept h =
         rw (no_rounds r h (suc n) n, no_rounds r h (set history n t) history) at (fire_on_file v values marks history n (seen r) new marked t e)
 
-  module _ (e : answered (seen r) (new, marked) ≡ cells_left (onFile v (λ m. step_on m Undo (run values marks history n)) (run values marks history n))) where
-    pub undo_counted : r ≡ Done → answered (seen r) (run new marked history (n - 1)) ≡ onFile v (λ m. calls.undo m (run values marks history n)) (run values marks history n)
+  module _ (e : answered (seen r) (new, marked) ≡ cells_left (on_file v (λ m. step_on m Undo (run values marks history n)) (run values marks history n))) where
+    pub undo_counted : r ≡ Done → answered (seen r) (run new marked history (n - 1)) ≡ on_file v (λ m. calls.undo m (run values marks history n)) (run values marks history n)
     unfolding seen count_after_undo
     undo_counted q =
         let one_less : count_after_undo (seen r) n ≡ n - 1 = ap (λ x. count_after_undo (seen x) n) q in
         rw one_less at (undo_on_file v values marks history n (seen r) new marked e)
 
     pub undo_kept : OneOf all_but_done (tag_of the_type r)
-        → answered (seen r) (run new marked history n) ≡ onFile v (λ m. calls.undo m (run values marks history n)) (run values marks history n)
+        → answered (seen r) (run new marked history n) ≡ on_file v (λ m. calls.undo m (run values marks history n)) (run values marks history n)
     undo_kept h = rw (not_undone r h n) at (undo_on_file v values marks history n (seen r) new marked e)

@@ -15,7 +15,7 @@ use Rattle.steps.specs.declared.Answer as declared
 use Rattle.replaying.specs.declared.Move.TheVariants as moves
 use Rattle.standing.specs.Runs.{Run, Store, Answer, Done, run, store, answered}
 use Rattle.standing.specs.Runs.Answer.{rounds, done}
-use Rattle.steps.specs.Answers.{seen, onFile}
+use Rattle.steps.specs.Answers.{seen, on_file}
 use Rattle.steps.specs.Lent.{cells_left}
 use Rattle.steps.specs.Calls as calls
 use Rattle.run.specs.Lists.{Promise}
@@ -33,19 +33,19 @@ module _ (m : List ℕ) (fits : (i : ℕ) → Fits w8 (get_or m i 0)) where
 
   pub start_promised : (values : List ℤ) (marks : List ℕ) (n : ℕ) (r : declared.Answer) (values' : List ℤ) (marks' : List ℕ) (n' : ℕ)
       → ((history : List ℕ) → answered (seen r) (run values' marks' history n')
-      ≡ onFile (verdict m) (λ m. calls.start m (run values marks history n)) (run values marks history n))
+      ≡ on_file (verdict m) (λ m. calls.start m (run values marks history n)) (run values marks history n))
       → StartPromise m values marks n r values' marks' n'
   start_promised values marks n r values' marks' n' e =
       let s = store (run values marks [] n) [] in
       (e, bounded m bytes Start s _ (start_reached m s (seen r) (run values' marks' [] n') (e [])))
 
   pub fire_promised : (r : Run) (t : ℕ) (a : declared.Answer) (r' : Run)
-      → answered (seen a) r' ≡ onFile (verdict m) (λ m. calls.fire m t r) r
+      → answered (seen a) r' ≡ on_file (verdict m) (λ m. calls.fire m t r) r
       → FirePromise m r.values r.marks r.history r.count t a r'.values r'.marks r'.history r'.count
   fire_promised r t a r' e = (e, bounded m bytes (Fire t) (store r []) _ (fire_reached m (store r []) (seen a) r' t e))
 
   pub fire_allowed : (values : List ℤ) (marks history : List ℕ) (n t : ℕ) (a : Answer) (new : List ℤ) (marked : List ℕ) (count : ℕ) → a ≡ rounds count
-      → answered a (new, marked) ≡ cells_left (onFile (verdict m) (λ m. calls.step_on m (moves.Fire t) (run values marks history n)) (run values marks history n))
+      → answered a (new, marked) ≡ cells_left (on_file (verdict m) (λ m. calls.step_on m (moves.Fire t) (run values marks history n)) (run values marks history n))
       → (t < 256) × (n < length history)
   fire_allowed values marks history n t a new marked count q e =
       let s = store (run values marks history n) [] in
@@ -62,7 +62,7 @@ module _ (m : List ℕ) (fits : (i : ℕ) → Fits w8 (get_or m i 0)) where
   checked call s r a told e same = performed call Check s a s told (ap (λ a. answered a s) (sym same) ∙ calls_reached.check m s r e)
 
 pub undo_allowed : (m : List ℕ) (values : List ℤ) (marks history : List ℕ) (n : ℕ) (a : Answer) (new : List ℤ) (marked : List ℕ) → a ≡ done
-    → answered a (new, marked) ≡ cells_left (onFile (verdict m) (λ m. calls.step_on m moves.Undo (run values marks history n)) (run values marks history n))
+    → answered a (new, marked) ≡ cells_left (on_file (verdict m) (λ m. calls.step_on m moves.Undo (run values marks history n)) (run values marks history n))
     → n ≡ 0 → ⊥
 undo_allowed m values marks history n a new marked q e =
     let s = store (run values marks history n) [] in

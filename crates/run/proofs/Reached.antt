@@ -10,7 +10,7 @@ use Rattle.semantics.specs.Meanings.{Meaning, meaning_of}
 use Rattle.run.specs.declared.Call.{Call}
 use Rattle.run.specs.declared.Call.TheVariants.{Check, Start, Fire, Undo, Marks, Value, Pick, FirstOutside}
 use Rattle.standing.specs.Runs.{Run, Store, Answer, Done, run, store, answered}
-use Rattle.steps.specs.Answers.{seen, onFile, onFileAnswer}
+use Rattle.steps.specs.Answers.{seen, on_file, on_file_answer}
 use Rattle.steps.specs.Calls as calls
 use Rattle.inspection.specs.Queries as queries
 use Rattle.run.specs.Lists.{on_run, on_buffer, call_on, call_by, call, calls_of}
@@ -26,59 +26,59 @@ module _ (s : Store) where
 
   -- a call that is lent the run
   pub run_reached : (c : Call) (f : Meaning → Done Run) → ((z : Sizes) (m : Meaning) → on_run s (f m) ≡ call_on z m c s)
-      → (v : Verdict) (a : Answer) (left : Run) → answered a left ≡ onFile v f s.run → answered a (store left s.buffer) ≡ call_by v c s
-  unfolding onFile call_by
+      → (v : Verdict) (a : Answer) (left : Run) → answered a left ≡ on_file v f s.run → answered a (store left s.buffer) ≡ call_by v c s
+  unfolding on_file call_by
   run_reached c f same v a left e = ap (on_run s) e ∙ go v
     where
-      go : (v : Verdict) → on_run s (onFile v f s.run) ≡ call_by v c s
+      go : (v : Verdict) → on_run s (on_file v f s.run) ≡ call_by v c s
       go (refusal n) = refl
       go (accepted z t) = same z (meaning_of t)
 
-  pub marks_reached : (v : Verdict) (a : Answer) (left : List ℕ) → answered a left ≡ onFile v (λ m. queries.marks m s.run s.buffer) s.buffer
+  pub marks_reached : (v : Verdict) (a : Answer) (left : List ℕ) → answered a left ≡ on_file v (λ m. queries.marks m s.run s.buffer) s.buffer
       → answered a (store s.run left) ≡ call_by v Marks s
-  unfolding onFile call_by call_on
+  unfolding on_file call_by call_on
   marks_reached v a left e = ap (on_buffer s) e ∙ go v
     where
-      go : (v : Verdict) → on_buffer s (onFile v (λ m. queries.marks m s.run s.buffer) s.buffer) ≡ call_by v Marks s
+      go : (v : Verdict) → on_buffer s (on_file v (λ m. queries.marks m s.run s.buffer) s.buffer) ≡ call_by v Marks s
       go (refusal n) = refl
       go (accepted z t) = refl
 
   -- a call that is lent nothing that it could change
   answer_reached : (c : Call) (f : Meaning → Answer) → ((z : Sizes) (m : Meaning) → answered (f m) s ≡ call_on z m c s)
-      → (v : Verdict) (a : Answer) → a ≡ onFileAnswer v f → answered a s ≡ call_by v c s
-  unfolding onFileAnswer call_by
+      → (v : Verdict) (a : Answer) → a ≡ on_file_answer v f → answered a s ≡ call_by v c s
+  unfolding on_file_answer call_by
   answer_reached c f same v a e = ap (λ a. answered a s) e ∙ go v
     where
-      go : (v : Verdict) → answered (onFileAnswer v f) s ≡ call_by v c s
+      go : (v : Verdict) → answered (on_file_answer v f) s ≡ call_by v c s
       go (refusal n) = refl
       go (accepted z t) = same z (meaning_of t)
 
-  pub value_reached : (x : ℕ) (v : Verdict) (a : Answer) → a ≡ onFileAnswer v (λ m. queries.value m x s.run) → answered a s ≡ call_by v (Value x) s
+  pub value_reached : (x : ℕ) (v : Verdict) (a : Answer) → a ≡ on_file_answer v (λ m. queries.value m x s.run) → answered a s ≡ call_by v (Value x) s
   unfolding call_on
   value_reached x = answer_reached (Value x) (λ m. queries.value m x s.run) (λ z m. refl)
 
-  pub pick_reached : (v : Verdict) (a : Answer) → a ≡ onFileAnswer v (λ m. queries.pick m s.run) → answered a s ≡ call_by v Pick s
+  pub pick_reached : (v : Verdict) (a : Answer) → a ≡ on_file_answer v (λ m. queries.pick m s.run) → answered a s ≡ call_by v Pick s
   unfolding call_on
   pick_reached = answer_reached Pick (λ m. queries.pick m s.run) (λ z m. refl)
 
-  pub range_reached : (v : Verdict) (a : Answer) → a ≡ onFileAnswer v (λ m. queries.range_check m s.run.values) → answered a s ≡ call_by v FirstOutside s
+  pub range_reached : (v : Verdict) (a : Answer) → a ≡ on_file_answer v (λ m. queries.range_check m s.run.values) → answered a s ≡ call_by v FirstOutside s
   unfolding call_on
   range_reached = answer_reached FirstOutside (λ m. queries.range_check m s.run.values) (λ z m. refl)
 
 -- ---- the calls that are lent the run, on a file
 
 module _ (m : List ℕ) (s : Store) (a : Answer) (left : Run) where
-  pub start_reached : answered a left ≡ onFile (verdict m) (λ m. calls.start m s.run) s.run
+  pub start_reached : answered a left ≡ on_file (verdict m) (λ m. calls.start m s.run) s.run
       → answered a (store left s.buffer) ≡ call m Start s
   unfolding call_on
   start_reached = run_reached s Start (λ m. calls.start m s.run) (λ z m. refl) (verdict m) a left
 
-  pub fire_reached : (t : ℕ) → answered a left ≡ onFile (verdict m) (λ m. calls.fire m t s.run) s.run
+  pub fire_reached : (t : ℕ) → answered a left ≡ on_file (verdict m) (λ m. calls.fire m t s.run) s.run
       → answered a (store left s.buffer) ≡ call m (Fire t) s
   unfolding call_on
   fire_reached t = run_reached s (Fire t) (λ m. calls.fire m t s.run) (λ z m. refl) (verdict m) a left
 
-  pub undo_reached : answered a left ≡ onFile (verdict m) (λ m. calls.undo m s.run) s.run
+  pub undo_reached : answered a left ≡ on_file (verdict m) (λ m. calls.undo m s.run) s.run
       → answered a (store left s.buffer) ≡ call m Undo s
   unfolding call_on
   undo_reached = run_reached s Undo (λ m. calls.undo m s.run) (λ z m. refl) (verdict m) a left

@@ -8,7 +8,7 @@ use Rattle.run.specs.declared.Call.{Call}
 use Rattle.steps.specs.declared.Answer as declared
 use Rattle.standing.specs.Runs.{Answer, Store, run, answered}
 use Rattle.standing.specs.Runs.Answer.{refused, sizes}
-use Rattle.steps.specs.Answers.{seen, onFile, onFileAnswer}
+use Rattle.steps.specs.Answers.{seen, on_file, on_file_answer}
 use Rattle.steps.specs.Calls as calls
 use Rattle.inspection.specs.Queries as queries
 use Rattle.run.specs.Lists.{CountBounded, Promise}
@@ -26,33 +26,33 @@ abbrev pub StartPromise : List ℕ → List ℤ → List ℕ → ℕ → declare
 StartPromise m values marks n r values' marks' n' =
     ((history : List ℕ)
     → answered (seen r) (run values' marks' history n')
-    ≡ onFile (verdict m) (λ m. calls.start m (run values marks history n)) (run values marks history n))
+    ≡ on_file (verdict m) (λ m. calls.start m (run values marks history n)) (run values marks history n))
     × CountBounded (verdict m) (seen r)
 
 abbrev pub FirePromise : List ℕ → List ℤ → List ℕ → List ℕ → ℕ → ℕ → declared.Answer → List ℤ → List ℕ → List ℕ → ℕ → Type 0
 FirePromise m values marks history n t r values' marks' history' n' =
     (answered (seen r) (run values' marks' history' n')
-    ≡ onFile (verdict m) (λ m. calls.fire m t (run values marks history n)) (run values marks history n))
+    ≡ on_file (verdict m) (λ m. calls.fire m t (run values marks history n)) (run values marks history n))
     × CountBounded (verdict m) (seen r)
 
 abbrev pub UndoPromise : List ℕ → List ℤ → List ℕ → List ℕ → ℕ → declared.Answer → List ℤ → List ℕ → ℕ → Type 0
 UndoPromise m values marks history n r values' marks' n' =
     answered (seen r) (run values' marks' history n')
-    ≡ onFile (verdict m) (λ m. calls.undo m (run values marks history n)) (run values marks history n)
+    ≡ on_file (verdict m) (λ m. calls.undo m (run values marks history n)) (run values marks history n)
 
 abbrev pub MarksPromise : List ℕ → List ℤ → List ℕ → List ℕ → ℕ → List ℕ → declared.Answer → List ℕ → Type 0
 MarksPromise m values marks history n buffer r buffer' =
-    answered (seen r) buffer' ≡ onFile (verdict m) (λ m. queries.marks m (run values marks history n) buffer) buffer
+    answered (seen r) buffer' ≡ on_file (verdict m) (λ m. queries.marks m (run values marks history n) buffer) buffer
 
 abbrev pub ValuePromise : List ℕ → List ℤ → List ℕ → List ℕ → ℕ → ℕ → declared.Answer → Type 0
-ValuePromise m values marks history n x r = seen r ≡ onFileAnswer (verdict m) (λ m. queries.value m x (run values marks history n))
+ValuePromise m values marks history n x r = seen r ≡ on_file_answer (verdict m) (λ m. queries.value m x (run values marks history n))
 
 abbrev pub PickPromise : List ℕ → List ℤ → List ℕ → List ℕ → ℕ → declared.Answer → Type 0
-PickPromise m values marks history n r = seen r ≡ onFileAnswer (verdict m) (λ m. queries.pick m (run values marks history n))
+PickPromise m values marks history n r = seen r ≡ on_file_answer (verdict m) (λ m. queries.pick m (run values marks history n))
 
 -- neither the marks nor the history nor n is lent
 abbrev pub FirstOutsidePromise : List ℕ → List ℤ → declared.Answer → Type 0
-FirstOutsidePromise m values r = seen r ≡ onFileAnswer (verdict m) (λ m. queries.range_check m values)
+FirstOutsidePromise m values r = seen r ≡ on_file_answer (verdict m) (λ m. queries.range_check m values)
 
 -- one call, given by value, over all that is lent
 abbrev pub PerformPromise : List ℕ → Call → Store → declared.Answer → Store → Type 0

@@ -1,6 +1,6 @@
 -- Digits read from the left, their number capped at each.
 use mathlib.Core.Path.{◌≡◌, refl, sym, ap, ◌∙◌}
-use mathlib.Core.Bool.{Bool, true, false, cond, ◌&&◌, and-false, and_true, or-true}
+use mathlib.Core.Bool.{Bool, true, false, cond, ◌&&◌, and-false, and-true, or-true}
 use mathlib.Core.List.{List, [], ◌∷◌}
 use Prim.Native.Nat.{ℕ, ◌+◌, ◌*◌, ◌-◌, ◌≤◌, ◌<◌}
 use native.Mathlib.Omega.{arith}
@@ -48,7 +48,7 @@ all_digits [] h n = absurd (h refl)
 all_digits (b ∷ l) h n = by (leb 48 b) refl
   where
     by : (t : Bool) → leb 48 b ≡ t → numeral_of (b ∷ l) ≡ numeral_after 0 (b ∷ l)
-    by true e = let least : 48 ≤ b = leb-true 48 b e in rw (lt-ltb 48 b (omega (arith, n)), or-true (eqb b 48 && same l []), and_true (leb 48 b && leb b 57 && are_digits l))
+    by true e = let least : 48 ≤ b = leb-true 48 b e in rw (lt-ltb 48 b (omega (arith, n)), or-true (eqb b 48 && same l []), and-true (leb 48 b && leb b 57 && are_digits l))
     by false e = rw e
 
 -- ---- one digit after another

@@ -47,10 +47,13 @@ module _ {A : Type 0} (p : A → Bool) where
   any_false [] h = refl
   any_false (a ∷ l) h = or_both (p a) (any p l) (h a (Memᴰ.head refl)) (any_false l (λ b m. h b (Memᴰ.tail m)))
 
-  pub false_at : (l : List A) → any p l ≡ false → (a : A) → Memᴰ a l → p a ≡ false
+  false_in : (a : A) (l : List A) → any p l ≡ false → Memᴰ a l → p a ≡ false
   unfolding any
-  false_at l e a (Memᴰ.head {x} {xs} q) = ap p q ∙ or_left (p x) (any p xs) e
-  false_at l e a (Memᴰ.tail {x} {xs} m) = false_at xs (or_right (p x) (any p xs) e) a m
+  false_in a l e (Memᴰ.head {x} {xs} q) = ap p q ∙ or_left (p x) (any p xs) e
+  false_in a l e (Memᴰ.tail {x} {xs} m) = false_in a xs (or_right (p x) (any p xs) e) m
+
+  pub false_at : (l : List A) → any p l ≡ false → (a : A) → Memᴰ a l → p a ≡ false
+  false_at l e a m = false_in a l e m
 
   pub witness : (l : List A) → any p l ≡ true → (a : A) × Memᴰ a l × (p a ≡ true)
   unfolding any

@@ -14,12 +14,12 @@ use Rattle.semantics.specs.Meanings.{Meaning, meaning_of}
 use Rattle.engine.specs.Cells.{Loaded}
 use Rattle.standing.specs.Runs.{Done, answered}
 use Rattle.standing.specs.Runs.Answer.{refused}
-use Rattle.steps.specs.Answers.{onFile}
+use Rattle.steps.specs.Answers.{on_file}
 
 -- a refused file leaves what is lent
 pub refused_file : (m : List ℕ) (old new : Arrays) (r : Prepared) (k : ℕ) → answered r new ≡ prepared_by m old (verdict m) → r ≡ Refused k
-    → {A : Type 0} (f : Meaning → Done A) (lent : A) → answered (refused k) lent ≡ onFile (verdict m) f lent
-unfolding onFile
+    → {A : Type 0} (f : Meaning → Done A) (lent : A) → answered (refused k) lent ≡ on_file (verdict m) f lent
+unfolding on_file
 refused_file m old new r k e refuses f lent = rw (refused_verdict m old new r k (verdict m) e refuses)
 
 module _ (m : List ℕ) (a : Arrays) (d : Model) (u : InUse m a d) (kinds : List ℕ) (k : kinds ≡ kinds_in byte_layout d.sizes.nodes m) where
@@ -43,6 +43,6 @@ module _ (m : List ℕ) (a : Arrays) (d : Model) (u : InUse m a d) (kinds : List
       }
 
   -- what is done on the file is done on the meaning of its model
-  pub on_loaded : {A : Type 0} (f : Meaning → Done A) (lent : A) → onFile (verdict m) f lent ≡ f (meaning_of loaded_parts.decoded.system)
-  unfolding onFile
+  pub on_loaded : {A : Type 0} (f : Meaning → Done A) (lent : A) → on_file (verdict m) f lent ≡ f (meaning_of loaded_parts.decoded.system)
+  unfolding on_file
   on_loaded f lent = rw u.decoding.checked

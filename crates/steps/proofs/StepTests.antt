@@ -1,7 +1,7 @@
 -- Start, fire and undo as far as the values and the marks go, by the tests that the code makes and by the move after them.
 use mathlib.Core.Path.{◌≡◌, refl, sym, ap, ap₂, ◌∙◌}
 use mathlib.Core.Bool.{Bool, true, false, cond, not, ◌&&◌}
-use mathlib.Core.List.{List, [], ◌∷◌, ◌++◌, append_nil}
+use mathlib.Core.List.{List, [], ◌∷◌, ◌++◌, append-nil}
 use mathlib.Core.Option.{Option, some, none, none-ne-some, some-injective}
 use Prim.Native.Nat.{ℕ, ◌-◌, ◌≤◌, ◌<◌}
 use native.Mathlib.Omega.{arith}
@@ -201,7 +201,7 @@ unfolding answer_to
 undo_answered s f e g = rw (e, g)
 
 pub over_all : {A : Type 0} (new old : List A) → length old ≡ length new → over new old ≡ new
-over_all new old e = ap (λ l. new ++ l) (drop_of_length-le old {i = length new} (omega (arith, e))) ∙ append_nil new
+over_all new old e = ap (λ l. new ++ l) (drop_of_length-le old {i = length new} (omega (arith, e))) ∙ append-nil new
 
 not_refused : (b : Bool) (n : ℕ) (o : Option ℕ) → none ≡ cond b (some n) o → (b ≡ false) × (none ≡ o)
 not_refused true n o e = absurd (none-ne-some n e)

@@ -18,11 +18,11 @@ seen (answer.TheVariants.Picked f) = picked (found f)
 seen (answer.TheVariants.Outside c) = outside (found c.outside) c.looked
 
 -- a call over the meaning of a file's model and a thing that is lent; a refused file leaves it
-unfoldable pub onFile : {A : Type 0} → Verdict → (Meaning → Done A) → A → Done A
-onFile (refusal n) f a = answered (refused n) a
-onFile (accepted z t) f a = f (meaning_of t)
+unfoldable pub on_file : {A : Type 0} → Verdict → (Meaning → Done A) → A → Done A
+on_file (refusal n) f a = answered (refused n) a
+on_file (accepted z t) f a = f (meaning_of t)
 
 -- the same where nothing that could change is lent
-unfoldable pub onFileAnswer : Verdict → (Meaning → Answer) → Answer
-onFileAnswer (refusal n) f = refused n
-onFileAnswer (accepted z t) f = f (meaning_of t)
+unfoldable pub on_file_answer : Verdict → (Meaning → Answer) → Answer
+on_file_answer (refusal n) f = refused n
+on_file_answer (accepted z t) f = f (meaning_of t)

@@ -41,13 +41,13 @@ module _ {P : List ℕ → Type 0} {old : List ℕ} where
   -- a length that is answered is that of the file, which fits
   length-of : {d : Answered Synchronised (List ℕ)} → Outcome P old d → (n : ℕ) → d.answer ≡ Length n
       → (m' : List ℕ) × P m' × (n ≡ length m') × (length m' ≤ length old)
-  length-of (refuses k) n e = clash (cc)
-  length-of (writes m' p l) n e = (m', p, (cc), l)
+  length-of (refuses k) n e = clash cc
+  length-of (writes m' p l) n e = (m', p, cc, l)
 
   -- the cells past a length stay
   past-length : {d : Answered Synchronised (List ℕ)} → Outcome P old d → (n : ℕ) → d.answer ≡ Length n
       → (length d.left ≡ length old) × (drop n d.left ≡ drop n old)
-  past-length (refuses k) n e = clash (cc)
+  past-length (refuses k) n e = clash cc
   past-length (writes m' p l) n e =
       let long : length m' ≡ n = cc in
       (simp (length-append, length-drop) (omega arith), drop_at m' (drop (length m') old) n long ∙ ap (λ k. drop k old) long)
@@ -55,7 +55,7 @@ module _ {P : List ℕ → Type 0} {old : List ℕ} where
   -- after a refusal all cells are as they were
   after-refusal : {d : Answered Synchronised (List ℕ)} → Outcome P old d → (n : ℕ) → d.answer ≡ Refused n → d.left ≡ old
   after-refusal (refuses k) n e = refl
-  after-refusal (writes m' p l) n e = clash (cc)
+  after-refusal (writes m' p l) n e = clash cc
 
 pub length-exact : LengthExact
 length-exact m ms os old n = (
@@ -78,8 +78,8 @@ answer_by false x y = refl
 
 -- if a choice of 36 and a length is a refusal, it is 36 by its test
 limit-refusal : (b : Bool) (k n : ℕ) → cond b (Refused 36) (Length k) ≡ Refused n → (b ≡ true) × (n ≡ 36)
-limit-refusal true k n e = (refl, (cc))
-limit-refusal false k n e = clash (cc)
+limit-refusal true k n e = (refl, cc)
+limit-refusal false k n e = clash cc
 
 -- a new model is refused by 36 alone, where it passes a limit
 extended-refusal : (t : System) (u : Transition) (old : List ℕ) (n : ℕ) → (extended_into t u old).answer ≡ Refused n

@@ -1,6 +1,6 @@
 -- The nodes of the new transition and of the new model, as the code puts them: piece by piece.
 use mathlib.Core.Path.{◌≡◌, refl, sym, ap, ◌∙◌}
-use mathlib.Core.List.{List, [], ◌∷◌, ◌++◌, flat_map, append_assoc, append_nil}
+use mathlib.Core.List.{List, [], ◌∷◌, ◌++◌, flat_map, append_assoc, append-nil}
 use Prim.Native.Nat.{ℕ, suc, ◌+◌, ◌≤◌}
 use native.Mathlib.Omega.{arith}
 use lib.IntN.{ℤ, pos}
@@ -71,7 +71,7 @@ extended_nodes t u =
     let ts = flat_map nodes_of_transition t.transitions in
     let a = nodes_of t.assertion in
     ap (λ (l : List Node). vs ++ (l ++ a))
-    (flat_append nodes_of_transition t.transitions (u ∷ []) ∙ ap (λ (l : List Node). ts ++ l) (append_nil (nodes_of_transition u)))
+    (flat_append nodes_of_transition t.transitions (u ∷ []) ∙ ap (λ (l : List Node). ts ++ l) (append-nil (nodes_of_transition u)))
     ∙ ap (λ (l : List Node). vs ++ l) (append_assoc ts (nodes_of_transition u) a)
     ∙ sym (append_assoc vs ts (nodes_of_transition u ++ a))
 

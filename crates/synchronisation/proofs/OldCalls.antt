@@ -93,5 +93,5 @@ module _ (t : System) (u : Transition) where
       (by_replaying r (replay m (initial m) (take (r.count - 1) r.history) r.values)))
 
 pub old_calls_stay : OldCallsStay
-old_calls_stay m ms os m' f =
+old_calls_stay m ms os _ f =
     let u = together f.before.events f.mandatory f.optional in (start_stays f.before u, undo_stays f.before u)

@@ -170,4 +170,4 @@ module _ (t : System) (u : Transition) where
       (by_firing r (fired m k r.values).left (set r.history r.count k) (suc r.count) (fired m k r.values).answer))
 
 pub old_transitions_stay : OldTransitionsStay
-old_transitions_stay m ms os m' f k h = old_fires f.before (together f.before.events f.mandatory f.optional) k h
+old_transitions_stay m ms os _ f k h = old_fires f.before (together f.before.events f.mandatory f.optional) k h

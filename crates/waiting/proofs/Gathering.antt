@@ -194,7 +194,10 @@ module _ (known later : Valuation) (x : ℕ) (v : ℤ) (ext : (y : ℕ) → late
     where
       by : (t : Bool) → eqb y x ≡ t
           → (differs v (known x) || beside (gives y u)) ≡ (differs v (known x) || conflicts_with later es (gives y u))
-      by true q = rw (ext y, eqb_comm x y, q, eqb-true y x q) (same_target (known x) u (any (λ e. differs u (given_by x e)) es))
+      by true q =
+          subst (λ z. (differs v (known x) || beside (gives z u)) ≡ (differs v (known x) || conflicts_with later es (gives z u)))
+          (sym (eqb-true y x q))
+          (rw (ext x, eq-eqb x x refl) (same_target (known x) u (any (λ e. differs u (given_by x e)) es)))
       by false q = rw (ext y, eqb_comm x y, q, first_none (known y))
 
   head_conflict : any (conflicts_with known (gives x v ∷ es)) (gives x v ∷ es) ≡ (differs v (known x) || any (conflicts_with later es) es)

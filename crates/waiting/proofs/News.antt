@@ -3,7 +3,7 @@ use mathlib.Core.Path.{◌≡◌, refl, sym, ap, ap₂, subst, ◌∙◌}
 use mathlib.Core.Logic.{◌⊎◌, inl, inr, ⊎_elim}
 use mathlib.Core.Bool.{Bool, true, false, true≢false, cond}
 use mathlib.Core.List.Memᴰ
-use mathlib.Core.List.{List, [], ◌∷◌, ◌++◌, append_nil, append_assoc, Memᴰ}
+use mathlib.Core.List.{List, [], ◌∷◌, ◌++◌, append-nil, append_assoc, Memᴰ}
 use mathlib.Core.Option.{Option, some, none}
 use Prim.Native.Nat.{ℕ, suc, ◌+◌, ◌≤◌, ◌<◌}
 use native.Mathlib.Omega.{arith}
@@ -36,11 +36,11 @@ use Rattle.waiting.specs.News.{news_of, open_cells}
 pub effects_split : (σ : Valuation) (i : Instruction) → effects i σ ≡ at_once i σ ++ effects_of_all (due_after i σ) σ
 unfolding effects effects_of_all due_after chosen_branch at_once under
 effects_split σ skip = refl
-effects_split σ (assign x e) = sym (append_nil (effects (assign x e) σ))
+effects_split σ (assign x e) = sym (append-nil (effects (assign x e) σ))
 effects_split σ (if_then c i) = by (evaluate c σ)
   where
     chosen : (t : Bool) → cond t (effects i σ) [] ≡ cond t [] [] ++ effects_of_all (cond t (more i no_branch) no_branch) σ
-    chosen true = sym (append_nil (effects i σ))
+    chosen true = sym (append-nil (effects i σ))
     chosen false = refl
 
     by : (v : Evaluation) → under v (effects i σ) ≡ under v [] ++ effects_of_all (chosen_branch v i) σ

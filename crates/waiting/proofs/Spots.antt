@@ -3,7 +3,7 @@ use mathlib.Core.Path.{◌≡◌, refl, sym, ap, ap₂, subst, ◌∙◌}
 use mathlib.Core.Logic.{◌⊎◌, inl, inr, ⊎_elim}
 use mathlib.Core.Bool.{Bool, true, false, cond}
 use mathlib.Core.List.Memᴰ
-use mathlib.Core.List.{List, [], ◌∷◌, ◌++◌, append_nil, append_assoc, Memᴰ}
+use mathlib.Core.List.{List, [], ◌∷◌, ◌++◌, append-nil, append_assoc, Memᴰ}
 use Prim.Native.Nat.{ℕ, suc, ◌+◌, ◌≤◌, ◌<◌}
 use native.Mathlib.Omega.{arith}
 use lib.IntN.{ℤ}
@@ -226,7 +226,7 @@ module _ (σ τ : Valuation) (larger : Extends σ τ) where
   by_on : (at x : ℕ) (e : Expression) (a b : Evaluation) → Grows a b → spots_by b (spot at (assign x e)) ≡ spots (assign x e) τ at
       → spots_by b (spot at (assign x e)) ≡ spots_of_each (spots_by a (spot at (assign x e))) τ
   unfolding spots_by spots_of_each
-  by_on at x e Unknown b g q = q ∙ sym (append_nil (spots (assign x e) τ at))
+  by_on at x e Unknown b g q = q ∙ sym (append-nil (spots (assign x e) τ at))
   by_on at x e Failed b stays q = refl
   by_on at x e (Value v) b stays q = refl
 
@@ -236,7 +236,7 @@ module _ (σ τ : Valuation) (larger : Extends σ τ) where
       → spots_under b (spot at (if_then c i)) (spots i τ (at + 1 + size_of_expression c))
       ≡ spots_of_each (spots_under a (spot at (if_then c i)) (spots i σ (at + 1 + size_of_expression c))) τ
   unfolding spots_under spots_of_each
-  under_on at c i Unknown b g q h = q ∙ sym (append_nil (spots (if_then c i) τ at))
+  under_on at c i Unknown b g q h = q ∙ sym (append-nil (spots (if_then c i) τ at))
   under_on at c i Failed b stays q h = refl
   under_on at c i (Value v) b stays q h = go (eq_z v (boolean true))
     where
@@ -279,14 +279,14 @@ module _ (σ τ : Valuation) (larger : Extends σ τ) where
   pub spot_from : (i : Instruction) (at : ℕ) (q : Spot) → Memᴰ q (spots i τ at) → From i at q
   spot_from i at q m = from_each i at q (spots i σ at) (λ s k. k) (subst (λ l. Memᴰ q l) (spots_on i at) m)
 
-  each_from : (ss : List Spot) (s q : Spot) → Memᴰ s ss → Memᴰ q (spots s.instruction τ s.place) → Memᴰ q (spots_of_each ss τ)
+  each_from : (s q : Spot) (ss : List Spot) → Memᴰ s ss → Memᴰ q (spots s.instruction τ s.place) → Memᴰ q (spots_of_each ss τ)
   unfolding spots_of_each
-  each_from ss s q (Memᴰ.head {x} {xs} e) n =
+  each_from s q ss (Memᴰ.head {x} {xs} e) n =
       Memᴰ.append_left (spots_of_each xs τ) (subst (λ r. Memᴰ q (spots r.instruction τ r.place)) e n)
-  each_from ss s q (Memᴰ.tail {x} {xs} m) n = Memᴰ.append_right (spots x.instruction τ x.place) (each_from xs s q m n)
+  each_from s q ss (Memᴰ.tail {x} {xs} m) n = Memᴰ.append_right (spots x.instruction τ x.place) (each_from s q xs m n)
 
   pub from_spot : (i : Instruction) (at : ℕ) (s q : Spot) → Memᴰ s (spots i σ at) → Memᴰ q (spots s.instruction τ s.place) → Memᴰ q (spots i τ at)
-  from_spot i at s q m n = subst (λ l. Memᴰ q l) (sym (spots_on i at)) (each_from (spots i σ at) s q m n)
+  from_spot i at s q m n = subst (λ l. Memᴰ q l) (sym (spots_on i at)) (each_from s q (spots i σ at) m n)
 
 -- what waits and is untouched waits
 pub still_spot : (i : Instruction) (σ τ : Valuation) (at : ℕ) → Waits i σ → Untouched i σ τ → spots i τ at ≡ spot at i ∷ []

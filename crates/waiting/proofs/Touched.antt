@@ -27,12 +27,12 @@ source (i ∷ is) τ e m =
     (λ n. let s = source is τ e n in record { from = s.from; among = Memᴰ.tail s.among; gives = s.gives })
     (Memᴰ.append_cases (effects i τ) m)
 
-effect_of : (is : List Instruction) (τ : Valuation) (i : Instruction) (e : Effect) → Memᴰ i is → Memᴰ e (effects i τ)
+effect_of : (τ : Valuation) (i : Instruction) (e : Effect) (is : List Instruction) → Memᴰ i is → Memᴰ e (effects i τ)
     → Memᴰ e (effects_of_each is τ)
 unfolding effects_of_each
-effect_of is τ i e (Memᴰ.head {x} {xs} q) n =
+effect_of τ i e is (Memᴰ.head {x} {xs} q) n =
     Memᴰ.append_left (effects_of_each xs τ) (subst (λ j. Memᴰ e (effects j τ)) q n)
-effect_of is τ i e (Memᴰ.tail {x} {xs} m) n = Memᴰ.append_right (effects x τ) (effect_of xs τ i e m n)
+effect_of τ i e is (Memᴰ.tail {x} {xs} m) n = Memᴰ.append_right (effects x τ) (effect_of τ i e xs m n)
 
 -- `read` are some of those that wait, and each that waits is among them or is untouched
 pub record Enough (waiting read : List Instruction) (σ τ : Valuation) : Type 0 where
@@ -48,10 +48,10 @@ enough waiting read σ τ h =
           λ p. both_ways (any p (effects_of_each waiting τ)) (any p (effects_of_each read τ))
           (λ a. let w = witness p (effects_of_each waiting τ) a in
           let s = source waiting τ w.0 w.1 in
-          ⊎_elim (λ r. any_true p (effects_of_each read τ) w.0 (effect_of read τ s.from w.0 r s.gives) w.2)
+          ⊎_elim (λ r. any_true p (effects_of_each read τ) w.0 (effect_of τ s.from w.0 read r s.gives) w.2)
           (λ u. absurd (Memᴰ.not-nil (subst (λ l. Memᴰ w.0 l) (still_silent s.from σ τ (h.waits s.from s.among) u) s.gives)))
           (h.rest s.from s.among))
           (λ b. let w = witness p (effects_of_each read τ) b in
           let s = source read τ w.0 w.1 in
-          any_true p (effects_of_each waiting τ) w.0 (effect_of waiting τ s.from w.0 (h.some s.from s.among) s.gives) w.2);
+          any_true p (effects_of_each waiting τ) w.0 (effect_of τ s.from w.0 waiting (h.some s.from s.among) s.gives) w.2);
     }

@@ -32,10 +32,10 @@ positive (assign x e) = omega arith
 positive (if_then c i) = omega arith
 positive (block is) = omega arith
 
-instruction_member : (ss : List Spot) (s : Spot) → Memᴰ s ss → Memᴰ s.instruction (instructions_of ss)
+instruction_member : (s : Spot) (ss : List Spot) → Memᴰ s ss → Memᴰ s.instruction (instructions_of ss)
 unfolding instructions_of
-instruction_member ss s (Memᴰ.head {x} {xs} e) = Memᴰ.head (ap (λ t. t.instruction) e)
-instruction_member ss s (Memᴰ.tail {x} {xs} m) = Memᴰ.tail (instruction_member xs s m)
+instruction_member s ss (Memᴰ.head {x} {xs} e) = Memᴰ.head (ap (λ t. t.instruction) e)
+instruction_member s ss (Memᴰ.tail {x} {xs} m) = Memᴰ.tail (instruction_member s xs m)
 
 record Holder (ss : List Spot) (j : Instruction) : Type 0 where
   spot : Spot
@@ -186,11 +186,11 @@ module _ (i : Instruction) (at : ℕ) (σ τ : Valuation) (r : ℕ) where
           record {
             some = λ j m. let h = holder read j m in
                 subst (λ l. Memᴰ j l) (spots_waiting σ i at)
-                (subst (λ k. Memᴰ k (instructions_of (spots i σ at))) (sym h.same) (instruction_member (spots i σ at) h.spot (w.among h.spot h.among)));
+                (subst (λ k. Memᴰ k (instructions_of (spots i σ at))) (sym h.same) (instruction_member h.spot (spots i σ at) (w.among h.spot h.among)));
             waits = λ j m. let h = holder (spots i σ at) j (subst (λ l. Memᴰ j l) (sym (spots_waiting σ i at)) m) in
                 subst (λ k. Waits k σ) (sym h.same) (spot_waits σ i at h.spot h.among);
             rest = λ j m. let h = holder (spots i σ at) j (subst (λ l. Memᴰ j l) (sym (spots_waiting σ i at)) m) in
-                ⊎_elim (λ k. inl (subst (λ x. Memᴰ x (instructions_of read)) (sym h.same) (instruction_member read h.spot k)))
+                ⊎_elim (λ k. inl (subst (λ x. Memᴰ x (instructions_of read)) (sym h.same) (instruction_member h.spot read k)))
                 (λ o. inr (subst (λ x. Untouched x σ τ) (sym h.same) (quiet h.spot h.among o)))
                 (w.rest h.spot h.among);
           }

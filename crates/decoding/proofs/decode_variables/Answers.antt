@@ -1,0 +1,51 @@
+-- `decode_variables` meets its contract, put together from what its functions leave.
+use mathlib.Core.Path.{sym}
+use native.Mathlib.Omega.{arith}
+use lib.Seq.{length-take-le}
+use Rattle.model.proofs.Encoding.{Fits, SizedAs}
+use Rattle.decoding.proofs.Preparing.{answer_sizes, answer_fits, lent_parameters, parameters_front, variables_asked, variables_decoded_lem}
+use Rattle.decoding.proofs.decode_variables.Goals as goal
+
+pub overflow_add-nodes : goal.overflow_add-nodes
+overflow_add-nodes c =
+    let sizes : SizedAs c.args.model.now c.args.sizes = answer_sizes _ _ c.requires.0 in
+    omega (arith, sizes)
+
+pub parameters_in-requires : goal.parameters_in-requires
+parameters_in-requires c =
+    let sizes : SizedAs c.args.model.now c.args.sizes = answer_sizes _ _ c.requires.0 in
+    (c.requires.1, omega (arith, sizes))
+
+pub slice_bounds-read_variables-end : goal.slice_bounds-read_variables-end
+slice_bounds-read_variables-end c =
+    omega (arith, c.requires.1, c.parameters_in.auto.parameters)
+
+pub slice_bounds-read_variables-end-2 : goal.slice_bounds-read_variables-end-2
+slice_bounds-read_variables-end-2 c =
+    let sizes : SizedAs c.args.model.now c.args.sizes = answer_sizes _ _ c.requires.0 in
+    sym (length-take-le c.args.sizes.nodes c.parameters_in.new.parameters (omega (arith, c.requires.1, c.parameters_in.auto.parameters)))
+
+pub overflow_add-sizes : goal.overflow_add-sizes
+overflow_add-sizes c =
+    let sizes : SizedAs c.args.model.now c.args.sizes = answer_sizes _ _ c.requires.0 in
+    let fits : Fits c.args.sizes = answer_fits _ _ c.shared_slice_known-1.given c.requires.0 in
+    omega (arith, fits)
+
+pub read_variables-requires : goal.read_variables-requires
+read_variables-requires c =
+    let sizes : SizedAs c.args.model.now c.args.sizes = answer_sizes _ _ c.requires.0 in
+    let kinds = c.kinds_of-kinds.ensures in
+    let m = c.args.model.now in
+    let s = c.args.sizes in
+    let parameters = c.parameters_in.new.parameters in (
+      lent_parameters m s _ kinds parameters sizes (omega (arith, c.requires.1, c.parameters_in.auto.parameters)),
+      variables_asked m s _ _ kinds (parameters_front m s.nodes _ parameters c.parameters_in.ensures) c.requires.0,
+      c.requires.2,
+    )
+
+pub returns : goal.returns
+returns c =
+    let sizes : SizedAs c.args.model.now c.args.sizes = answer_sizes _ _ c.requires.0 in
+    variables_decoded_lem c.args.model.now c.args.sizes _ c.args.parameters.now c.parameters_in.new.parameters
+    c.args.variables.now c.read_variables.new.variables c.read_variables.result
+    c.kinds_of-kinds.ensures c.parameters_in.ensures c.read_variables.ensures

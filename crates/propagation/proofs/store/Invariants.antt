@@ -1,0 +1,13 @@
+-- Values over values. After i turns the first i are the new ones.
+use mathlib.Core.Path.{◌≡◌}
+use Prim.Native.Nat.{◌≤◌, ◌-◌}
+use lib.ListN.{length}
+use Rattle.results.specs.Results.{over}
+use Rattle.propagation.proofs.Overwriting.{partly}
+use Rattle.propagation.proofs.store.Given as goal
+
+abbrev pub invariant-loop-i : goal.invariant-loop-i
+invariant-loop-i l = (l.i ≤ length l.from) × (l.to ≡ partly (over l.from l.initial.to) l.initial.to l.i)
+
+abbrev pub decreases-loop-i : goal.decreases-loop-i
+decreases-loop-i l = length l.from - l.i
