@@ -1,4 +1,4 @@
-//! With the feature `capi`: links libcapi.a from the folder CAPI_DIR, or from ../target/staticlib.
+//! With the feature `capi`: links libcapi.a from the folder CAPI_DIR, or from ../crates/capi/out.
 
 use std::env;
 use std::path::PathBuf;
@@ -12,12 +12,12 @@ fn main() {
     let crate_dir = PathBuf::from(env::var_os("CARGO_MANIFEST_DIR").unwrap());
     let folder = match env::var_os("CAPI_DIR") {
         Some(dir) => env::current_dir().unwrap().join(dir),
-        None => crate_dir.join("../target/staticlib"),
+        None => crate_dir.join("../crates/capi/out"),
     };
     let library = folder.join("libcapi.a");
     if !library.is_file() {
         eprintln!(
-            "{} is missing: run `rt staticlib capi`, or set CAPI_DIR",
+            "{} is missing: run `rt lib` in crates/capi, or set CAPI_DIR",
             library.display()
         );
         std::process::exit(1);
