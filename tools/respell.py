@@ -27,6 +27,8 @@ LEMMAS = {
     for name in ("is_digit", "same_bytes", "in_use", "text_in", "nothing_known", "is_word", "go_on", "too_short")
 }
 LEMMAS |= {"answer-of": "answer_of_lem", "all-below": "all_below_lem", "is-empty": "is_empty_lem"}
+# Definitions whose signature has an implicit argument before its arrow, and a parameter: no head of a line shows them.
+UNSEEN = {"onFile": "on_file", "onFileAnswer": "on_file_answer", "newLength": "new_length", "newLength'": "new_length'"}
 # A name of one proof file that would hide a definition.
 IN_FILE = {"crates/model/proofs/walk/+branches_instruction_parts/Proof.antt": {"branches_at": "branches_told"}}
 
@@ -61,7 +63,7 @@ def table():
         names = set(HEAD.findall(text)) | {m[1] for m in ALIAS.findall(text)}
         every |= names
         found |= {n for n in names if is_camel(n) or "-" in n}
-    rows = {n: snake(n) for n in found} | LEMMAS
+    rows = {n: snake(n) for n in found} | LEMMAS | UNSEEN
     by_new = collections.defaultdict(list)
     for old, new in rows.items():
         by_new[new].append(old)
