@@ -4,7 +4,9 @@ use mathlib.Core.List.{List, ◌∷◌}
 use Prim.Native.Nat.{ℕ, zero, suc, ◌≤◌}
 use native.Mathlib.Nat.{not-suc-le-zero, le_of_suc-le-suc}
 use lib.ListN.{length, take, replicate, length-replicate}
-use Rattle.model.specs.declared.Checked.TheVariants as checked
+use Rattle.std.proofs.Common.{Err}
+use Rattle.results.specs.declared.refusal.Refusal.{Refusal}
+use Rattle.results.specs.Refusals.{number_of}
 use Rattle.model.specs.Check.{verdict, answer_of}
 use Rattle.decoding.proofs.Preparing.{answer_refused}
 use Rattle.semantics.specs.Meanings.{Meaning}
@@ -13,8 +15,8 @@ use Rattle.standing.specs.Runs.Answer.{refused}
 use Rattle.steps.specs.Answers.{on_file}
 
 -- a refused file leaves what is lent
-pub refused_file : (m : List ℕ) (k : ℕ) → answer_of (verdict m) ≡ checked.Refused k → {A : Type 0} (f : Meaning → Done A) (lent : A)
-    → answered (refused k) lent ≡ on_file (verdict m) f lent
+pub refused_file : (m : List ℕ) (k : Refusal) → answer_of (verdict m) ≡ Err k → {A : Type 0} (f : Meaning → Done A) (lent : A)
+    → answered (refused (number_of k)) lent ≡ on_file (verdict m) f lent
 unfolding on_file
 refused_file m k e f lent = rw (answer_refused k (verdict m) e)
 

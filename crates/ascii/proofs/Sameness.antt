@@ -8,6 +8,7 @@ use borrow.Author.Tests.{eq-eqb, ne_eqb}
 use lib.Dec.{eqb}
 use lib.ListN.{length, drop, get_or, drop_of_length-le}
 use lib.Seq.{drop-cons}
+use Rattle.std.specs.Str.{bytes_eq}
 use Rattle.ascii.specs.Ascii.{same}
 
 -- lists of different lengths
@@ -33,3 +34,11 @@ module _ (l s : List ℕ) (i : ℕ) where
   pub no_more : length l ≤ i → length s ≤ i → true ≡ same (drop i l) (drop i s)
   unfolding same
   no_more h g = rw (drop_of_length-le l h, drop_of_length-le s g)
+
+-- what `==` on slices answers
+pub same_bytes : (l s : List ℕ) → bytes_eq l s ≡ same l s
+unfolding same
+same_bytes [] [] = refl
+same_bytes [] (b ∷ s) = refl
+same_bytes (a ∷ l) [] = refl
+same_bytes (a ∷ l) (b ∷ s) = rw (same_bytes l s)

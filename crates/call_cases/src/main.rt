@@ -17,183 +17,170 @@
 ghost use Rattle.std.specs.Prelude.{◌<◌, ◌≤◌};
 
 use model::Sizes;
-use results::Found;
 use run::Call;
-use std::io;
 use std::io::Read;
 use std::rt::Files;
+use std::{fmt, io};
 use steps::Answer;
-use syntax::nodes;
+
+// The most values, marks, places or bytes that a list has are 517.
+const CELLS: usize = 520;
 
 // How many lists and calls were carried out, and how many calls differed.
-#[derive(Clone, Copy)]
+#[derive(Clone, Copy, PartialEq, Eq, Debug)]
 struct Tally {
     lists: u64,
     calls: u64,
     differing: u64,
 }
 
+// What an answer tells.
+#[derive(Clone, Copy, PartialEq, Eq, Debug)]
+enum Form {
+    Refused,
+    Rounds,
+    Done,
+    Value,
+    Sizes,
+    Transition,
+    Nothing,
+    Outside,
+    Within,
+}
+
 // An answer as the header of a call has it: its form, its number, and how many values were looked at.
-#[derive(Clone, Copy)]
+#[derive(Clone, Copy, PartialEq, Eq, Debug)]
 struct Reply {
     form: u8,
     number: usize,
     looked: usize,
 }
 
-// The header of a call: whether it was read, the call, the answer, and n afterwards.
+// The form, the number, and how many values were looked at. Sizes are told as the header packs them, other sizes as 0; a negative
+// value as it stands in eight bytes.
+impl fmt::Display for Reply {
+    fn fmt<W: fmt::Write>(&self, f: &mut fmt::Formatter<W>) -> fmt::Result {
+        let form = self.form;
+        let number = self.number;
+        let looked = self.looked;
+        write!(f, "{form} {number} {looked}")
+    }
+}
+
+impl Reply {
+    // An answer whose number is all that it tells.
+    fn plain(form: Form, number: usize) -> Reply {
+        Reply {
+            form: form as u8,
+            number,
+            looked: 0,
+        }
+    }
+
+    // What was found, in the first form, or nothing, in the second.
+    fn found(found: Option<usize>, form: Form, nothing: Form, looked: usize) -> Reply {
+        match found {
+            Some(number) => Reply {
+                form: form as u8,
+                number,
+                looked,
+            },
+            None => Reply {
+                form: nothing as u8,
+                number: 0,
+                looked,
+            },
+        }
+    }
+
+    // An answer that came, as a header has it that wants this number.
+    fn came(wanted: usize, answer: Answer) -> Reply {
+        match answer {
+            Answer::Refused(number) => Reply::plain(Form::Refused, usize::from(number)),
+            Answer::Rounds(count) => Reply::plain(Form::Rounds, count),
+            Answer::Done => Reply::plain(Form::Done, 0),
+            Answer::Number(value) => Reply::plain(Form::Value, value_number(value)),
+            Answer::Sizes(sizes) => Reply::plain(Form::Sizes, sizes_number(wanted, sizes)),
+            Answer::Picked(found) => Reply::found(found, Form::Transition, Form::Nothing, 0),
+            Answer::Outside(check) => {
+                let outside = check.outside;
+                Reply::found(outside, Form::Outside, Form::Within, check.looked)
+            }
+        }
+    }
+}
+
+// The header of a call: whether it was read, the call, what it must answer, and n afterwards.
 #[derive(Clone, Copy)]
-struct Head {
+struct Wanted {
     is_whole: bool,
     call: Call,
     reply: Reply,
     n: usize,
 }
 
-impl Reply {
-    const REFUSED: u8 = 0;
-
-    const ROUNDS: u8 = 1;
-
-    const DONE: u8 = 2;
-
-    const VALUE: u8 = 3;
-
-    const SIZES: u8 = 4;
-
-    const TRANSITION: u8 = 5;
-
-    const NOTHING: u8 = 6;
-
-    const OUTSIDE: u8 = 7;
-
-    const WITHIN: u8 = 8;
+// A value as a number of eight bytes.
+fn value_number(value: i32) -> usize {
+    i64::from(value).cast_unsigned() as usize
 }
 
-// The number in eight bytes of a header.
-fn eight(head: &[u8; 32], at: usize) -> usize
-    requires { at < 25 }
-{
-    cases::four(head, at) + 4294967296 * cases::four(head, at + 4)
+// The wanted number if it packs these sizes, else 0, which packs none: N is 1 or more.
+fn sizes_number(wanted: usize, sizes: Sizes) -> usize {
+    let is_packed = sizes.states == wanted % 256
+        && sizes.flows == wanted / 256 % 256
+        && sizes.events == wanted / 65536 % 256
+        && sizes.transitions == wanted / 16777216 % 256
+        && sizes.nodes == wanted / 4294967296;
+    if is_packed { wanted } else { 0 }
 }
 
-// Reads as many bytes as the row has; are they the row? A row of more than 520 bytes is not read.
+// Are the next bytes of the file these?
 fn is_next_row(file: &mut impl Read, row: &[u8]) -> io::Result<bool> {
-    let mut stored = [0u8; 520];
+    let mut stored = [0u8; CELLS];
     let is_whole = cases::is_read(file, &mut stored, row.len())?;
-    Ok(cases::is_same_bytes(&stored, row, 0) & is_whole)
+    Ok(is_whole && stored.starts_with(row))
 }
 
-// Reads as many values as there are, at most 520; are they the same?
+// Are the next values of the file these?
 fn is_next_values(file: &mut impl Read, values: &[i32]) -> io::Result<bool> {
-    let mut stored = [0u8; 2080];
-    if 520 < values.len() {
+    let count = values.len();
+    if CELLS < count {
         return Ok(false);
     }
-    let count = 4 * values.len();
-    let is_whole = cases::is_read(file, &mut stored, count)?;
-    Ok(cases::is_same_values(values, &stored[0..count], 0) & is_whole)
+    let mut stored = [0u8; 4 * CELLS];
+    let mut wanted = [0i32; CELLS];
+    let is_whole = cases::is_read(file, &mut stored, 4 * count)?;
+    cases::load_values(&stored, &mut wanted);
+    Ok(is_whole && wanted.starts_with(values))
 }
 
-// The next values, so many.
-fn next_values(file: &mut impl Read, count: usize) -> io::Result<[i32; 520]>
+// The next values, so many, as far as the file has them.
+fn next_values(file: &mut impl Read, count: usize) -> io::Result<[i32; CELLS]>
     requires { count ≤ 520 }
 {
-    let mut stored = [0u8; 2080];
-    let mut values = [0i32; 520];
+    let mut stored = [0u8; 4 * CELLS];
+    let mut values = [0i32; CELLS];
     cases::is_read(file, &mut stored, 4 * count)?;
     cases::load_values(&stored, &mut values);
     Ok(values)
 }
 
-// The next bytes, so many, if they are 520 at most.
-fn next_row(file: &mut impl Read, count: usize) -> io::Result<[u8; 520]> {
-    let mut row = [0u8; 520];
+// The next bytes, so many, as far as the file has them.
+fn next_row(file: &mut impl Read, count: usize) -> io::Result<[u8; CELLS]> {
+    let mut row = [0u8; CELLS];
     cases::is_read(file, &mut row, count)?;
     Ok(row)
 }
 
-// An answer whose number is all that it tells.
-fn plain(form: u8, number: usize) -> Reply {
-    Reply {
-        form,
-        number,
-        looked: 0,
-    }
-}
-
-// What was found, in the first form, or nothing, in the second.
-fn found_reply(found: Found, form: u8, nothing: u8, looked: usize) -> Reply {
-    match found {
-        Found::At(number) => Reply {
-            form,
-            number,
-            looked,
-        },
-        Found::Nothing => Reply {
-            form: nothing,
-            number: 0,
-            looked,
-        },
-    }
-}
-
-// A value as a number of eight bytes.
-fn value_number(value: i32) -> usize {
-    if value < 0 {
-        return 0usize.wrapping_sub(nodes::magnitude(value));
-    }
-    nodes::magnitude(value)
-}
-
-// The wanted number if it packs these sizes, else 0, which packs none: N is 1 or more.
-fn sizes_number(wanted: usize, sizes: Sizes) -> usize {
-    let is_packed = (sizes.states == wanted % 256)
-        & (sizes.flows == wanted / 256 % 256)
-        & (sizes.events == wanted / 65536 % 256)
-        & (sizes.transitions == wanted / 16777216 % 256)
-        & (sizes.nodes == wanted / 4294967296);
-    if is_packed { wanted } else { 0 }
-}
-
-// An answer that came, as a header has it that wants this number.
-fn reply_of(wanted: usize, answer: Answer) -> Reply {
-    match answer {
-        Answer::Refused(number) => plain(Reply::REFUSED, cases::wide(number)),
-        Answer::Rounds(count) => plain(Reply::ROUNDS, count),
-        Answer::Done => plain(Reply::DONE, 0),
-        Answer::Number(value) => plain(Reply::VALUE, value_number(value)),
-        Answer::Sizes(sizes) => plain(Reply::SIZES, sizes_number(wanted, sizes)),
-        Answer::Picked(found) => found_reply(found, Reply::TRANSITION, Reply::NOTHING, 0),
-        Answer::Outside(check) => {
-            let outside = check.outside;
-            found_reply(outside, Reply::OUTSIDE, Reply::WITHIN, check.looked)
-        }
-    }
-}
-
-// Prints a word, an answer and n: the form, the number, how many values were looked at, and n. Sizes are told as the header packs them,
-// other sizes as 0; a negative value as it stands in eight bytes.
-fn tell(rt: &impl Print, word: &str, reply: Reply, n: usize) -> io::Result<()> {
-    print!(rt;
-        "{word} {} {} {} {n}; ",
-        reply.form, reply.number, reply.looked
-    )
-}
-
 // Was the header read, and are the answer and n those in it? If not, both are told.
-fn is_wanted(rt: &impl Print, head: Head, answer: Answer, n: usize) -> io::Result<bool> {
-    let wanted = head.reply;
-    let came = reply_of(wanted.number, answer);
-    let is_same = (wanted.form == came.form)
-        & (wanted.number == came.number)
-        & (wanted.looked == came.looked)
-        & (head.n == n);
-    if head.is_whole & is_same {
+fn is_wanted(rt: &impl Print, wanted: Wanted, answer: Answer, n: usize) -> io::Result<bool> {
+    let reply = wanted.reply;
+    let came = Reply::came(reply.number, answer);
+    if wanted.is_whole && came == reply && n == wanted.n {
         return Ok(true);
     }
-    tell(rt, "wanted", wanted, head.n)?;
-    tell(rt, "came", came, n)?;
+    let after = wanted.n;
+    print!(rt; "wanted {reply} {after}; came {came} {n}; ")?;
     Ok(false)
 }
 
@@ -212,58 +199,102 @@ fn call_of(call: u8, number: usize) -> Call {
 }
 
 // The next header of a call.
-fn next_head(file: &mut impl Read) -> io::Result<Head> {
+fn next_wanted(file: &mut impl Read) -> io::Result<Wanted> {
     let mut head = [0u8; 32];
     let is_whole = cases::is_read(file, &mut head, 32)?;
-    let call = call_of(head[0], eight(&head, 8));
+    let call = call_of(head[0], cases::number::<8>(&head, 8));
     let reply = Reply {
         form: head[1],
-        number: eight(&head, 16),
-        looked: cases::two(&head, 2),
+        number: cases::number::<8>(&head, 16),
+        looked: cases::number::<2>(&head, 2),
     };
-    Ok(Head {
+    Ok(Wanted {
         is_whole,
         call,
         reply,
-        n: eight(&head, 24),
+        n: cases::number::<8>(&head, 24),
     })
 }
 
-// Reads the store after a call, all of it; is everything lent as in it? If not, that is told.
-fn is_left(
-    rt: &impl Print,
-    file: &mut impl Read,
-    values: &[i32],
-    marks: &[u8],
-    history: &[u8],
-    buffer: &[u8],
-) -> io::Result<bool> {
-    let is_same = is_next_values(file, values)?
-        & is_next_row(file, marks)?
-        & is_next_row(file, history)?
-        & is_next_row(file, buffer)?;
-    if !is_same {
-        print!(rt; "a value, a mark, an entry or a byte of the buffer is another; ")?;
-    }
-    Ok(is_same)
+// All that a run is lent.
+#[derive(Drop)]
+struct Lent<'a> {
+    values: &'a mut [i32],
+    marks: &'a mut [u8],
+    history: &'a mut [u8],
+    n: usize,
+    buffer: &'a mut [u8],
 }
 
-// The tally with one call more; a call that differs is told.
-fn counted(rt: &impl Print, tally: Tally, is_same: bool) -> io::Result<Tally> {
-    let calls = tally.calls.wrapping_add(1);
-    if is_same {
-        return Ok(Tally {
-            lists: tally.lists,
+impl Lent<'_> {
+    // Carries out a call.
+    fn perform(&mut self, call: Call, model: &[u8]) -> Answer {
+        run::perform(
+            call,
+            model,
+            self.values,
+            self.marks,
+            self.history,
+            &mut self.n,
+            self.buffer,
+        )
+    }
+
+    // Reads the store after a call, all of it; is everything lent as in it? If not, that is told.
+    fn is_left(&self, rt: &impl Print, file: &mut impl Read) -> io::Result<bool> {
+        let is_same = is_next_values(file, self.values)?
+            & is_next_row(file, self.marks)?
+            & is_next_row(file, self.history)?
+            & is_next_row(file, self.buffer)?;
+        if !is_same {
+            print!(rt; "a value, a mark, an entry or a byte of the buffer is another; ")?;
+        }
+        Ok(is_same)
+    }
+
+    // Carries out the next call of the file: are its answer, and all that is left, as stored?
+    fn is_next_same(
+        &mut self,
+        rt: &impl Print,
+        file: &mut impl Read,
+        model: &[u8],
+    ) -> io::Result<bool> {
+        let wanted = next_wanted(file)?;
+        let answer = self.perform(wanted.call, model);
+        let is_answered = is_wanted(rt, wanted, answer, self.n)?;
+        Ok(self.is_left(rt, file)? & is_answered)
+    }
+}
+
+impl Tally {
+    fn empty() -> Tally {
+        Tally {
+            lists: 0,
+            calls: 0,
+            differing: 0,
+        }
+    }
+
+    // With one list more.
+    fn begun(self) -> Tally {
+        let lists = self.lists.wrapping_add(1);
+        Tally { lists, ..self }
+    }
+
+    // With one call more; one that differs is told.
+    fn counted(self, rt: &impl Print, is_same: bool) -> io::Result<Tally> {
+        let calls = self.calls.wrapping_add(1);
+        if is_same {
+            return Ok(Tally { calls, ..self });
+        }
+        println!(rt; "list {}, call {calls} differs", self.lists)?;
+        let differing = self.differing.wrapping_add(1);
+        Ok(Tally {
             calls,
-            differing: tally.differing,
-        });
+            differing,
+            ..self
+        })
     }
-    println!(rt; "list {}, call {calls} differs", tally.lists)?;
-    Ok(Tally {
-        lists: tally.lists,
-        calls,
-        differing: tally.differing.wrapping_add(1),
-    })
 }
 
 // All calls of a list, on one run.
@@ -272,31 +303,22 @@ fn all_calls(
     file: &mut impl Read,
     calls: usize,
     model: &[u8],
-    values: &mut [i32],
-    marks: &mut [u8],
-    history: &mut [u8],
-    mut n: usize,
-    buffer: &mut [u8],
+    mut run: Lent<'_>,
     mut tally: Tally,
 ) -> io::Result<Tally> {
     for _ in 0..calls {
-        let head = next_head(file)?;
-        let call = head.call;
-        let answer = run::perform(call, model, values, marks, history, &mut n, buffer);
-        let is_answered = is_wanted(rt, head, answer, n)?;
-        let is_same = is_left(rt, file, values, marks, history, buffer)?;
-        tally = counted(rt, tally, is_answered & is_same)?;
+        let is_same = run.is_next_same(rt, file, model)?;
+        tally = tally.counted(rt, is_same)?;
     }
     Ok(tally)
 }
 
-// A length in the header of a list, cut to 520: 517 values and 512 places are the most that a list has.
+// A length in the header of a list, cut to the most cells.
 fn length_at(head: &[u8; 32], at: usize) -> usize
     requires { at < 31 }
     ensures { result ≤ 520 }
 {
-    let stored = cases::two(head, at);
-    if stored < 520 { stored } else { 520 }
+    cases::number::<2>(head, at).min(CELLS)
 }
 
 // A list from the store at the beginning, on a run that is made of parts of local arrays, with the stored lengths.
@@ -315,27 +337,14 @@ fn one_list(
     let mut marks = next_row(file, held)?;
     let mut history = next_row(file, places)?;
     let mut buffer = next_row(file, copied)?;
-    all_calls(
-        rt,
-        file,
-        cases::two(head, 14),
-        model,
-        &mut values[0..variables],
-        &mut marks[0..held],
-        &mut history[0..places],
-        eight(head, 24),
-        &mut buffer[0..copied],
-        tally,
-    )
-}
-
-// The tally with one list more.
-fn begun(tally: Tally) -> Tally {
-    Tally {
-        lists: tally.lists.wrapping_add(1),
-        calls: tally.calls,
-        differing: tally.differing,
-    }
+    let run = Lent {
+        values: &mut values[..variables],
+        marks: &mut marks[..held],
+        history: &mut history[..places],
+        n: cases::number::<8>(head, 24),
+        buffer: &mut buffer[..copied],
+    };
+    all_calls(rt, file, cases::number::<2>(head, 14), model, run, tally)
 }
 
 // Reads the model of a list and the twin, and carries the list out on one of them. A list whose models do not fit differs.
@@ -347,39 +356,33 @@ fn next_list(
     tally: Tally,
 ) -> io::Result<Tally> {
     let mut files = [0u8; 49152];
-    let first = cases::four(head, 0);
-    let second = first + cases::four(head, 4);
+    let first = cases::number::<4>(head, 0);
+    let second = first + cases::number::<4>(head, 4);
     if files.len() < second {
-        return counted(rt, tally, false);
+        return tally.counted(rt, false);
     }
     cases::is_read(file, &mut files, second)?;
     if of_twin {
         one_list(rt, file, head, &files[first..second], tally)
     } else {
-        one_list(rt, file, head, &files[0..first], tally)
+        one_list(rt, file, head, &files[..first], tally)
     }
 }
 
 // All lists of data/cases, on the models or on their twins, with the tally before them.
 fn carried_out<R: Files + Print>(rt: &R, of_twin: bool, mut tally: Tally) -> io::Result<Tally> {
     let mut file = cases::open(rt)?;
-    let mut head = [0u8; 32];
     for _ in 0..u64::MAX {
-        if !cases::is_read(&mut file, &mut head, 32)? {
+        let Some(head): Option<[u8; 32]> = cases::next_bytes(&mut file)? else {
             break;
-        }
-        tally = next_list(rt, &mut file, of_twin, &head, begun(tally))?;
+        };
+        tally = next_list(rt, &mut file, of_twin, &head, tally.begun())?;
     }
     Ok(tally)
 }
 
 fn main(rt: HostRuntime) -> io::Result<()> {
-    let none = Tally {
-        lists: 0,
-        calls: 0,
-        differing: 0,
-    };
-    let models = carried_out(&rt, false, none)?;
+    let models = carried_out(&rt, false, Tally::empty())?;
     let both = carried_out(&rt, true, models)?;
     println!(rt;
         "{} lists, {} calls, {} differ",

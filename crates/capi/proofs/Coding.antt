@@ -9,8 +9,8 @@ use mir.Syntax.{w32}
 use mir.Val.{to_z, of_z, SFits}
 use mir.ValLaws.{to_z-of_z}
 use lib.IntN.{ℤ}
-use Rattle.results.specs.declared.Found.{Found}
-use Rattle.results.specs.Results.{answered, found}
+use Rattle.std.specs.Prelude.{Option}
+use Rattle.results.specs.Results.{answered}
 use Rattle.model.specs.declared.Sizes.{Sizes}
 use Rattle.model.specs.Trees.{System}
 use Rattle.model.specs.Check.{Verdict, verdict}
@@ -115,7 +115,7 @@ module _ (m : List ℕ) (values : List ℤ) (marks history : List ℕ) (n transi
   unfolding seen code_of picked_or
   pick_refused k e = coded k transition found-there (rw e)
 
-  pub pick_handed : (f : Found) (transition' found' : ℕ) → r ≡ Picked f → found_over transition (found f) ≡ (transition', found')
+  pub pick_handed : (f : Option ℕ) (transition' found' : ℕ) → r ≡ Picked f → found_over transition f ≡ (transition', found')
       → PickCoded m values marks history n transition found-there 0 transition' found'
   unfolding seen code_of picked_or
   pick_handed f transition' found' e q = coded 0 transition' found' (rw e (ap (answered 0) q))
@@ -134,7 +134,7 @@ module _ (m : List ℕ) (values : List ℤ) (variable found-there looked : ℕ) 
   unfolding seen code_of outside_or
   range_refused k e = coded_cells k variable found-there looked (rw e)
 
-  pub range_handed : (c : RangeCheck) (variable' found' : ℕ) → r ≡ Outside c → found_over variable (found c.outside) ≡ (variable', found')
+  pub range_handed : (c : RangeCheck) (variable' found' : ℕ) → r ≡ Outside c → found_over variable c.outside ≡ (variable', found')
       → FirstOutsideCoded m values variable found-there looked 0 variable' found' c.looked
   unfolding seen code_of outside_or
   range_handed c variable' found' e q = coded_cells 0 variable' found' c.looked (rw e (ap (λ p. answered 0 (p, c.looked)) q))

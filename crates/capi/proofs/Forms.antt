@@ -3,44 +3,13 @@ use mathlib.Core.Path.{◌≡◌, refl}
 use types.Run.{OneOf, miss}
 use denote.Enum.Declared.{tag_of}
 use Prim.Native.Nat.{ℕ}
-use lib.IntN.{ℤ}
 use Rattle.steps.specs.declared.Answer as declared
 use Rattle.steps.specs.declared.Answer.TheVariants.{Refused, Rounds, Done, Number, Sizes, Picked, Outside}
 use Rattle.steps.specs.contracts.Answer.{the_type}
-use Rattle.steps.proofs.Tags.{all_but_refused, all_but_rounds, all_but_number, none_of_pick, none_of_range_check}
+use Rattle.steps.proofs.Tags.{none_of_pick, none_of_range_check}
 use Rattle.steps.specs.Answers.{seen}
-use Rattle.capi.specs.Codes.{code_of, rounds_or, number_or, picked_or, coded_pick, outside_or, coded_outside}
+use Rattle.capi.specs.Codes.{code_of, picked_or, coded_pick, outside_or, coded_outside}
 use Rattle.results.specs.Results.{answered}
-
-pub no_refusal : (a : declared.Answer) → OneOf all_but_refused (tag_of the_type a) → code_of (seen a) ≡ 0
-unfolding seen code_of
-no_refusal (Refused n) h = absurd (miss all_but_refused 0 tt h)
-no_refusal (Rounds n) h = refl
-no_refusal Done h = refl
-no_refusal (Number v) h = refl
-no_refusal (Sizes z) h = refl
-no_refusal (Picked f) h = refl
-no_refusal (Outside c) h = refl
-
-pub no_rounds : (old : ℕ) (a : declared.Answer) → OneOf all_but_rounds (tag_of the_type a) → rounds_or old (seen a) ≡ old
-unfolding seen rounds_or
-no_rounds old (Refused n) h = refl
-no_rounds old (Rounds n) h = absurd (miss all_but_rounds 1 tt h)
-no_rounds old Done h = refl
-no_rounds old (Number v) h = refl
-no_rounds old (Sizes z) h = refl
-no_rounds old (Picked f) h = refl
-no_rounds old (Outside c) h = refl
-
-pub no_number : (old : ℤ) (a : declared.Answer) → OneOf all_but_number (tag_of the_type a) → number_or old (seen a) ≡ old
-unfolding seen number_or
-no_number old (Refused n) h = refl
-no_number old (Rounds n) h = refl
-no_number old Done h = refl
-no_number old (Number v) h = absurd (miss all_but_number 3 tt h)
-no_number old (Sizes z) h = refl
-no_number old (Picked f) h = refl
-no_number old (Outside c) h = refl
 
 -- neither a refusal nor what was picked
 pub no_pick : (old : ℕ × ℕ) (a : declared.Answer) → OneOf none_of_pick (tag_of the_type a) → coded_pick old (seen a) ≡ answered 0 old

@@ -10,8 +10,9 @@ use mir.Val.{Fits}
 use lib.ListN.{length, get_or, set}
 use Rattle.results.specs.Results.{answered, over}
 use Rattle.model.specs.declared.Sizes.{Sizes}
-use Rattle.model.specs.declared.Checked.{Checked}
-use Rattle.model.specs.declared.Checked.TheVariants.{Refused, Accepted}
+use Rattle.std.proofs.Common.{Result, Ok, Err}
+use Rattle.results.specs.declared.refusal.Refusal.{Refusal}
+use Rattle.results.specs.Refusals.{number_of}
 use Rattle.model.specs.Check.{Verdict, verdict, answer_of}
 use Rattle.model.specs.Check.Verdict.{refusal, accepted}
 use Rattle.model.proofs.CheckExact.{check_exact}
@@ -23,10 +24,10 @@ use Rattle.capi.specs.Promises.{CheckCoded}
 
 -- ---- the sizes of an accepted model
 
-module _ (m : List ℕ) (bytes : (i : ℕ) → Fits w8 (get_or m i 0)) (r : Checked) (z : Sizes) (q : r ≡ Accepted z) where
+module _ (m : List ℕ) (bytes : (i : ℕ) → Fits w8 (get_or m i 0)) (r : Result Sizes Refusal) (z : Sizes) (q : r ≡ Ok z) where
   fit_by : (v : Verdict) → verdict m ≡ v → r ≡ answer_of v → encoding.Fits z
   unfolding answer_of
-  fit_by (refusal n) e a = let different : Accepted z ≡ Refused n = sym q ∙ a in clash cc
+  fit_by (refusal n) e a = let different : ◌≡◌ {A = Result Sizes Refusal} (Ok z) (Err n) = sym q ∙ a in clash cc
   fit_by (accepted y t) e a =
       let same : y ≡ z = cc in
       let x = (check_exact m (λ i h. (bytes i).fits) y t).0 e in
@@ -50,12 +51,12 @@ written_cells (a ∷ b ∷ c ∷ d ∷ []) z h = absurd (omega arith)
 written_cells (a ∷ b ∷ c ∷ d ∷ e ∷ rest) z h = refl
 
 -- the check's answer is that of the file
-module _ (m old : List ℕ) (r : Checked) (e : r ≡ answer_of (verdict m)) where
-  pub check_refused : (k : ℕ) → r ≡ Refused k → CheckCoded m old k old
+module _ (m old : List ℕ) (r : Result Sizes Refusal) (e : r ≡ answer_of (verdict m)) where
+  pub check_refused : (k : Refusal) → r ≡ Err k → CheckCoded m old (number_of k) old
   unfolding coded_sizes seen_check
   check_refused k q = ap (λ r. coded_sizes old (seen_check r)) (sym q ∙ e)
 
-  module _ (z : Sizes) (q : r ≡ Accepted z) where
+  module _ (z : Sizes) (q : r ≡ Ok z) where
     pub check_short : length old < size_cells → CheckCoded m old 10 old
     unfolding coded_sizes seen_check
     check_short h =

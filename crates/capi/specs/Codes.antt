@@ -1,13 +1,12 @@
 -- Codes and results for C: 0 and the results, or the number of the refusal and nothing that was lent changed. Each with what it leaves in
 -- the cells that it may change.
-use Rattle.std.specs.Prelude.{cond, List, [], ◌∷◌, ℕ, ltb, ℤ, length}
-use Rattle.std.proofs.Math.Option.{Option, some, none}
+use Rattle.std.specs.Prelude.{cond, List, [], ◌∷◌, ℕ, ltb, ℤ, length, Option, Some, None, Result, Ok, Err}
 use Rattle.results.specs.Results.{Answered, answered, over}
 use Rattle.model.specs.declared.Sizes.{Sizes}
 use Rattle.standing.specs.Runs.{Answer, Done}
 use Rattle.standing.specs.Runs.Answer.{refused, rounds, done, number, sizes, picked, outside}
-use Rattle.texts.specs.declared.Typed.{Typed}
-use Rattle.texts.specs.declared.Typed.TheVariants.{Refused, Nodes}
+use Rattle.results.specs.declared.refusal.Refusal.{Refusal}
+use Rattle.results.specs.Refusals.{number_of}
 use Rattle.synchronisation.specs.declared.Synchronised.{Synchronised}
 use Rattle.synchronisation.specs.declared.Synchronised.TheVariants as synchronised
 
@@ -78,8 +77,8 @@ coded_sizes old (sizes z) = cond (ltb (length old) size_cells) (answered 10 old)
 
 -- what was found and 1; where there is none what stood there and 0
 unfoldable pub found_over : ℕ → Option ℕ → ℕ × ℕ
-found_over old (some x) = (x, 1)
-found_over old none = (old, 0)
+found_over old (Some x) = (x, 1)
+found_over old None = (old, 0)
 
 -- what pick answers as these two cells, else what stood in `transition` and `found`
 unfoldable pub picked_or : ℕ × ℕ → Answer → ℕ × ℕ
@@ -110,17 +109,17 @@ abbrev pub coded_outside : (ℕ × ℕ) × ℕ → Answer → Answered ℕ ((ℕ
 coded_outside old a = answered (code_of a) (outside_or old a)
 
 -- a text's answer: the number of the refusal, else 0
-unfoldable pub code_of_text : Typed → ℕ
-code_of_text (Refused n) = n
-code_of_text (Nodes n) = 0
+unfoldable pub code_of_text : Result ℕ Refusal → ℕ
+code_of_text (Err r) = number_of r
+code_of_text (Ok n) = 0
 
 -- how many nodes were written, else what stood there
-unfoldable pub nodes_or : ℕ → Typed → ℕ
-nodes_or old (Refused n) = old
-nodes_or old (Nodes n) = n
+unfoldable pub nodes_or : ℕ → Result ℕ Refusal → ℕ
+nodes_or old (Err r) = old
+nodes_or old (Ok n) = n
 
 -- a call whose result is a count of nodes, over what stood there: text
-abbrev pub coded_text : {A : Type 0} → ℕ → Answered Typed A → Answered ℕ (A × ℕ)
+abbrev pub coded_text : {A : Type 0} → ℕ → Answered (Result ℕ Refusal) A → Answered ℕ (A × ℕ)
 coded_text = coded_result code_of_text nodes_or
 
 -- the answer of synchronise: the number of the refusal, else 0

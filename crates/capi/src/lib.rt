@@ -3,16 +3,12 @@
 #![tactic(auto)]
 
 ghost use Rattle.std.specs.Prelude.{◌≡◌};
-ghost use Rattle.results.specs.Results as results;
 ghost use Rattle.steps.specs.Answers.{seen};
 ghost use Rattle.capi.specs.Codes.{code_of, rounds_or, number_or, found_over};
 ghost use Rattle.capi.specs.Promises.{CheckCoded, StartCoded, FireCoded, UndoCoded, MarksCoded, ValueCoded, PickCoded, FirstOutsideCoded, TextCoded, SynchroniseCoded};
 
-use model::Checked;
-use results::Found;
 use steps::Answer;
 use synchronisation::Synchronised;
-use texts::Typed;
 
 // The cells of the sizes S F E T N.
 const STATES: usize = 0;
@@ -29,6 +25,7 @@ const NODES: usize = 4;
 const SIZE_CELLS: usize = 5;
 
 // The code of an answer: the number of the refusal, else 0.
+#[tactic(auto, unfolding(crate::specs::Codes::code_of, steps::specs::Answers::seen))]
 fn code_of(answer: Answer) -> u8
     ensures { result ≡ code_of (seen answer) }
 {
@@ -39,6 +36,7 @@ fn code_of(answer: Answer) -> u8
 }
 
 // The round count where one is answered, else what stood there.
+#[tactic(auto, unfolding(crate::specs::Codes::rounds_or, steps::specs::Answers::seen))]
 fn rounds_or(old: usize, answer: Answer) -> usize
     ensures { result ≡ rounds_or old (seen answer) }
 {
@@ -49,6 +47,7 @@ fn rounds_or(old: usize, answer: Answer) -> usize
 }
 
 // The value where one is answered, else what stood there.
+#[tactic(auto, unfolding(crate::specs::Codes::number_or, steps::specs::Answers::seen))]
 fn number_or(old: i32, answer: Answer) -> i32
     ensures { result ≡ number_or old (seen answer) }
 {
@@ -59,18 +58,12 @@ fn number_or(old: i32, answer: Answer) -> i32
 }
 
 // What was found, and 1; where there is none the cell stays, and 0.
-fn hand_out(place: Found, cell: &mut usize, found: &mut u8)
-    ensures { found_over cell.old (results.found place) ≡ (cell.new, found.new) }
+#[tactic(auto, unfolding(crate::specs::Codes::found_over))]
+fn hand_out(place: Option<usize>, cell: &mut usize, found: &mut u8)
+    ensures { found_over cell.old place ≡ (cell.new, found.new) }
 {
-    match place {
-        Found::At(number) => {
-            *cell = number;
-            *found = 1;
-        }
-        Found::Nothing => {
-            *found = 0;
-        }
-    }
+    *cell = place.unwrap_or(*cell);
+    *found = u8::from(place.is_some());
 }
 
 // The five sizes; under 5 cells is 10.
@@ -79,8 +72,8 @@ pub extern "C" fn gts_check(model: &[u8], sizes: &mut [u32]) -> u8
     ensures { CheckCoded model.now sizes.old result sizes.new }
 {
     match run::check(model) {
-        Checked::Refused(number) => number,
-        Checked::Accepted(found) => {
+        Err(refusal) => refusal.number(),
+        Ok(found) => {
             if sizes.len() < SIZE_CELLS {
                 return 10;
             }
@@ -222,8 +215,7 @@ pub extern "C" fn gts_first_outside(
         Answer::Refused(number) => number,
         Answer::Outside(check) => {
             *looked = check.looked;
-            let outside = check.outside;
-            hand_out(outside, variable, found);
+            hand_out(check.outside, variable, found);
             0
         }
         _ => 0,
@@ -243,8 +235,8 @@ pub extern "C" fn gts_text(
         kinds.new parameters.new count.new }
 {
     match texts::write_nodes(model, text, kinds, parameters) {
-        Typed::Refused(number) => number,
-        Typed::Nodes(written) => {
+        Err(refusal) => refusal.number(),
+        Ok(written) => {
             *count = written;
             0
         }

@@ -1,4 +1,5 @@
 -- Proofs of crate `cases`.
+pub mod Numbers
 pub mod Beside
-pub mod Counting
 pub mod Loading
+pub mod Counting

@@ -4,29 +4,23 @@
 
 #![tactic(auto)]
 
-ghost use Rattle.std.specs.Prelude.{true, false, Ok, ◌≡◌, ◌+◌, ◌*◌, ◌<◌, ◌≤◌, length, take, replicate, slice_index_or};
+ghost use Rattle.std.specs.Prelude.{true, false, Ok, Some, ◌≡◌, ◌+◌, ◌*◌, ◌^◌, ◌<◌, ◌≤◌, length, take, IfOk, IsTrue, ◌↔◌};
+ghost use Rattle.std.specs.List.{list_all};
 ghost use Rattle.std.specs.Io.KnownBytes.{Consumes};
 ghost use Rattle.model.specs.Sizes.{little_at};
 ghost use Rattle.model.specs.Check as model;
-ghost use Rattle.cases.specs.Cases.{same_bytes, same_values, values_in, no_cases, counted_in};
+ghost use Rattle.cases.specs.Cases.{same_cells, no_cases, counted_in, Tallied};
 
 use std::fs::File;
-use std::io;
 use std::io::{ErrorKind, Read};
 use std::rt::Files;
+use std::{fmt, io};
 
 // How many cases were run, and how many differed.
-#[derive(Clone, Copy)]
+#[derive(Clone, Copy, PartialEq, Eq, Debug)]
 pub struct Tally {
     pub cases: u64,
     pub differing: u64,
-}
-
-// What running one case comes to: the end of the file, or whether it answered what is stored.
-#[derive(Clone, Copy)]
-pub enum Outcome {
-    End,
-    Equal(bool),
 }
 
 impl Tally {
@@ -38,42 +32,53 @@ impl Tally {
             differing: 0,
         }
     }
+
+    // The tally with one case more.
+    pub fn counted(self, is_same: bool) -> Tally
+        ensures { result ≡ counted_in self is_same }
+    {
+        Tally {
+            cases: self.cases.wrapping_add(1),
+            differing: self.differing.wrapping_add(u64::from(!is_same)),
+        }
+    }
 }
 
-// A byte as an index or a length.
-pub fn wide(byte: u8) -> usize
-    ensures { (result ≡ byte) × (result < 256) }
-{
-    byte as usize
+// An answer as it is told: the number of a refusal, or the word for what was stored, and how much.
+#[derive(Clone, Copy)]
+struct Told<'a> {
+    word: &'a str,
+    answer: Result<usize, u8>,
 }
 
-// The number in two bytes.
-pub fn two(b: &[u8], at: usize) -> usize
-    requires { at + 2 ≤ length b.now }
-    ensures { (result ≡ little_at b.now at 2) × (result < 65536) }
-{
-    wide(b[at]) + 256 * wide(b[at + 1])
+impl fmt::Display for Told<'_> {
+    fn fmt<W: fmt::Write>(&self, f: &mut fmt::Formatter<W>) -> fmt::Result {
+        let word = self.word;
+        match self.answer {
+            Ok(count) => write!(f, "{word} {count}"),
+            Err(number) => write!(f, "refusal {number}"),
+        }
+    }
 }
 
-// The number in four bytes.
-pub fn four(b: &[u8], at: usize) -> usize
-    requires { at + 4 ≤ length b.now }
-    ensures { (result ≡ little_at b.now at 4) × (result < 4294967296) }
+// The number in N bytes.
+pub fn number<const N: usize>(bytes: &[u8], at: usize) -> usize
+    requires width { N ≤ 8 }
+    requires within { at + N ≤ length bytes.now }
+    ensures value { result ≡ little_at bytes.now at N }
+    ensures upper_bound { result < 256 ^ N }
 {
-    two(b, at) + 65536 * two(b, at + 2)
+    let mut widened = [0u8; 8];
+    widened[..N].copy_from_slice(&bytes[at..at + N]);
+    u64::from_le_bytes(widened) as usize
 }
 
 // The signed number in four bytes.
-pub fn signed(b: &[u8], at: usize) -> i32
-    requires { at + 4 ≤ length b.now }
-    ensures { result ≡ model.signed (little_at b.now at 4) }
+pub fn signed(bytes: &[u8], at: usize) -> i32
+    requires { at + 4 ≤ length bytes.now }
+    ensures { result ≡ model.signed (little_at bytes.now at 4) }
 {
-    let number = four(b, at);
-    if number < 2147483648 {
-        number as i32
-    } else {
-        ((number as i64) - 4294967296) as i32
-    }
+    (number::<4>(bytes, at) as u32).cast_signed()
 }
 
 // The stored values, four bytes each.
@@ -85,88 +90,46 @@ pub fn load_values(stored: &[u8], values: &mut [i32])
     model::header::parameters_in(stored, 0, count, values);
 }
 
-pub fn load_bytes(stored: &[u8], bytes: &mut [u8])
-    requires { length bytes.old ≤ length stored.now }
-    ensures { bytes.new ≡ take (length bytes.old) stored.now }
+// Is each cell the fill?
+fn is_filled<T: Copy + PartialEq>(cells: &[T], fill: T) -> bool
+    ensures { result ≡ list_all (λ cell. T.eq cell fill) cells.now }
 {
-    let mut i = 0;
-    while i < bytes.len() {
-        bytes[i] = stored[i];
-        i += 1;
-    }
-}
-
-// Puts the value in every cell.
-pub fn fill_values(values: &mut [i32], value: i32)
-    ensures { values.new ≡ replicate (length values.old) value }
-{
-    let mut i = 0;
-    while i < values.len() {
-        values[i] = value;
-        i += 1;
-    }
-}
-
-pub fn fill_bytes(bytes: &mut [u8], byte: u8)
-    ensures { bytes.new ≡ replicate (length bytes.old) byte }
-{
-    let mut i = 0;
-    while i < bytes.len() {
-        bytes[i] = byte;
-        i += 1;
-    }
-}
-
-// The byte stored for a cell; past the stored ones it is the fill.
-fn byte_or(stored: &[u8], at: usize, fill: u8) -> u8
-    ensures { result ≡ slice_index_or stored.now at fill }
-{
-    if at < stored.len() { stored[at] } else { fill }
-}
-
-// The value stored for a cell, in four bytes; past the stored ones it is the fill.
-fn value_or(stored: &[u8], at: usize, fill: i32) -> i32
-    ensures { result ≡ slice_index_or (values_in stored.now) at fill }
-{
-    if at < stored.len() / 4 {
-        signed(stored, 4 * at)
-    } else {
-        fill
-    }
+    cells.iter().all(|cell| *cell == fill)
 }
 
 // Are the cells the stored ones, and the fill past them?
-pub fn is_same_bytes(bytes: &[u8], stored: &[u8], fill: u8) -> bool
-    ensures { result ≡ same_bytes bytes.now stored.now fill }
+pub fn is_same<T: Copy + PartialEq>(cells: &[T], stored: &[T], fill: T) -> bool
+    ensures { result ≡ same_cells T.eq cells.now stored.now fill }
 {
-    if bytes.len() < stored.len() {
+    let count = stored.len();
+    if cells.len() < count {
         return false;
     }
-    let mut i = 0;
-    while i < bytes.len() {
-        if bytes[i] != byte_or(stored, i, fill) {
-            return false;
-        }
-        i += 1;
+    if &cells[..count] != stored {
+        return false;
     }
-    true
+    is_filled(&cells[count..], fill)
 }
 
-// The same of values, each stored in four bytes.
-pub fn is_same_values(values: &[i32], stored: &[u8], fill: i32) -> bool
-    ensures { result ≡ same_values values.now stored.now fill }
+// Is the answer the stored one, how much was stored or the number of a refusal? If not, both are told.
+pub fn is_wanted(
+    rt: &impl Print,
+    word: &str,
+    wanted: Result<usize, u8>,
+    answer: Result<usize, u8>,
+) -> io::Result<bool>
+    ensures { IfOk result (λ is_same. IsTrue is_same ↔ answer ≡ wanted) }
 {
-    if values.len() < stored.len() / 4 {
-        return false;
+    if answer == wanted {
+        return Ok(true);
     }
-    let mut i = 0;
-    while i < values.len() {
-        if values[i] != value_or(stored, i, fill) {
-            return false;
-        }
-        i += 1;
-    }
-    true
+    let wanted = Told {
+        word,
+        answer: wanted,
+    };
+    let came = Told { word, answer };
+    print!(rt; "wanted {wanted}, came {came}; ")?;
+    Ok(false)
 }
 
 // Opens data/cases.
@@ -189,34 +152,45 @@ pub fn is_read<R: Read>(file: &mut R, b: &mut [u8], count: usize) -> io::Result<
     }
 }
 
-// The tally with one case more.
-pub fn counted(tally: Tally, is_same: bool) -> Tally
-    ensures { result ≡ counted_in tally is_same }
+// The next N bytes of the file; none where it ends before.
+pub fn next_bytes<R: Read, const N: usize>(file: &mut R) -> io::Result<Option<[u8; N]>>
+    ensures { (bytes : _) → result ≡ Ok (Some bytes) → Consumes (R.remaining file.old) (R.remaining file.new) bytes }
 {
-    let cases = tally.cases.wrapping_add(1);
-    if is_same {
-        return Tally {
-            cases,
-            differing: tally.differing,
+    let mut bytes = [0u8; N];
+    let is_whole = is_read(file, &mut bytes, N)?;
+    Ok(if is_whole { Some(bytes) } else { None })
+}
+
+// The tally of the cases of a file, to its end: `next` reads one and says whether it answered what is stored, or that there is
+// none. Each case that differs is told.
+fn tallied<R: Print, F: FnMut() -> io::Result<Option<bool>>>(
+    rt: &R,
+    mut next: F,
+) -> io::Result<Tally>
+    requires { F.IsAlwaysCallable next }
+    ensures { IfOk result (λ tally. (last : F) × Tallied (λ f is_same g. F.step f (Ok (Some is_same)) g) next last tally) }
+{
+    let mut tally = Tally::empty();
+    for _ in 0..u64::MAX {
+        let Some(is_same) = next()? else {
+            break;
         };
+        tally = tally.counted(is_same);
+        if !is_same {
+            println!(rt; "case {} differs", tally.cases)?;
+        }
     }
-    Tally {
-        cases,
-        differing: tally.differing.wrapping_add(1),
-    }
+    Ok(tally)
 }
 
-// Tells of the case counted last, where it differs.
-pub fn tell(rt: &impl Print, tally: &Tally, is_same: bool) -> io::Result<()> {
-    if !is_same {
-        println!(rt; "case {} differs", tally.cases)?;
-    }
-    Ok(())
-}
-
-// Prints the tally, with the word for what was counted.
-pub fn print(rt: &impl Print, tally: Tally, word: &[u8]) -> io::Result<()> {
-    print!(rt; "{} ", tally.cases)?;
-    rt.write_all(word)?;
-    println!(rt; ", {} differ", tally.differing)
+// Runs the cases of a file and prints the tally, with the word for what was counted.
+pub fn run<R: Print, F: FnMut() -> io::Result<Option<bool>>>(
+    rt: &R,
+    word: &str,
+    next: F,
+) -> io::Result<()>
+    requires { F.IsAlwaysCallable next }
+{
+    let tally = tallied(rt, next)?;
+    println!(rt; "{} {word}, {} differ", tally.cases, tally.differing)
 }

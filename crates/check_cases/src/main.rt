@@ -8,88 +8,69 @@
 
 #![tactic(auto)]
 
-ghost use Rattle.std.specs.Prelude.{◌*◌, ◌≤◌, length};
-
-use cases::{Outcome, Tally};
-use model::{Checked, Given, Sizes, Sort};
+use model::{Sizes, Sort};
 use std::io;
 use std::io::Read;
 
+// What the check answers to a case.
+#[derive(Clone, Copy, PartialEq, Eq, Debug)]
+enum Answer {
+    Accepted,
+    Refused(u8),
+    OtherSizes,
+    NoExpression,
+}
+
+// As a header has it.
+impl From<Answer> for u8 {
+    fn from(answer: Answer) -> u8 {
+        match answer {
+            Answer::Accepted => 0,
+            Answer::Refused(number) => number,
+            Answer::OtherSizes => 255,
+            Answer::NoExpression => 254,
+        }
+    }
+}
+
 fn sort_of(code: u8) -> Sort {
-    if code == 1 {
-        Sort::Boolean
-    } else {
-        Sort::Number
+    match code {
+        1 => Sort::Boolean,
+        _ => Sort::Number,
     }
 }
 
 fn is_same_sizes(head: &[u8; 16], sizes: Sizes) -> bool {
-    if sizes.states != cases::two(head, 2) {
-        return false;
-    }
-    if sizes.flows != cases::two(head, 4) {
-        return false;
-    }
-    if sizes.events != cases::two(head, 6) {
-        return false;
-    }
-    if sizes.transitions != cases::two(head, 8) {
-        return false;
-    }
-    sizes.nodes == cases::two(head, 10)
+    sizes.states == cases::number::<2>(head, 2)
+        && sizes.flows == cases::number::<2>(head, 4)
+        && sizes.events == cases::number::<2>(head, 6)
+        && sizes.transitions == cases::number::<2>(head, 8)
+        && sizes.nodes == cases::number::<2>(head, 10)
 }
 
-// The refusal of a model; 0 if it is accepted with the stored sizes, 255 with others.
-fn model_answer(head: &[u8; 16], body: &[u8]) -> u8 {
+// Of a model.
+fn model_answer(head: &[u8; 16], body: &[u8]) -> Answer {
     match model::check::check(body) {
-        Checked::Refused(number) => number,
-        Checked::Accepted(sizes) => { if is_same_sizes(head, sizes) { 0 } else { 255 } }
+        Err(refusal) => Answer::Refused(refusal.number()),
+        Ok(sizes) if is_same_sizes(head, sizes) => Answer::Accepted,
+        Ok(_) => Answer::OtherSizes,
     }
 }
 
-// The refusal of an expression handed beside a model; 0 if it is accepted.
-fn given_answer(
-    kinds: &[u8],
-    stored: &[u8],
-    file: &[u8],
-    wanted: Sort,
-    parameters: &mut [i32],
-) -> u8
-    requires { 4 * length parameters.old ≤ length stored.now }
-{
-    cases::load_values(stored, parameters);
-    match decoding::check_expression(file, kinds, parameters, wanted) {
-        Given::Refused(number) => number,
-        Given::Accepted => 0,
-    }
-}
-
-// The same of the expression in a body; 254 where the body is none.
-fn expression_answer(head: &[u8; 16], body: &[u8]) -> u8 {
-    let kinds = cases::two(head, 4);
-    let count = cases::two(head, 6);
-    let past = kinds + 4 * count;
-    if body.len() != past + cases::two(head, 8) {
-        return 254;
-    }
-    if 6000 < count {
-        return 254;
-    }
+// Of an expression handed beside a model.
+fn expression_answer(head: &[u8; 16], body: &[u8]) -> Answer {
     let mut parameters = [0i32; 6000];
-    given_answer(
-        &body[0..kinds],
-        &body[kinds..past],
-        &body[past..],
-        sort_of(head[2]),
-        &mut parameters[0..count],
-    )
-}
-
-fn answer(head: &[u8; 16], body: &[u8]) -> u8 {
-    if head[0] == 1 {
-        model_answer(head, body)
-    } else {
-        expression_answer(head, body)
+    let count = cases::number::<2>(head, 6);
+    let kinds = cases::number::<2>(head, 4);
+    let past = kinds + 4 * count;
+    if body.len() != past + cases::number::<2>(head, 8) || parameters.len() < count {
+        return Answer::NoExpression;
+    }
+    let parameters = &mut parameters[..count];
+    cases::load_values(&body[kinds..past], parameters);
+    match decoding::check_expression(&body[past..], &body[..kinds], parameters, sort_of(head[2])) {
+        Err(refusal) => Answer::Refused(refusal.number()),
+        Ok(()) => Answer::Accepted,
     }
 }
 
@@ -102,41 +83,27 @@ fn is_wanted(rt: &impl Print, answer: u8, wanted: u8) -> io::Result<bool> {
     Ok(false)
 }
 
-// Reads one case and runs it.
-fn next_case(rt: &impl Print, file: &mut impl Read, buffer: &mut [u8]) -> io::Result<Outcome> {
-    let mut head = [0u8; 16];
-    if !cases::is_read(file, &mut head, 16)? {
-        return Ok(Outcome::End);
-    }
-    let length = cases::four(&head, 12);
-    if buffer.len() < length {
-        return Ok(Outcome::End);
-    }
+// Reads one case and runs it; none at the end of the file.
+fn next_case(rt: &impl Print, file: &mut impl Read, buffer: &mut [u8]) -> io::Result<Option<bool>> {
+    let Some(head): Option<[u8; 16]> = cases::next_bytes(file)? else {
+        return Ok(None);
+    };
+    let length = cases::number::<4>(&head, 12);
     if !cases::is_read(file, buffer, length)? {
-        return Ok(Outcome::End);
+        return Ok(None);
     }
-    let answer = answer(&head, &buffer[0..length]);
-    Ok(Outcome::Equal(is_wanted(rt, answer, head[1])?))
-}
-
-// All cases of the file.
-fn run(rt: &impl Print, file: &mut impl Read, buffer: &mut [u8]) -> io::Result<Tally> {
-    let mut tally = Tally::empty();
-    for _ in 0..u64::MAX {
-        match next_case(rt, file, buffer)? {
-            Outcome::End => return Ok(tally),
-            Outcome::Equal(is_same) => {
-                tally = cases::counted(tally, is_same);
-                cases::tell(rt, &tally, is_same)?;
-            }
-        }
-    }
-    Ok(tally)
+    let Some(body) = buffer.get(..length) else {
+        return Ok(None);
+    };
+    let answer = match head[0] {
+        1 => model_answer(&head, body),
+        _ => expression_answer(&head, body),
+    };
+    Ok(Some(is_wanted(rt, u8::from(answer), head[1])?))
 }
 
 fn main(rt: HostRuntime) -> io::Result<()> {
     let mut file = cases::open(&rt)?;
     let mut buffer = [0u8; 32768];
-    let tally = run(&rt, &mut file, &mut buffer)?;
-    cases::print(&rt, tally, b"cases")
+    cases::run(&rt, "cases", || next_case(&rt, &mut file, &mut buffer))
 }

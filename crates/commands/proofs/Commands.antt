@@ -1,42 +1,50 @@
 -- The command of a line, by its length and its first bytes.
 use mathlib.Core.Path.{◌≡◌, refl, sym, ap, ◌∙◌}
 use mathlib.Core.Bool.{Bool, true, false, cond, ◌&&◌, and-false}
+use mathlib.Core.Logic.{◌⊎◌, inl, inr}
 use mathlib.Core.List.{List, [], ◌∷◌}
 use Prim.Native.Nat.{ℕ, ◌+◌, ◌*◌, ◌-◌, ◌≤◌, ◌<◌, ◌^◌}
 use native.Mathlib.Nat.{lt_of_lt_of_le, pow-le-pow_right}
 use native.Mathlib.Omega.{arith}
-use borrow.Author.Tests.{ltb-true, ltb-false, le-leb, lt-leb, ne_eqb}
+use borrow.Author.Tests.{ltb-true, ltb-false, le-leb, lt-leb, ne_eqb, eqb-true, eqb-false}
 use lib.Dec.{ltb, leb, eqb}
 use lib.ListN.{length, take, drop, get_or, length-drop}
-use lib.Seq.{take_all, length-take-le}
+use lib.Seq.{drop-cons, take_all, length-take-le}
+use Rattle.std.proofs.lemmas.List.{take_rest}
+use Rattle.std.specs.Prelude.{Option, Some, None}
 use Rattle.commands.specs.declared.Command.{Command}
-use Rattle.commands.specs.declared.Command.TheVariants.{Fire, Undo, Marks, Unknown}
-use Rattle.ascii.specs.Ascii.{same, are_digits, value_after, value_of}
+use Rattle.commands.specs.declared.Command.TheVariants.{Fire, Undo, Marks}
+use Rattle.ascii.specs.Ascii.{same, is_digit, are_digits, value_after}
 use Rattle.ascii.proofs.Digits.{next_digit, no_more_digits}
 use Rattle.ascii.proofs.Sameness.{other_length}
-use Rattle.commands.specs.Commands.{is_number, command_of}
+use Rattle.commands.specs.Commands.{is_number, fire_of, command_of}
 use Rattle.commands.specs.Theorems.{LongLineUnknown, CommandOfFirst}
 
 -- ---- lines that are no command
 
-long_number : (l : List ℕ) → 3 < length l → is_number l ≡ false
-unfolding is_number
-long_number l h = rw (lt-leb (length l) 3 h) (and-false (leb 1 (length l)))
+-- no digits, or too many
+pub many_digits : (l : List ℕ) → 3 < length l → None ≡ fire_of l
+unfolding fire_of is_number
+many_digits l h = rw (lt-leb (length l) 3 h, and-false (leb 1 (length l)))
+
+pub none_or_many : (l : List ℕ) {r : Bool} → r ≡ eqb (length l) 0 → (r ≡ true) ⊎ ((r ≡ false) × (3 < length l)) → None ≡ fire_of l
+unfolding fire_of is_number
+none_or_many l e (inl t) = let none : length l ≡ 0 = eqb-true (length l) 0 (sym e ∙ t) in rw none
+none_or_many l e (inr t) = many_digits l t.1
 
 -- a line of other than one byte is neither `u` nor `m`
-not_a_letter : (l : List ℕ) → (length l ≡ 1 → ⊥)
-    → command_of l ≡ cond (same (take 2 l) (102 ∷ 32 ∷ []) && is_number (drop 2 l)) (Fire (value_of (drop 2 l))) Unknown
+not_a_letter : (l : List ℕ) → (length l ≡ 1 → ⊥) → command_of l ≡ cond (same (take 2 l) (102 ∷ 32 ∷ [])) (fire_of (drop 2 l)) None
 unfolding command_of
 not_a_letter l h = rw (other_length l (117 ∷ []) h, other_length l (109 ∷ []) h)
 
--- a line with no number after its first two bytes
-not_a_number : (l : List ℕ) → (length l ≡ 1 → ⊥) → is_number (drop 2 l) ≡ false → command_of l ≡ Unknown
-not_a_number l h e =
-    not_a_letter l h ∙ rw (e, and-false (same (take 2 l) (102 ∷ 32 ∷ [])))
+same_branches : {A : Type 0} (b : Bool) (x : A) → cond b x x ≡ x
+same_branches true x = refl
+same_branches false x = refl
 
 pub long_line_unknown : LongLineUnknown
 long_line_unknown l h =
-    not_a_number l (omega arith) (long_number (drop 2 l) (rw length-drop (omega arith)))
+    not_a_letter l (omega arith)
+    ∙ rw (sym (many_digits (drop 2 l) (rw length-drop (omega arith)))) (same_branches (same (take 2 l) (102 ∷ 32 ∷ [])) None)
 
 pub command_of_first : CommandOfFirst
 command_of_first l = by (ltb 6 (length l)) refl
@@ -50,13 +58,14 @@ command_of_first l = by (ltb 6 (length l)) refl
 -- ---- the digits after `f` and a space
 
 -- the command of these digits after those that gave n
-abbrev pub number_after : ℕ → List ℕ → Command
-number_after n l = cond (are_digits l) (Fire (value_after n l)) Unknown
+abbrev pub number_after : ℕ → List ℕ → Option Command
+number_after n l = cond (are_digits l) (Some (Fire (value_after n l))) None
 
 module _ (l : List ℕ) (n i : ℕ) where
   -- a byte that is no digit
-  pub other_byte : are_digits (drop i l) ≡ false → Unknown ≡ number_after n (drop i l)
-  other_byte e = rw e
+  pub other_byte : i < length l → {r : Bool} → r ≡ is_digit (get_or l i 0) → r ≡ false → None ≡ number_after n (drop i l)
+  unfolding are_digits
+  other_byte h d f = rw (drop-cons l i 0 h, sym d ∙ f)
 
   -- a digit
   pub digit_read : i < length l → 48 ≤ get_or l i 0 → get_or l i 0 ≤ 57
@@ -64,70 +73,65 @@ module _ (l : List ℕ) (n i : ℕ) where
   digit_read h low high = let s = next_digit l i n h low high in rw (s.0, s.1)
 
   -- all are read
-  pub digits_end : length l ≤ i → Fire n ≡ number_after n (drop i l)
+  pub digits_end : length l ≤ i → Some (Fire n) ≡ number_after n (drop i l)
   digits_end h = let s = no_more_digits l i n h in rw (s.0, s.1)
 
 -- so many digits are below a power of 10
 pub few_digits : (i n : ℕ) → i ≤ 3 → n < 10 ^ i → n < 1000
 few_digits i n h b = lt_of_lt_of_le b (pow-le-pow_right (omega arith) h)
 
+-- 1 to 3 digits
+pub some_digits : (l : List ℕ) {r : Bool} → r ≡ eqb (length l) 0 → r ≡ false → length l ≤ 3 → number_after 0 l ≡ fire_of l
+unfolding fire_of is_number
+some_digits l e f k =
+    let some : (length l ≡ 0 → ⊥) = eqb-false (length l) 0 (sym e ∙ f) in
+    rw (le-leb 1 (length l) (omega arith), le-leb (length l) 3 k)
+
 -- ---- lines of one byte
 
-pub undo_line : (b : ℕ) → b ≡ 117 → Undo ≡ command_of (b ∷ [])
+pub undo_line : (l : List ℕ) → length l ≡ 1 → get_or l 0 0 ≡ 117 → Some Undo ≡ command_of l
 unfolding command_of same
-undo_line b e = rw e
+undo_line [] h e = absurd (omega arith)
+undo_line (b ∷ []) h e = rw e
+undo_line (a ∷ b ∷ l) h e = absurd (omega arith)
 
-pub marks_line : (b : ℕ) → b ≡ 109 → Marks ≡ command_of (b ∷ [])
+pub marks_line : (l : List ℕ) → length l ≡ 1 → get_or l 0 0 ≡ 109 → Some Marks ≡ command_of l
 unfolding command_of same
-marks_line b e = rw e
+marks_line [] h e = absurd (omega arith)
+marks_line (b ∷ []) h e = rw e
+marks_line (a ∷ b ∷ l) h e = absurd (omega arith)
 
-pub other_letter : (b : ℕ) → (b ≡ 117 → ⊥) → (b ≡ 109 → ⊥) → Unknown ≡ command_of (b ∷ [])
-unfolding command_of same is_number
-other_letter b u m = rw (ne_eqb b 117 u, ne_eqb b 109 m, and-false (eqb b 102))
+pub other_letter : (l : List ℕ) → length l ≡ 1 → (get_or l 0 0 ≡ 117 → ⊥) → (get_or l 0 0 ≡ 109 → ⊥) → None ≡ command_of l
+unfolding command_of same
+other_letter [] h u m = absurd (omega arith)
+other_letter (b ∷ []) h u m = rw (ne_eqb b 117 u, ne_eqb b 109 m, and-false (eqb b 102))
+other_letter (a ∷ b ∷ l) h u m = absurd (omega arith)
 
-pub one_byte : (l : List ℕ) → length l ≡ 1 → command_of (get_or l 0 0 ∷ []) ≡ command_of l
-one_byte [] h = absurd (omega arith)
-one_byte (b ∷ []) h = refl
-one_byte (a ∷ b ∷ l) h = absurd (omega arith)
+pub empty_line : (l : List ℕ) → length l ≡ 0 → None ≡ command_of l
+unfolding command_of same
+empty_line [] h = refl
+empty_line (b ∷ l) h = absurd (omega arith)
 
 -- ---- lines of several bytes
 
-pub short_line : (l : List ℕ) → (length l ≡ 1 → ⊥) → length l < 3 → Unknown ≡ command_of l
-unfolding is_number
-short_line l h s =
-    sym (not_a_number l h (rw (lt-leb 1 (length (drop 2 l)) (rw length-drop (omega arith)))))
-
-pub long_line : (l : List ℕ) → 5 < length l → Unknown ≡ command_of l
-long_line l h = sym (long_line_unknown l h)
-
-first_two : (l : List ℕ) → 1 < length l
-    → same (take 2 l) (102 ∷ 32 ∷ []) ≡ eqb (get_or l 0 0) 102 && (eqb (get_or l 1 0) 32 && true)
+first_two : (l : List ℕ) → 2 ≤ length l → same (take 2 l) (102 ∷ 32 ∷ []) ≡ eqb (get_or l 0 0) 102 && (eqb (get_or l 1 0) 32 && true)
 unfolding same
 first_two [] h = absurd (omega arith)
 first_two (a ∷ []) h = absurd (omega arith)
 first_two (a ∷ b ∷ l) h = refl
 
-module _ (l : List ℕ) (h : 3 ≤ length l) where
-  other_start : same (take 2 l) (102 ∷ 32 ∷ []) ≡ false → Unknown ≡ command_of l
+module _ (l : List ℕ) (h : 2 ≤ length l) where
+  other_start : same (take 2 l) (102 ∷ 32 ∷ []) ≡ false → None ≡ command_of l
   other_start e = sym (not_a_letter l (omega arith) ∙ rw e)
 
-  pub other_word : (get_or l 0 0 ≡ 102 → ⊥) → Unknown ≡ command_of l
-  other_word n = other_start (first_two l (omega arith) ∙ rw (ne_eqb (get_or l 0 0) 102 n))
+  pub other_word : (get_or l 0 0 ≡ 102 → ⊥) → None ≡ command_of l
+  other_word n = other_start (first_two l h ∙ rw (ne_eqb (get_or l 0 0) 102 n))
 
-  pub no_space : (get_or l 1 0 ≡ 32 → ⊥) → Unknown ≡ command_of l
-  no_space n =
-      other_start (first_two l (omega arith) ∙ rw (ne_eqb (get_or l 1 0) 32 n) (and-false (eqb (get_or l 0 0) 102)))
+  pub no_space : (get_or l 1 0 ≡ 32 → ⊥) → None ≡ command_of l
+  no_space n = other_start (first_two l h ∙ rw (ne_eqb (get_or l 1 0) 32 n) (and-false (eqb (get_or l 0 0) 102)))
 
   -- the bytes from the third on, as a part of the slice
-  pub fire_line : length l ≤ 5 → get_or l 0 0 ≡ 102 → get_or l 1 0 ≡ 32
-      → number_after 0 (take (length l - 2) (drop 2 l)) ≡ command_of l
-  unfolding is_number
-  fire_line s f b =
-      let part : take (length l - 2) (drop 2 l) ≡ drop 2 l = take_all (length l - 2) (drop 2 l) (rw length-drop (omega arith)) in
-      let start : same (take 2 l) (102 ∷ 32 ∷ []) ≡ true = first_two l (omega arith) ∙ rw (f, b) in
-      let least : 1 ≤ length (drop 2 l) = rw length-drop (omega arith) in
-      let most : length (drop 2 l) ≤ 3 = rw length-drop (omega arith) in
-      ap (number_after 0) part
-      ∙ sym
-      (not_a_letter l (omega arith)
-      ∙ rw (start, le-leb 1 (length (drop 2 l)) least, le-leb (length (drop 2 l)) 3 most))
+  pub fire_line : get_or l 0 0 ≡ 102 → get_or l 1 0 ≡ 32 → {c : Option Command} → c ≡ fire_of (take (length l - 2) (drop 2 l)) → c ≡ command_of l
+  fire_line f s e =
+      let start : same (take 2 l) (102 ∷ 32 ∷ []) ≡ true = first_two l h ∙ rw (f, s) in
+      e ∙ ap fire_of (take_rest l 2) ∙ sym (not_a_letter l (omega arith) ∙ rw start)

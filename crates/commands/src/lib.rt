@@ -2,80 +2,45 @@
 
 #![tactic(auto)]
 
-ghost use Rattle.std.specs.Prelude.{◌≡◌, cond, [], ◌∷◌, ◌≤◌, length};
-ghost use Rattle.ascii.specs.Ascii.{are_digits, value_of};
-ghost use Rattle.commands.specs.Commands.{command_of, most_digits};
+ghost use Rattle.std.specs.Prelude.{◌≡◌};
+ghost use Rattle.commands.specs.Commands.{command_of, fire_of};
 
-// 01's commands; the last is none, refusal 13.
-#[derive(Clone, Copy)]
+// 01's commands.
+#[derive(Clone, Copy, PartialEq, Eq, Debug)]
 pub enum Command {
     Fire(usize),
     Undo,
     Marks,
-    Unknown,
 }
 
-// Where the digits of a fire begin: after `f` and a space.
-const DIGITS: usize = 2;
-
-// The length of a fire with 1 digit.
-const SHORTEST_FIRE: usize = 3;
-
-// The length of a fire with 3 digits.
-const LONGEST_FIRE: usize = 5;
+// The most digits of a transition's number.
+const MOST_DIGITS: usize = 3;
 
 // The command of the digits after `f` and a space.
-fn fire_of(digits: &[u8]) -> Command
-    requires { length digits.now ≤ most_digits }
-    ensures { result ≡ cond (are_digits digits.now) (Command.Fire (value_of digits.now)) Command.Unknown }
+fn fire_of(digits: &[u8]) -> Option<Command>
+    ensures { result ≡ fire_of digits.now }
 {
-    let mut value: usize = 0;
-    let mut i = 0;
-    while i < digits.len() {
-        let b = digits[i];
-        if b < b'0' {
-            return Command::Unknown;
-        }
-        if b'9' < b {
-            return Command::Unknown;
-        }
-        value = 10 * value + (b - b'0') as usize;
-        i += 1;
+    if digits.is_empty() || MOST_DIGITS < digits.len() {
+        return None;
     }
-    Command::Fire(value)
+    let mut value = 0;
+    for &byte in digits {
+        if !byte.is_ascii_digit() {
+            return None;
+        }
+        value = 10 * value + usize::from(byte - b'0');
+    }
+    Some(Command::Fire(value))
 }
 
-// The command of a line of one byte.
-fn letter(b: u8) -> Command
-    ensures { result ≡ command_of (b ∷ []) }
-{
-    if b == b'u' {
-        return Command::Undo;
-    }
-    if b == b'm' {
-        return Command::Marks;
-    }
-    Command::Unknown
-}
-
-// The command that a line without its line feed is.
-pub fn command_of(line: &[u8]) -> Command
+// The command that a line without its line feed is; none, refusal 13, if it is no command.
+pub fn command_of(line: &[u8]) -> Option<Command>
     ensures { result ≡ command_of line.now }
 {
-    if line.len() == 1 {
-        return letter(line[0]);
+    match line {
+        b"u" => Some(Command::Undo),
+        b"m" => Some(Command::Marks),
+        [b'f', b' ', digits @ ..] => fire_of(digits),
+        _ => None,
     }
-    if line.len() < SHORTEST_FIRE {
-        return Command::Unknown;
-    }
-    if LONGEST_FIRE < line.len() {
-        return Command::Unknown;
-    }
-    if line[0] != b'f' {
-        return Command::Unknown;
-    }
-    if line[1] != b' ' {
-        return Command::Unknown;
-    }
-    fire_of(&line[DIGITS..])
 }

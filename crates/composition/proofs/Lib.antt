@@ -1,7 +1,6 @@
 -- Proofs of crate `composition`.
 pub mod Branches
-pub mod Inserting
-pub mod Exchanging
+pub mod Turning
 pub mod Operators
 pub mod Putting
 pub mod Composing

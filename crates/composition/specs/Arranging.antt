@@ -1,30 +1,46 @@
 -- How the code composes the nodes of an operation of those of its operands.
-use Rattle.std.specs.Prelude.{Bool, cond, ◌||◌, List, [], ◌∷◌, ◌++◌, ℕ, ◌*◌, eqb}
-use Rattle.kinds.specs.Kinds.{number_sort}
-use Rattle.grammar.specs.Tokens.{and_code, or_code, plus_code, minus_code, times_code, equal_code, unequal_code, less_code, greater_code, greater_or_equal_code}
+use Rattle.std.specs.Prelude.{Bool, true, false, cond, List, [], ◌∷◌, ◌++◌, pos, Option, Some}
+use Rattle.kinds.specs.declared.kind.Kind.{Kind}
+use Rattle.kinds.specs.declared.kind.Kind.TheVariants as kind
+use Rattle.kinds.specs.declared.Sort.{Sort}
+use Rattle.kinds.specs.declared.Sort.TheVariants.{Number}
+use Rattle.kinds.specs.Kinds.{code_of}
+use Rattle.grammar.specs.declared.Token.{Token}
+use Rattle.grammar.specs.declared.Token.TheVariants.{And, Or, Plus, Minus, Times, Equal, Unequal, Less, Greater, GreaterOrEqual}
+use Rattle.composition.specs.declared.Node.{Node}
 
--- a node without a parameter, in one cell
-abbrev pub plain : ℕ → ℕ
-plain kind = 4294967296 * kind
+-- a node without a parameter
+abbrev pub plain : Kind → Node
+plain kind = record { kind = code_of kind; parameter = pos 0 }
 
--- the kind of the node with two operands; 38 or 47 by the sort of the left one
-unfoldable pub operator_kind : ℕ → ℕ → ℕ
-operator_kind c sort =
-    cond (eqb c plus_code) 41
-    (cond (eqb c minus_code) 42
-    (cond (eqb c times_code) 43
-    (cond (eqb c and_code) 36
-    (cond (eqb c or_code) 37
-    (cond (eqb c equal_code || eqb c unequal_code) (cond (eqb sort number_sort) 38 47)
-    (cond (eqb c greater_code || eqb c less_code) 39 40))))))
+-- of equal numbers (38), or of equal Booleans (47)
+abbrev pub equality_kind : Option Sort → Kind
+equality_kind (Some Number) = kind.Equality
+equality_kind _ = kind.Equivalence
+
+-- the kind of the node with two operands, by the sort of the left one
+unfoldable pub operator_kind : Token → Option Sort → Kind
+operator_kind Plus sort = kind.Sum
+operator_kind Minus sort = kind.Difference
+operator_kind Times sort = kind.Product
+operator_kind And sort = kind.Conjunction
+operator_kind Or sort = kind.Disjunction
+operator_kind Equal sort = equality_kind sort
+operator_kind Unequal sort = equality_kind sort
+operator_kind Greater sort = kind.Less
+operator_kind Less sort = kind.Less
+operator_kind _ sort = kind.LessOrEqual
 
 -- the nodes before those of the operands: `!=` is not of equal
-unfoldable pub operator_cells : ℕ → ℕ → List ℕ
-operator_cells c sort = cond (eqb c unequal_code) (plain 35 ∷ plain (operator_kind c sort) ∷ []) (plain (operator_kind c sort) ∷ [])
+unfoldable pub operator_cells : Token → Option Sort → List Node
+operator_cells Unequal sort = plain kind.Negation ∷ plain (operator_kind Unequal sort) ∷ []
+operator_cells c sort = plain (operator_kind c sort) ∷ []
 
-abbrev pub is_greater : ℕ → Bool
-is_greater c = eqb c greater_code || eqb c greater_or_equal_code
+abbrev pub is_greater : Token → Bool
+is_greater Greater = true
+is_greater GreaterOrEqual = true
+is_greater _ = false
 
 -- the operands' nodes, exchanged by the greater forms
-unfoldable pub arranged : ℕ → List ℕ → List ℕ → List ℕ
+unfoldable pub arranged : Token → List Node → List Node → List Node
 arranged c left right = cond (is_greater c) (right ++ left) (left ++ right)

@@ -1,456 +1,377 @@
-// The nodes of a phrase, composed of those of its parts. A node stands in one cell, its kind times 2^32 plus its parameter.
+// The nodes of a phrase, composed of those of its parts.
 
 #![tactic(auto)]
 
-ghost use Rattle.std.specs.Prelude.{◌≡◌, cond, ◌&&◌, List, ◌∷◌, ◌++◌, map, ℕ, ◌+◌, ◌≤◌, ◌<◌, max, eqb, ltb, length, take, drop};
+ghost use Rattle.std.specs.Prelude.{◌≡◌, cond, ◌&&◌, List, ◌∷◌, ◌++◌, map, ℕ, ◌+◌, ◌≤◌, ◌<◌, true, pos, length, take, drop, set, Some, is_some};
 ghost use Rattle.results.specs.Results.{over};
-ghost use Rattle.kinds.specs.Kinds.{boolean_sort, number_sort};
-ghost use Rattle.grammar.specs.Tokens.{div_code};
+ghost use Rattle.kinds.specs.declared.Sort.{Sort};
+ghost use Rattle.kinds.specs.Kinds.{boolean_sort, same_sort, code_of, kind_of};
 ghost use Rattle.grammar.specs.Phrases.{Phrase};
 ghost use Rattle.grammar.specs.Phrases.Phrase.{numeral, truth, variable, prefixed, operation, call, conditional};
 ghost use Rattle.grammar.specs.Held.{capped};
-ghost use Rattle.composition.specs.Typing.{provided, operation_sort};
-ghost use Rattle.composition.specs.Parts.{kind_in, parameter_in, Holds, Placed, Composed};
-ghost use Rattle.composition.specs.Arranging.{operator_kind, operator_cells, arranged};
+ghost use Rattle.composition.specs.Typing.{provided, operation_sort, call_operator};
+ghost use Rattle.composition.specs.declared.Node.{Node};
+ghost use Rattle.model.specs.Nodes.{node};
+ghost use Rattle.composition.specs.Parts.{held, Holds, Placed, Composed};
+ghost use Rattle.composition.specs.Arranging.{plain, is_greater, equality_kind, operator_kind, operator_cells, arranged};
 
-use grammar::Word;
+use grammar::Token;
+use kinds::{Kind, Sort};
 
-// A phrase as it was read: the places after its words and after its nodes, the depth of its nodes, its sort (0: types do not
-// fit), and whether its variables are all below S+F.
+// A node of an expression.
+#[derive(Clone, Copy)]
+pub struct Node {
+    pub kind: u8,
+    pub parameter: i32,
+}
+
+// A phrase as it was read: the places after its words and after its nodes, the depth of its nodes, its sort (None: types do not
+// fit), and whether its variables are all below S+F (apart from the sort, which the nodes go by whatever `below` is: one Result
+// of both would need a rule for two errors at each operator).
 #[derive(Clone, Copy)]
 pub struct Part {
     pub next: u16,
     pub end: u16,
     pub depth: u16,
-    pub sort: u8,
+    pub sort: Option<Sort>,
     pub below: bool,
 }
 
-// Kinds of nodes.
-const NUMBER: u64 = 32;
-
-const TRUTH: u64 = 33;
-
-const VARIABLE: u64 = 34;
-
-const NEGATION: u64 = 35;
-
-const CONJUNCTION: u64 = 36;
-
-const DISJUNCTION: u64 = 37;
-
-const EQUALITY: u64 = 38;
-
-const LESS: u64 = 39;
-
-const LESS_OR_EQUAL: u64 = 40;
-
-const SUM: u64 = 41;
-
-const DIFFERENCE: u64 = 42;
-
-const PRODUCT: u64 = 43;
-
-const QUOTIENT: u64 = 44;
-
-const REMAINDER: u64 = 45;
-
-const CONDITIONAL: u64 = 46;
-
-const EQUIVALENCE: u64 = 47;
-
-// What a kind is multiplied by in a cell.
-const UNIT: u64 = 4294967296;
-
-// Puts a cell in at place `from`; those from there up to place `end` move up by one, the others stay.
-fn insert(nodes: &mut [u64], from: usize, end: usize, cell: u64)
-    requires { (from ≤ end) × (end < length nodes.old) }
-    ensures { (take (end + 1) nodes.new ≡ take from nodes.old ++ (cell ∷ drop from (take end nodes.old)))
-        × (drop (end + 1) nodes.new ≡ drop (end + 1) nodes.old) }
+// The byte of a kind.
+fn code(kind: Kind) -> u8
+    ensures { result ≡ code_of kind }
 {
-    let mut here = end;
-    while from < here {
-        nodes[here] = nodes[here - 1];
-        here -= 1;
-    }
-    nodes[from] = cell;
+    kind as u8
 }
 
-// Exchanges the cells from place `from` up to `middle` with those from there up to `end`.
-fn exchange(nodes: &mut [u64], from: usize, middle: usize, end: usize)
-    requires { (from ≤ middle) × (middle ≤ end) × (end ≤ length nodes.old) }
-    ensures { take end nodes.new ≡ take from nodes.old ++ (drop middle (take end nodes.old) ++ drop from (take middle nodes.old)) }
+// A node whose parameter is this number; the greatest of 31 bits stands for all from there on.
+fn numbered(kind: Kind, number: u32) -> Node
+    ensures { result ≡ held (node (code_of kind) (pos number)) }
 {
-    let mut i = middle;
-    let mut to = from;
-    while i < end {
-        let cell = nodes[i];
-        insert(nodes, to, i, cell);
-        i += 1;
-        to += 1;
+    let parameter = i32::try_from(number).unwrap_or(i32::MAX);
+    Node {
+        kind: code(kind),
+        parameter,
     }
+}
+
+// Puts a node of this kind in at place `from`; those from there up to place `end` move up by one, the others stay.
+fn insert(nodes: &mut [Node], from: usize, end: usize, kind: Kind)
+    requires { (from ≤ end) × (end < length nodes.old) }
+    ensures { (take (end + 1) nodes.new ≡ take from nodes.old ++ (plain kind ∷ drop from (take end nodes.old)))
+        × (drop (end + 1) nodes.new ≡ drop (end + 1) nodes.old) }
+{
+    nodes[end] = Node {
+        kind: code(kind),
+        parameter: 0,
+    };
+    nodes[from..end + 1].rotate_right(1);
+}
+
+fn is_greater(operator: Token) -> bool
+    ensures { result ≡ is_greater operator }
+{
+    matches!(operator, Token::Greater | Token::GreaterOrEqual)
 }
 
 // Arranges the nodes of two operands of an operator, which meet at place `middle`.
-fn arrange(nodes: &mut [u64], code: u8, from: usize, middle: usize, end: usize)
+fn arrange(nodes: &mut [Node], operator: Token, from: usize, middle: usize, end: usize)
     requires { (from ≤ middle) × (middle ≤ end) × (end ≤ length nodes.old) }
     ensures { take end nodes.new ≡ take from nodes.old
-        ++ arranged code (drop from (take middle nodes.old)) (drop middle (take end nodes.old)) }
+        ++ arranged operator (drop from (take middle nodes.old)) (drop middle (take end nodes.old)) }
 {
-    if code == Word::GREATER {
-        return exchange(nodes, from, middle, end);
-    }
-    if code == Word::GREATER_OR_EQUAL {
-        return exchange(nodes, from, middle, end);
+    if is_greater(operator) {
+        nodes[from..end].rotate_left(middle - from);
     }
 }
 
 // The kind of an operator's node, its left operand being of this sort.
-fn operator_kind(code: u8, sort: u8) -> u64
-    ensures { result ≡ operator_kind code sort }
+#[tactic(auto, unfolding(crate::specs::Arranging::operator_kind))]
+fn operator_kind(operator: Token, sort: Option<Sort>) -> Kind
+    ensures { result ≡ operator_kind operator sort }
 {
-    if code == Word::PLUS {
-        return SUM;
+    match operator {
+        Token::Plus => Kind::Sum,
+        Token::Minus => Kind::Difference,
+        Token::Times => Kind::Product,
+        Token::And => Kind::Conjunction,
+        Token::Or => Kind::Disjunction,
+        Token::Equal | Token::Unequal => equality_kind(sort),
+        Token::Greater | Token::Less => Kind::Less,
+        _ => Kind::LessOrEqual,
     }
-    if code == Word::MINUS {
-        return DIFFERENCE;
-    }
-    if code == Word::TIMES {
-        return PRODUCT;
-    }
-    if code == Word::AND {
-        return CONJUNCTION;
-    }
-    if code == Word::OR {
-        return DISJUNCTION;
-    }
-    if code == Word::EQUAL {
-        return equality_kind(sort);
-    }
-    if code == Word::UNEQUAL {
-        return equality_kind(sort);
-    }
-    if code == Word::GREATER {
-        return LESS;
-    }
-    if code == Word::LESS {
-        return LESS;
-    }
-    LESS_OR_EQUAL
 }
 
-fn equality_kind(sort: u8) -> u64
-    ensures { result ≡ cond (eqb sort number_sort) 38 47 }
+fn equality_kind(sort: Option<Sort>) -> Kind
+    ensures { result ≡ equality_kind sort }
 {
-    if sort == kinds::NUMBER {
-        return EQUALITY;
+    match sort {
+        Some(Sort::Number) => Kind::Equality,
+        _ => Kind::Equivalence,
     }
-    EQUIVALENCE
 }
 
 // Puts the nodes of an operator before those of its operands; the place after them all.
-fn put_operator(nodes: &mut [u64], code: u8, sort: u8, from: usize, end: usize) -> usize
+fn put_operator(
+    nodes: &mut [Node],
+    operator: Token,
+    sort: Option<Sort>,
+    from: usize,
+    end: usize,
+) -> usize
     requires { (from ≤ end) × (end + 2 ≤ length nodes.old) }
-    ensures { (result ≡ end + length (operator_cells code sort))
-        × (take result nodes.new ≡ take from nodes.old ++ (operator_cells code sort ++ drop from (take end nodes.old))) }
+    ensures { (result ≡ end + length (operator_cells operator sort))
+        × (take result nodes.new ≡ take from nodes.old ++ (operator_cells operator sort ++ drop from (take end nodes.old))) }
 {
-    insert(nodes, from, end, UNIT * operator_kind(code, sort));
-    if code == Word::UNEQUAL {
-        insert(nodes, from, end + 1, UNIT * NEGATION);
-        return end + 2;
+    insert(nodes, from, end, operator_kind(operator, sort));
+    match operator {
+        Token::Unequal => {
+            insert(nodes, from, end + 1, Kind::Negation);
+            end + 2
+        }
+        _ => end + 1,
     }
-    end + 1
 }
 
-// The sort where the test holds, else none.
-fn provided_that(fits: bool, sort: u8) -> u8
-    ensures { result ≡ provided fits sort }
+// This sort, if it is the wanted one.
+fn only(sort: Option<Sort>, wanted: Sort) -> Option<Sort>
+    ensures { result ≡ provided (same_sort sort (Some wanted)) (Some wanted) }
 {
-    if fits {
-        return sort;
-    }
-    kinds::NO_SORT
+    let sort = sort?;
+    (sort == wanted).then_some(wanted)
 }
 
-// This sort where both operands have the wanted one, else none.
-fn sort_of_both(left: u8, right: u8, wanted: u8, sort: u8) -> u8
-    ensures { result ≡ provided (eqb left wanted && eqb right wanted) sort }
+// A sort, if both operands are of the wanted one.
+fn of_both(left: Option<Sort>, right: Option<Sort>, wanted: Sort, sort: Sort) -> Option<Sort>
+    ensures { result ≡ provided (same_sort left (Some wanted) && same_sort right (Some wanted)) (Some sort) }
 {
-    if left != wanted {
-        return kinds::NO_SORT;
-    }
-    provided_that(right == wanted, sort)
+    let left = left?;
+    let right = right?;
+    ((left == wanted) & (right == wanted)).then_some(sort)
 }
 
 // Of `==` and `!=`: the operands have the same sort.
-fn equality_sort(left: u8, right: u8) -> u8
-    ensures { result ≡ provided (ltb 0 left && eqb left right) boolean_sort }
+fn equality_sort(left: Option<Sort>, right: Option<Sort>) -> Option<Sort>
+    ensures { result ≡ provided (is_some left && same_sort left right) boolean_sort }
 {
-    if left == kinds::NO_SORT {
-        return kinds::NO_SORT;
-    }
-    provided_that(left == right, kinds::BOOLEAN)
+    of_both(left, right, left?, Sort::Boolean)
 }
 
 // The sort of an operator between operands of these sorts.
-fn operation_sort(code: u8, left: u8, right: u8) -> u8
-    ensures { result ≡ operation_sort code left right }
+#[tactic(auto, unfolding(crate::specs::Typing::operation_sort))]
+fn operation_sort(operator: Token, left: Option<Sort>, right: Option<Sort>) -> Option<Sort>
+    ensures { result ≡ operation_sort operator left right }
 {
-    if code == Word::PLUS {
-        return sort_of_both(left, right, kinds::NUMBER, kinds::NUMBER);
-    }
-    if code == Word::MINUS {
-        return sort_of_both(left, right, kinds::NUMBER, kinds::NUMBER);
-    }
-    if code == Word::TIMES {
-        return sort_of_both(left, right, kinds::NUMBER, kinds::NUMBER);
-    }
-    if code == Word::AND {
-        return sort_of_both(left, right, kinds::BOOLEAN, kinds::BOOLEAN);
-    }
-    if code == Word::OR {
-        return sort_of_both(left, right, kinds::BOOLEAN, kinds::BOOLEAN);
-    }
-    if code == Word::EQUAL {
-        return equality_sort(left, right);
-    }
-    if code == Word::UNEQUAL {
-        return equality_sort(left, right);
-    }
-    sort_of_both(left, right, kinds::NUMBER, kinds::BOOLEAN)
-}
-
-fn deeper(first: u16, second: u16) -> u16
-    ensures { result ≡ max first second }
-{
-    if first < second {
-        return second;
-    }
-    first
-}
-
-fn are_both(first: bool, second: bool) -> bool
-    ensures { result ≡ first && second }
-{
-    if first {
-        return second;
-    }
-    false
-}
-
-// A number.
-pub fn numeral(nodes: &mut [u64], from: u16, number: u32, next: u16) -> Part
-    requires { (from < length nodes.old) × (length nodes.old ≤ 400) }
-    ensures composed { Composed from from next result }
-    ensures holds { (vs : List ℕ) (n : ℕ) → number ≡ capped n
-        → Holds vs (numeral n) (take from nodes.old) nodes.new result }
-{
-    nodes[from as usize] = UNIT * NUMBER + number as u64;
-    Part {
-        next,
-        end: from + 1,
-        depth: 1,
-        sort: kinds::NUMBER,
-        below: true,
+    match operator {
+        Token::Plus | Token::Minus | Token::Times => {
+            of_both(left, right, Sort::Number, Sort::Number)
+        }
+        Token::And | Token::Or => of_both(left, right, Sort::Boolean, Sort::Boolean),
+        Token::Equal | Token::Unequal => equality_sort(left, right),
+        _ => of_both(left, right, Sort::Number, Sort::Boolean),
     }
 }
 
-// True (1) or false (0).
-pub fn truth(nodes: &mut [u64], from: u16, value: u8, next: u16) -> Part
-    requires { (from < length nodes.old) × (length nodes.old ≤ 400) }
-    ensures composed { Composed from from next result }
-    ensures holds { (vs : List ℕ)
-        → Holds vs (truth value) (take from nodes.old) nodes.new result }
+// The kind of a call's node.
+#[tactic(auto, unfolding(crate::specs::Typing::call_operator, kinds::specs::Kinds::kind_of))]
+fn call_kind(function: Token) -> Kind
+    ensures { code_of result ≡ kind_of (call_operator function) }
 {
-    nodes[from as usize] = UNIT * TRUTH + value as u64;
-    Part {
-        next,
-        end: from + 1,
-        depth: 1,
-        sort: kinds::BOOLEAN,
-        below: true,
+    match function {
+        Token::Div => Kind::Quotient,
+        _ => Kind::Remainder,
     }
 }
 
-// A variable.
-pub fn variable(nodes: &mut [u64], sorts: &[u8], from: u16, number: u32, next: u16) -> Part
-    requires { (from < length nodes.old) × (length nodes.old ≤ 400) × (length sorts.now ≤ 4294967295) }
-    ensures composed { Composed from from next result }
-    ensures holds { (x : ℕ) → number ≡ capped x
-        → Holds sorts.now (variable x) (take from nodes.old) nodes.new result }
+// The sort of if-then-else.
+fn choice_sort(condition: Option<Sort>, first: Option<Sort>, second: Option<Sort>) -> Option<Sort>
+    ensures { result ≡ provided (same_sort condition boolean_sort && same_sort first second) first }
 {
-    nodes[from as usize] = UNIT * VARIABLE + number as u64;
-    let place = number as usize;
-    if place < sorts.len() {
-        return Part {
+    let condition = condition?;
+    let first = first?;
+    let second = second?;
+    ((condition == Sort::Boolean) & (first == second)).then_some(first)
+}
+
+// A part is composed of others, whose nodes stand one after another from place `from` on.
+impl Part {
+    // One node alone.
+    fn leaf(nodes: &mut [Node], from: u16, node: Node, sort: Option<Sort>, next: u16) -> Part
+        requires { (from < length nodes.old) × (length nodes.old ≤ 400) }
+        ensures stored { nodes.new ≡ set nodes.old from node }
+        ensures part { result ≡ record { next = next; end = from + 1; depth = 1; sort = sort; below = true } }
+    {
+        nodes[from as usize] = node;
+        Part {
             next,
             end: from + 1,
             depth: 1,
-            sort: sorts[place],
+            sort,
             below: true,
-        };
+        }
     }
-    Part {
-        next,
-        end: from + 1,
-        depth: 1,
-        sort: kinds::NO_SORT,
-        below: false,
+
+    // A number.
+    pub fn numeral(nodes: &mut [Node], from: u16, number: u32, next: u16) -> Part
+        requires { (from < length nodes.old) × (length nodes.old ≤ 400) }
+        ensures composed { Composed from from next result }
+        ensures holds { (vs : List Sort) (n : ℕ) → number ≡ capped n
+            → Holds vs (numeral n) (take from nodes.old) nodes.new result }
+    {
+        let node = numbered(Kind::Numeral, number);
+        Part::leaf(nodes, from, node, Some(Sort::Number), next)
+    }
+
+    // True (1) or false (0).
+    pub fn truth(nodes: &mut [Node], from: u16, value: u8, next: u16) -> Part
+        requires { (from < length nodes.old) × (length nodes.old ≤ 400) }
+        ensures composed { Composed from from next result }
+        ensures holds { (vs : List Sort)
+            → Holds vs (truth value) (take from nodes.old) nodes.new result }
+    {
+        let node = numbered(Kind::Truth, u32::from(value));
+        Part::leaf(nodes, from, node, Some(Sort::Boolean), next)
+    }
+
+    // A variable.
+    pub fn variable(nodes: &mut [Node], sorts: &[Sort], from: u16, number: u32, next: u16) -> Part
+        requires { (from < length nodes.old) × (length nodes.old ≤ 400) × (length sorts.now ≤ 4294967295) }
+        ensures composed { Composed from from next result }
+        ensures holds { (x : ℕ) → number ≡ capped x
+            → Holds sorts.now (variable x) (take from nodes.old) nodes.new result }
+    {
+        let node = numbered(Kind::Variable, number);
+        match sorts.get(number as usize) {
+            Some(sort) => Part::leaf(nodes, from, node, Some(*sort), next),
+            None => Part {
+                below: false,
+                ..Part::leaf(nodes, from, node, None, next)
+            },
+        }
+    }
+
+    // A phrase in parentheses: the same nodes.
+    pub fn enclosed(self, next: u16) -> Part
+        ensures { result ≡ record self { next = next } }
+    {
+        Part { next, ..self }
+    }
+
+    // Not, a minus sign (0 minus its operand) or a plus sign (no node, but it wants a number).
+    pub fn prefixed(self, nodes: &mut [Node], from: u16, operator: Token) -> Part
+        requires { Placed from self × (self.end + 2 ≤ length nodes.old) × (length nodes.old ≤ 400) }
+        ensures composed { Composed from self.end self.next result }
+        ensures holds { (vs : List Sort) (p : Phrase) (before : List Node) → length before ≡ from
+            → Holds vs p before nodes.old self → Holds vs (prefixed operator p) before nodes.new result }
+    {
+        let begin = from as usize;
+        let end = self.end as usize;
+        match operator {
+            Token::Not => {
+                insert(nodes, begin, end, Kind::Negation);
+                Part {
+                    end: self.end + 1,
+                    depth: self.depth + 1,
+                    sort: only(self.sort, Sort::Boolean),
+                    ..self
+                }
+            }
+            Token::Minus => {
+                insert(nodes, begin, end, Kind::Numeral);
+                insert(nodes, begin, end + 1, Kind::Difference);
+                Part {
+                    end: self.end + 2,
+                    depth: self.depth + 1,
+                    sort: only(self.sort, Sort::Number),
+                    ..self
+                }
+            }
+            _ => Part {
+                sort: only(self.sort, Sort::Number),
+                ..self
+            },
+        }
+    }
+
+    // An operator between this operand and the right one.
+    pub fn operated(self, nodes: &mut [Node], from: u16, operator: Token, right: Part) -> Part
+        requires { Placed from self × Placed self.end right × (right.end + 2 ≤ length nodes.old) × (length nodes.old ≤ 400) }
+        ensures composed { Composed from right.end right.next result }
+        ensures holds { (vs : List Sort) (p q : Phrase) (before cells : List Node) → length before ≡ from → self.end ≤ length cells
+            → Holds vs p before cells self → Holds vs q (take self.end cells) nodes.old right
+            → Holds vs (operation operator p q) before nodes.new result }
+    {
+        let middle = self.end as usize;
+        let last = right.end as usize;
+        arrange(nodes, operator, from as usize, middle, last);
+        let end = put_operator(nodes, operator, self.sort, from as usize, last);
+        Part {
+            next: right.next,
+            end: end as u16,
+            depth: self.depth.max(right.depth) + (end - last) as u16,
+            sort: operation_sort(operator, self.sort, right.sort),
+            below: self.below & right.below,
+        }
+    }
+
+    // A call of div or mod, which ends before place `next`.
+    pub fn called(
+        self,
+        nodes: &mut [Node],
+        from: u16,
+        function: Token,
+        right: Part,
+        next: u16,
+    ) -> Part
+        requires { Placed from self × Placed self.end right × (right.end + 2 ≤ length nodes.old) × (length nodes.old ≤ 400) }
+        ensures composed { Composed from right.end next result }
+        ensures holds { (vs : List Sort) (p q : Phrase) (before cells : List Node) → length before ≡ from
+            → Holds vs p before cells self → Holds vs q (take self.end cells) nodes.old right
+            → Holds vs (call function p q) before nodes.new result }
+    {
+        insert(
+            nodes,
+            from as usize,
+            right.end as usize,
+            call_kind(function),
+        );
+        Part {
+            next,
+            end: right.end + 1,
+            depth: self.depth.max(right.depth) + 1,
+            sort: of_both(self.sort, right.sort, Sort::Number, Sort::Number),
+            below: self.below & right.below,
+        }
+    }
+
+    // If-then-else, by its condition.
+    pub fn chosen(self, nodes: &mut [Node], from: u16, first: Part, second: Part) -> Part
+        requires { Placed from self × Placed self.end first × Placed first.end second × (second.end + 2 ≤ length nodes.old) × (length nodes.old ≤ 400) }
+        ensures composed { Composed from second.end second.next result }
+        ensures holds { (vs : List Sort) (p q s : Phrase) (before cells others : List Node) → length before ≡ from
+            → Holds vs p before cells self → Holds vs q (take self.end cells) others first
+            → Holds vs s (take first.end others) nodes.old second
+            → Holds vs (conditional p q s) before nodes.new result }
+    {
+        insert(nodes, from as usize, second.end as usize, Kind::Conditional);
+        Part {
+            next: second.next,
+            end: second.end + 1,
+            depth: self.depth.max(first.depth.max(second.depth)) + 1,
+            sort: choice_sort(self.sort, first.sort, second.sort),
+            below: self.below & first.below & second.below,
+        }
     }
 }
 
-// A phrase in parentheses: the same nodes.
-pub fn enclosed(part: Part, next: u16) -> Part
-    ensures { result ≡ record { next = next; end = part.end; depth = part.depth; sort = part.sort; below = part.below } }
+// Writes the nodes into two slices, the kinds and the parameters.
+pub fn unpack(nodes: &[Node], kinds: &mut [u8], parameters: &mut [i32])
+    requires { (length nodes.now ≤ length kinds.old) × (length nodes.now ≤ length parameters.old) }
+    ensures { (kinds.new ≡ over (map (λ n. n.kind) nodes.now) kinds.old)
+        × (parameters.new ≡ over (map (λ n. n.parameter) nodes.now) parameters.old) }
 {
-    Part {
-        next,
-        end: part.end,
-        depth: part.depth,
-        sort: part.sort,
-        below: part.below,
-    }
-}
-
-// Not, a minus sign (0 minus its operand) or a plus sign (no node, but it wants a number).
-pub fn prefixed(nodes: &mut [u64], from: u16, code: u8, operand: Part) -> Part
-    requires { Placed from operand × (operand.end + 2 ≤ length nodes.old) × (length nodes.old ≤ 400) }
-    ensures composed { Composed from operand.end operand.next result }
-    ensures holds { (vs : List ℕ) (p : Phrase) (before : List ℕ) → length before ≡ from
-        → Holds vs p before nodes.old operand → Holds vs (prefixed code p) before nodes.new result }
-{
-    let end = operand.end;
-    let below = operand.below;
-    if code == Word::NOT {
-        insert(nodes, from as usize, end as usize, UNIT * NEGATION);
-        let sort = provided_that(operand.sort == kinds::BOOLEAN, kinds::BOOLEAN);
-        return Part {
-            next: operand.next,
-            end: end + 1,
-            depth: operand.depth + 1,
-            sort,
-            below,
-        };
-    }
-    let sort = provided_that(operand.sort == kinds::NUMBER, kinds::NUMBER);
-    if code == Word::MINUS {
-        insert(nodes, from as usize, end as usize, UNIT * NUMBER);
-        insert(nodes, from as usize, end as usize + 1, UNIT * DIFFERENCE);
-        return Part {
-            next: operand.next,
-            end: end + 2,
-            depth: operand.depth + 1,
-            sort,
-            below,
-        };
-    }
-    Part {
-        next: operand.next,
-        end,
-        depth: operand.depth,
-        sort,
-        below,
-    }
-}
-
-// An operator between two operands.
-pub fn operated(nodes: &mut [u64], from: u16, code: u8, left: Part, right: Part) -> Part
-    requires { Placed from left × Placed left.end right × (right.end + 2 ≤ length nodes.old) × (length nodes.old ≤ 400) }
-    ensures composed { Composed from right.end right.next result }
-    ensures holds { (vs : List ℕ) (p q : Phrase) (before cells : List ℕ) → length before ≡ from → left.end ≤ length cells
-        → Holds vs p before cells left → Holds vs q (take left.end cells) nodes.old right
-        → Holds vs (operation code p q) before nodes.new result }
-{
-    let middle = left.end as usize;
-    let last = right.end as usize;
-    arrange(nodes, code, from as usize, middle, last);
-    let end = put_operator(nodes, code, left.sort, from as usize, last);
-    let depth = deeper(left.depth, right.depth) + (end - last) as u16;
-    let sort = operation_sort(code, left.sort, right.sort);
-    let below = are_both(left.below, right.below);
-    Part {
-        next: right.next,
-        end: end as u16,
-        depth,
-        sort,
-        below,
-    }
-}
-
-// A call of div or mod, which ends before place `next`.
-pub fn called(nodes: &mut [u64], from: u16, code: u8, left: Part, right: Part, next: u16) -> Part
-    requires { Placed from left × Placed left.end right × (right.end + 2 ≤ length nodes.old) × (length nodes.old ≤ 400) }
-    ensures composed { Composed from right.end next result }
-    ensures holds { (vs : List ℕ) (p q : Phrase) (before cells : List ℕ) → length before ≡ from
-        → Holds vs p before cells left → Holds vs q (take left.end cells) nodes.old right
-        → Holds vs (call code p q) before nodes.new result }
-{
-    let end = right.end;
-    insert(nodes, from as usize, end as usize, UNIT * call_kind(code));
-    let depth = deeper(left.depth, right.depth) + 1;
-    let sort = sort_of_both(left.sort, right.sort, kinds::NUMBER, kinds::NUMBER);
-    let below = are_both(left.below, right.below);
-    Part {
-        next,
-        end: end + 1,
-        depth,
-        sort,
-        below,
-    }
-}
-
-fn call_kind(code: u8) -> u64
-    ensures { result ≡ cond (eqb code div_code) 44 45 }
-{
-    if code == Word::DIV {
-        return QUOTIENT;
-    }
-    REMAINDER
-}
-
-// If-then-else.
-pub fn chosen(nodes: &mut [u64], from: u16, condition: Part, first: Part, second: Part) -> Part
-    requires { Placed from condition × Placed condition.end first × Placed first.end second × (second.end + 2 ≤ length nodes.old) × (length nodes.old ≤ 400) }
-    ensures composed { Composed from second.end second.next result }
-    ensures holds { (vs : List ℕ) (p q s : Phrase) (before cells others : List ℕ) → length before ≡ from
-        → Holds vs p before cells condition → Holds vs q (take condition.end cells) others first
-        → Holds vs s (take first.end others) nodes.old second
-        → Holds vs (conditional p q s) before nodes.new result }
-{
-    let end = second.end;
-    insert(nodes, from as usize, end as usize, UNIT * CONDITIONAL);
-    let depth = deeper(condition.depth, deeper(first.depth, second.depth)) + 1;
-    let sort = choice_sort(condition.sort, first.sort, second.sort);
-    let below = are_both(condition.below, are_both(first.below, second.below));
-    Part {
-        next: second.next,
-        end: end + 1,
-        depth,
-        sort,
-        below,
-    }
-}
-
-fn choice_sort(condition: u8, first: u8, second: u8) -> u8
-    ensures { result ≡ provided (eqb condition boolean_sort && eqb first second) first }
-{
-    if condition != kinds::BOOLEAN {
-        return kinds::NO_SORT;
-    }
-    provided_that(first == second, first)
-}
-
-// Takes nodes apart that stand in one cell each.
-pub fn unpack(cells: &[u64], kinds: &mut [u8], parameters: &mut [i32])
-    requires { (length cells.now ≤ length kinds.old) × (length cells.now ≤ length parameters.old) }
-    ensures { (kinds.new ≡ over (map kind_in cells.now) kinds.old)
-        × (parameters.new ≡ over (map parameter_in cells.now) parameters.old) }
-{
-    let mut i = 0;
-    while i < cells.len() {
-        let cell = cells[i];
-        kinds[i] = (cell / UNIT % 256) as u8;
-        parameters[i] = (cell % 2147483648) as i32;
-        i += 1;
+    for (i, node) in nodes.iter().enumerate() {
+        kinds[i] = node.kind;
+        parameters[i] = node.parameter;
     }
 }

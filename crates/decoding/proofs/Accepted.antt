@@ -8,9 +8,10 @@ use borrow.Author.Tests.{ltb-false}
 use lib.Dec.{ltb}
 use lib.IntN.{ℤ}
 use lib.ListN.{length, take-append-drop}
+use Rattle.std.specs.Prelude.{Result, Ok, Err}
+use Rattle.results.specs.declared.refusal.Refusal.{Refusal}
+use Rattle.results.specs.declared.refusal.Refusal.TheVariants.{NodesLeftOver}
 use Rattle.model.specs.declared.Sizes.{Sizes}
-use Rattle.model.specs.declared.Sized.{Sized}
-use Rattle.model.specs.declared.Sized.TheVariants.{Refused, Read}
 use Rattle.model.specs.Trees.{Instruction, Variable, Transition, System, variables, sorts_of}
 use Rattle.model.specs.Sizes.{byte_layout, sized}
 use Rattle.model.specs.Walk.{Walk, variable_at, transition_at, row_at, scope_of}
@@ -118,7 +119,7 @@ module _ (ks : List ℕ) (ps : List ℤ) (long : length ps ≡ length ks) (s : S
       (λ t next p. go t next p (ltb next (length ks)) refl)) e
     where
       go : (t : System) (next : ℕ) → Parts ks ps s (variables t) t.transitions t.assertion next → (b : Bool) → ltb next (length ks) ≡ b
-          → Holds (λ t next. SystemRead ks ps s t) (cond b (refused 8) (found t next))
+          → Holds (λ t next. SystemRead ks ps s t) (cond b (refused NodesLeftOver) (found t next))
       go t next p true q = tt
       go t next p false q = whole t next (ltb-false next (length ks) q) p
 
@@ -129,7 +130,7 @@ pub record FileRead (m : List ℕ) (s : Sizes) (t : System) : Type 0 where
   pub system : SystemRead (kinds_in byte_layout s.nodes m) (parameters_in byte_layout s.nodes m) s t
 
 module _ (m : List ℕ) where
-  walked_read : (s : Sizes) (t : System) → sized byte_layout m ≡ Read s → (next : ℕ) → walked_in byte_layout m s ≡ found t next → FileRead m s t
+  walked_read : (s : Sizes) (t : System) → sized byte_layout m ≡ Ok s → (next : ℕ) → walked_in byte_layout m s ≡ found t next → FileRead m s t
   walked_read s t r next e =
       let h = sized_read m s r in
       record {
@@ -140,18 +141,18 @@ module _ (m : List ℕ) where
             (ap (λ n. complete n (system_at (kinds_in byte_layout s.nodes m) (parameters_in byte_layout s.nodes m) s)) (kinds_length m s h) ∙ e);
       }
 
-  verdict_walk : (r s : Sizes) (t : System) → sized byte_layout m ≡ Read r → (w : Walk System) → walked_in byte_layout m r ≡ w → verdict_of r w ≡ accepted s t → FileRead m s t
+  verdict_walk : (r s : Sizes) (t : System) → sized byte_layout m ≡ Ok r → (w : Walk System) → walked_in byte_layout m r ≡ w → verdict_of r w ≡ accepted s t → FileRead m s t
   unfolding verdict_of
-  verdict_walk r s t h (refused n) e v = let z : ◌≡◌ {A = ℕ} 0 1 = cc in absurd (omega arith)
+  verdict_walk r s t h (refused n) e v = cc
   verdict_walk r s t h (found t' next) e v =
       let p : r ≡ s = cc in
       let q : t' ≡ t = cc in
       subst (λ s. FileRead m s t) p (walked_read r t h next (e ∙ ap (λ t. found t next) q))
 
-  verdict_sized : (z : Sized) → sized byte_layout m ≡ z → (s : Sizes) (t : System) → verdict_in byte_layout m z ≡ accepted s t → FileRead m s t
+  verdict_sized : (z : Result Sizes Refusal) → sized byte_layout m ≡ z → (s : Sizes) (t : System) → verdict_in byte_layout m z ≡ accepted s t → FileRead m s t
   unfolding verdict_in
-  verdict_sized (Refused n) h s t v = let z : ◌≡◌ {A = ℕ} 0 1 = cc in absurd (omega arith)
-  verdict_sized (Read r) h s t v = verdict_walk r s t h (walked_in byte_layout m r) refl v
+  verdict_sized (Err n) h s t v = cc
+  verdict_sized (Ok r) h s t v = verdict_walk r s t h (walked_in byte_layout m r) refl v
 
   pub accepted_file : (s : Sizes) (t : System) → verdict m ≡ accepted s t → FileRead m s t
   unfolding verdict

@@ -29,7 +29,7 @@ module _ (ks : List ℕ) (ps : List ℤ) where
   pub transition_at_lem : (ts : List Transition) (at k : ℕ) (t : Transition) → TransitionsAt ks ps ts at → get_elem? ts k ≡ some t
       → TransitionAt ks ps t (get_or (guard_places ts at) k 0)
   unfolding TransitionsAt guard_places size_of_transition
-  transition_at_lem [] at k t h e = let z : ◌≡◌ {A = ℕ} 0 1 = cc in absurd (omega arith)
+  transition_at_lem [] at k t h e = cc
   transition_at_lem (u ∷ ts) at zero t h e =
       let z : u ≡ t = cc in subst (λ t. TransitionAt ks ps t (at + 1)) z (record { guard = h.1; action = h.2 })
   transition_at_lem (u ∷ ts) at (suc k) t h e =

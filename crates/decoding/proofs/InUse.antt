@@ -7,6 +7,8 @@ use mir.Syntax.{w8}
 use mir.Val.{Fits}
 use lib.ListN.{length, get_or, take, drop, length-take, length-map}
 use lib.Seq.{take_at}
+use Rattle.std.specs.Prelude.{Result, Ok, Err}
+use Rattle.results.specs.declared.refusal.Refusal.{Refusal}
 use Rattle.results.specs.Results.{answered, over}
 use Rattle.model.specs.declared.Sizes.{Sizes}
 use Rattle.model.specs.declared.Model.{Model}
@@ -18,8 +20,6 @@ use Rattle.model.specs.Theorems.{Bytes}
 use Rattle.model.proofs.LittleBytes.{all_bytes, parameters_length}
 use Rattle.model.proofs.CheckExact.{kinds_length, sized_fits}
 use Rattle.variables.specs.Rows.{variable_row}
-use Rattle.decoding.specs.declared.Prepared.{Prepared}
-use Rattle.decoding.specs.declared.Prepared.TheVariants.{Refused, Ready}
 use Rattle.decoding.specs.Decoding.{Decoded, Arrays, decoded_over, prepared_by, assertion_place}
 use Rattle.decoding.proofs.Accepted.{accepted_file}
 use Rattle.decoding.proofs.Places.{nexts_length}
@@ -92,28 +92,28 @@ module _ (m : List ℕ) (b : Bytes m) (old : Arrays) where
         guards_decoded = take_over _ old.guards _ (guards_length t.transitions _ ∙ f.system.number_of_transitions);
       })
 
-  ready_by : (v : Verdict) → verdict m ≡ v → (d : Model) (left : Arrays) → answered (Ready d) left ≡ prepared_by m old v → InUse m left d
+  ready_by : (v : Verdict) → verdict m ≡ v → (d : Model) (left : Arrays) → answered (Ok d) left ≡ prepared_by m old v → InUse m left d
   unfolding prepared_by
   ready_by (refusal n) h d left e =
-      let a : Ready d ≡ Refused n = ap (λ p. p.answer) e in
-      let z : ◌≡◌ {A = ℕ} 0 1 = cc in absurd (omega arith)
+      let a : Ok d ≡ Err n = ap (λ p. p.answer) e in
+      cc
   ready_by (accepted s t) h d left e =
-      let a : Ready d ≡ Ready (record { sizes = s; assertion = assertion_place t }) = ap (λ p. p.answer) e in
+      let a : Ok d ≡ Ok (record { sizes = s; assertion = assertion_place t }) = ap (λ p. p.answer) e in
       let z : d ≡ record { sizes = s; assertion = assertion_place t } = cc in
       subst (InUse m left) (sym z) (subst (λ left. InUse m left (record { sizes = s; assertion = assertion_place t })) (sym (ap (λ p. p.left) e)) (accepted_used s t h))
 
 -- a file that was accepted
-pub in_use_lem : (m : List ℕ) → ((i : ℕ) → Fits w8 (get_or m i 0)) → (old new : Arrays) (r : Prepared) (d : Model)
-    → answered r new ≡ prepared_by m old (verdict m) → r ≡ Ready d → InUse m new d
+pub in_use_lem : (m : List ℕ) → ((i : ℕ) → Fits w8 (get_or m i 0)) → (old new : Arrays) (r : Result Model Refusal) (d : Model)
+    → answered r new ≡ prepared_by m old (verdict m) → r ≡ Ok d → InUse m new d
 in_use_lem m bytes old new r d e ready =
     ready_by m (λ i h. (bytes i).fits) old (verdict m) refl d new (ap (λ x. answered x new) (sym ready) ∙ e)
 
 -- a file that was refused
-pub refused_verdict : (m : List ℕ) (old new : Arrays) (r : Prepared) (n : ℕ) (v : Verdict) → answered r new ≡ prepared_by m old v → r ≡ Refused n → v ≡ refusal n
+pub refused_verdict : (m : List ℕ) (old new : Arrays) (r : Result Model Refusal) (n : Refusal) (v : Verdict) → answered r new ≡ prepared_by m old v → r ≡ Err n → v ≡ refusal n
 unfolding prepared_by
 refused_verdict m old new r n (refusal k) e h =
-    let a : Refused k ≡ Refused n = sym (ap (λ p. p.answer) e) ∙ h in
+    let a : ◌≡◌ {A = Result Model Refusal} (Err k) (Err n) = sym (ap (λ p. p.answer) e) ∙ h in
     let z : k ≡ n = cc in ap refusal z
 refused_verdict m old new r n (accepted s t) e h =
-    let a : Ready (record { sizes = s; assertion = assertion_place t }) ≡ Refused n = sym (ap (λ p. p.answer) e) ∙ h in
-    let z : ◌≡◌ {A = ℕ} 0 1 = cc in absurd (omega arith)
+    let a : ◌≡◌ {A = Result Model Refusal} (Ok (record { sizes = s; assertion = assertion_place t })) (Err n) = sym (ap (λ p. p.answer) e) ∙ h in
+    cc

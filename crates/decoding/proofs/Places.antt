@@ -5,10 +5,11 @@ use mathlib.Core.List.{List, [], ◌∷◌, ◌++◌, append-nil, flat_map}
 use Prim.Native.Nat.{ℕ, suc, ◌+◌, ◌≤◌, ◌<◌}
 use native.Mathlib.Numerals.{add-one}
 use native.Mathlib.Omega.{arith}
-use lib.Dec.{eqb}
 use lib.IntN.{ℤ, pos}
 use lib.ListN.{length, get_or, take, drop, replicate, length-replicate, length-append, take-append-drop, drop_of_length-le}
 use lib.Seq.{drop-cons, drop-drop, take-add, length-take-le}
+use Rattle.kinds.specs.declared.Sort.TheVariants.{Boolean}
+use Rattle.kinds.specs.Kinds.{is_sort}
 use Rattle.evaluation.specs.declared.Operator.{Operator}
 use Rattle.evaluation.specs.declared.Operator.TheVariants.{Conjunction, Disjunction, Equality, Less, LessOrEqual, Sum, Difference, Product, Quotient, Remainder, Equivalence}
 use Rattle.kinds.specs.Kinds.{children_of, kind_of}
@@ -41,7 +42,7 @@ operator_children Equivalence = refl
 
 variable_size : (v : Variable) → length (nodes_of_variable v) ≡ size_of_variable v
 unfolding nodes_of_variable size_of_variable
-variable_size v = go (eqb v.sort 1)
+variable_size v = go (is_sort v.sort Boolean)
   where
     go : (t : Bool) → length (cond t (node 1 v.first ∷ []) (node 2 v.low ∷ node 3 v.high ∷ node 4 v.first ∷ [])) ≡ cond t 1 3
     go true = refl
@@ -190,9 +191,9 @@ module _ (ks : List ℕ) (ps : List ℤ) where
             entries_append (size_of i) (size_of_all is) at (instruction_list i at h.0) (branches_list is (at + size_of i) h.1)
 
       variable_list : (v : Variable) (at : ℕ) → NodesAt ks ps (nodes_of_variable v) at
-          → take (size_of_variable v) (drop at nexts) ≡ cond (eqb v.sort 1) ((at + 1) ∷ []) ((at + 1) ∷ (at + 2) ∷ (at + 3) ∷ [])
+          → take (size_of_variable v) (drop at nexts) ≡ cond (is_sort v.sort Boolean) ((at + 1) ∷ []) ((at + 1) ∷ (at + 2) ∷ (at + 3) ∷ [])
       unfolding nodes_of_variable size_of_variable NodesAt children_by children_of following
-      variable_list v at h = go (eqb v.sort 1) h
+      variable_list v at h = go (is_sort v.sort Boolean) h
         where
           go : (t : Bool) → NodesAt ks ps (cond t (node 1 v.first ∷ []) (node 2 v.low ∷ node 3 v.high ∷ node 4 v.first ∷ [])) at
               → take (cond t 1 3) (drop at nexts) ≡ cond t ((at + 1) ∷ []) ((at + 1) ∷ (at + 2) ∷ (at + 3) ∷ [])

@@ -6,18 +6,19 @@ use Prim.Native.Nat.{ℕ, ◌+◌, ◌≤◌}
 use native.Mathlib.Omega.{arith}
 use mir.Syntax.{w8}
 use mir.Val.{Fits as Byte}
-use lib.Dec.{eqb}
 use lib.IntN.{ℤ}
 use lib.ListN.{length, get_or, take, drop, length-append}
 use lib.Seq.{take_at, drop_at, length-take-le}
+use Rattle.std.specs.Prelude.{Ok, Err}
+use Rattle.results.specs.declared.refusal.Refusal.{Refusal}
+use Rattle.kinds.specs.declared.Sort.TheVariants.{Boolean}
+use Rattle.kinds.specs.Kinds.{is_sort}
 use Rattle.model.specs.declared.Sizes.{Sizes}
-use Rattle.model.specs.declared.Checked.TheVariants as checked
 use Rattle.model.specs.Trees.{Variable, Transition, System, variables}
 use Rattle.model.specs.Sizes.{byte_layout}
 use Rattle.model.specs.Check.{Verdict, verdict, answer_of, kinds_in, parameters_in, parameters_at}
 use Rattle.model.specs.Check.Verdict.{refusal, accepted}
 use Rattle.decoding.specs.NextPlaces.{filled}
-use Rattle.decoding.specs.declared.Prepared.TheVariants.{Refused, Ready}
 use Rattle.model.specs.Standing.{size_of_transitions}
 use Rattle.results.specs.Results.{over, answered}
 use Rattle.variables.specs.Rows.{variable_rows}
@@ -30,25 +31,25 @@ use Rattle.decoding.proofs.Places.{filled_nexts}
 
 -- ---- the answer of the check
 
-pub answer_refused : (n : ℕ) (v : Verdict) → answer_of v ≡ checked.Refused n → v ≡ refusal n
+pub answer_refused : (n : Refusal) (v : Verdict) → answer_of v ≡ Err n → v ≡ refusal n
 unfolding answer_of
 answer_refused n (refusal k) e = let z : k ≡ n = cc in ap refusal z
-answer_refused n (accepted s t) e = let z : ◌≡◌ {A = ℕ} 0 1 = cc in absurd (omega arith)
+answer_refused n (accepted s t) e = cc
 
 module _ (m : List ℕ) (s : Sizes) where
-  answer_by : (v : Verdict) → verdict m ≡ v → answer_of v ≡ checked.Accepted s → (t : System) × (verdict m ≡ accepted s t)
+  answer_by : (v : Verdict) → verdict m ≡ v → answer_of v ≡ Ok s → (t : System) × (verdict m ≡ accepted s t)
   unfolding answer_of
-  answer_by (refusal n) h e = let z : ◌≡◌ {A = ℕ} 0 1 = cc in absurd (omega arith)
+  answer_by (refusal n) h e = cc
   answer_by (accepted r t) h e = let z : r ≡ s = cc in (t, h ∙ ap (λ s. accepted s t) z)
 
-  pub answer_accepted : answer_of (verdict m) ≡ checked.Accepted s → (t : System) × (verdict m ≡ accepted s t)
+  pub answer_accepted : answer_of (verdict m) ≡ Ok s → (t : System) × (verdict m ≡ accepted s t)
   answer_accepted e = answer_by (verdict m) refl e
 
-  pub answer_sizes : answer_of (verdict m) ≡ checked.Accepted s → SizedAs m s
+  pub answer_sizes : answer_of (verdict m) ≡ Ok s → SizedAs m s
   answer_sizes e = let a = answer_accepted e in (accepted_file m s a.0 a.1).sizes
 
   -- the sizes that stand in one byte
-  pub answer_fits : ((i : ℕ) → Byte w8 (get_or m i 0)) → answer_of (verdict m) ≡ checked.Accepted s → Fits s
+  pub answer_fits : ((i : ℕ) → Byte w8 (get_or m i 0)) → answer_of (verdict m) ≡ Ok s → Fits s
   answer_fits bytes e = sized_fits m (λ i. omega (arith, bytes i)) s (answer_sizes e)
 
 -- ---- the slices that are lent
@@ -63,9 +64,9 @@ module _ (m : List ℕ) (s : Sizes) (ks : List ℕ) (k : ks ≡ kinds_in byte_la
 -- ---- the decoding
 
 variable_nexts_length : (v : Variable) (at : ℕ)
-    → length (cond (eqb v.sort 1) ((at + 1) ∷ []) ((at + 1) ∷ (at + 2) ∷ (at + 3) ∷ [])) ≡ size_of_variable v
+    → length (cond (is_sort v.sort Boolean) ((at + 1) ∷ []) ((at + 1) ∷ (at + 2) ∷ (at + 3) ∷ [])) ≡ size_of_variable v
 unfolding size_of_variable
-variable_nexts_length v at = go (eqb v.sort 1)
+variable_nexts_length v at = go (is_sort v.sort Boolean)
   where
     go : (t : Bool) → length (cond t ((at + 1) ∷ []) ((at + 1) ∷ (at + 2) ∷ (at + 3) ∷ [])) ≡ cond t 1 3
     go true = refl
@@ -75,7 +76,7 @@ variables_nexts_length : (vs : List Variable) (at : ℕ) → length (nexts_of_va
 unfolding nexts_of_variables size_of_variables
 variables_nexts_length [] at = refl
 variables_nexts_length (v ∷ vs) at =
-    length-append (cond (eqb v.sort 1) ((at + 1) ∷ []) ((at + 1) ∷ (at + 2) ∷ (at + 3) ∷ [])) (nexts_of_variables vs (at + size_of_variable v))
+    length-append (cond (is_sort v.sort Boolean) ((at + 1) ∷ []) ((at + 1) ∷ (at + 2) ∷ (at + 3) ∷ [])) (nexts_of_variables vs (at + size_of_variable v))
     ∙ omega (arith, variable_nexts_length v at, variables_nexts_length vs (at + size_of_variable v))
 
 arrays_same : {a a' : List ℤ} {b b' : List (List ℤ)} {c c' d d' : List ℕ}
@@ -92,10 +93,10 @@ module _ (m : List ℕ) (s : Sizes) (ks : List ℕ) (ps : List ℤ) (k : ks ≡ 
   variables_read t v =
       record { variables = variables t; next = transitions_place t; row = rw (k, p) (accepted_file m s t v).system.row }
 
-  pub variables_asked : answer_of (verdict m) ≡ checked.Accepted s → VariablesRead ks ps (s.states + s.flows)
+  pub variables_asked : answer_of (verdict m) ≡ Ok s → VariablesRead ks ps (s.states + s.flows)
   variables_asked e = let a = answer_accepted m s e in variables_read a.0 a.1
 
-pub sorts_asked : (m : List ℕ) (s : Sizes) (ks : List ℕ) → ks ≡ kinds_in byte_layout s.nodes m → answer_of (verdict m) ≡ checked.Accepted s
+pub sorts_asked : (m : List ℕ) (s : Sizes) (ks : List ℕ) → ks ≡ kinds_in byte_layout s.nodes m → answer_of (verdict m) ≡ Ok s
     → (ps : List ℤ) × VariablesRead ks ps (s.states + s.flows)
 sorts_asked m s ks k e = (parameters_in byte_layout s.nodes m, variables_asked m s ks _ k refl e)
 
@@ -169,15 +170,15 @@ module _ (m : List ℕ) (s : Sizes) (ks : List ℕ) (old new : Arrays) (place as
 -- ---- the whole
 
 module _ (m : List ℕ) (old : Arrays) where
-  pub refused_prepared : (n : ℕ) → answer_of (verdict m) ≡ checked.Refused n → answered (Refused n) old ≡ prepared_by m old (verdict m)
+  pub refused_prepared : (n : Refusal) → answer_of (verdict m) ≡ Err n → answered (Err n) old ≡ prepared_by m old (verdict m)
   unfolding prepared_by
   refused_prepared n e = ap (prepared_by m old) (sym (answer_refused n (verdict m) e))
 
-  pub ready_prepared : (s : Sizes) (new : Arrays) (assertion : ℕ) → answer_of (verdict m) ≡ checked.Accepted s
+  pub ready_prepared : (s : Sizes) (new : Arrays) (assertion : ℕ) → answer_of (verdict m) ≡ Ok s
       → ((t : System) → verdict m ≡ accepted s t → (assertion ≡ assertion_place t) × (new ≡ decoded_over m s t old))
-      → answered (Ready (record { sizes = s; assertion = assertion })) new ≡ prepared_by m old (verdict m)
+      → answered (Ok (record { sizes = s; assertion = assertion })) new ≡ prepared_by m old (verdict m)
   unfolding prepared_by
   ready_prepared s new assertion e f =
       let a = answer_accepted m s e in
       let d = f a.0 a.1 in
-      (λ i. answered (Ready (record { sizes = s; assertion = d.0 i })) (d.1 i)) ∙ ap (prepared_by m old) (sym a.1)
+      (λ i. answered (Ok (record { sizes = s; assertion = d.0 i })) (d.1 i)) ∙ ap (prepared_by m old) (sym a.1)

@@ -11,6 +11,7 @@ use lib.Dec.{eqb}
 use lib.IntN.{ℤ, pos}
 use lib.ListN.{length, get_or, set, drop, length-set, length-map}
 use lib.Seq.{sets, sets-eq}
+use Rattle.kinds.specs.declared.Sort.TheVariants.{Boolean, Number}
 use Rattle.results.specs.Results.{over}
 use Rattle.syntax.specs.Readings.{variable_refusal, end_refusal}
 use Rattle.model.specs.Trees.{Variable}
@@ -34,7 +35,7 @@ module _ {A : Type 0} (item : ℕ → Walk A) where
   row_rest : (n at : ℕ) (list : List A) (next : ℕ) (first : A) (second : ℕ) → item at ≡ found first second → (w : Walk (List A)) → row_at item n second ≡ w
       → and_then w (λ rest last. found (first ∷ rest) last) ≡ found list next → RowStep item n at list next
   unfolding and_then
-  row_rest n at list next first second r (refused k) h e = let z : ◌≡◌ {A = ℕ} 0 1 = cc in absurd (omega arith)
+  row_rest n at list next first second r (refused k) h e = cc
   row_rest n at list next first second r (found rest last) h e =
       let p : first ∷ rest ≡ list = cc in
       let q : last ≡ next = cc in
@@ -43,7 +44,7 @@ module _ {A : Type 0} (item : ℕ → Walk A) where
   row_first : (n at : ℕ) (list : List A) (next : ℕ) (w : Walk A) → item at ≡ w
       → and_then w (λ a next. and_then (row_at item n next) (λ rest last. found (a ∷ rest) last)) ≡ found list next → RowStep item n at list next
   unfolding and_then
-  row_first n at list next (refused k) h e = let z : ◌≡◌ {A = ℕ} 0 1 = cc in absurd (omega arith)
+  row_first n at list next (refused k) h e = cc
   row_first n at list next (found first second) h e = row_rest n at list next first second h (row_at item n second) refl e
 
   row_step : (n at : ℕ) (list : List A) (next : ℕ) → row_at item (suc n) at ≡ found list next → RowStep item n at list next
@@ -61,10 +62,10 @@ module _ {A : Type 0} (item : ℕ → Walk A) where
 module _ (ks : List ℕ) (ps : List ℤ) where
   -- the variable of one node, and of three
   abbrev boolean_at : ℕ → Variable
-  boolean_at at = record { sort = 1; low = pos 0; high = pos 1; first = get_or ps at (pos 0) }
+  boolean_at at = record { sort = Boolean; low = pos 0; high = pos 1; first = get_or ps at (pos 0) }
 
   abbrev number_at : ℕ → Variable
-  number_at at = record { sort = 2; low = get_or ps at (pos 0); high = get_or ps (at + 1) (pos 0); first = get_or ps (at + 2) (pos 0) }
+  number_at at = record { sort = Number; low = get_or ps at (pos 0); high = get_or ps (at + 1) (pos 0); first = get_or ps (at + 2) (pos 0) }
 
   record VariableRead (at : ℕ) (v : Variable) (next : ℕ) : Type 0 where
     within : at < length ks
@@ -95,7 +96,7 @@ module _ (ks : List ℕ) (ps : List ℤ) where
             boolean = λ k. absurd (eqb-false (get_or ks at 0) 1 e k);
             number = λ k. (
               omega (arith, d.within),
-              (λ i. found (record { sort = 2; low = get_or ps at (pos 0); high = get_or ps (at + 1) (pos 0); first = get_or ps (two i) (pos 0) }) (three i)),
+              (λ i. found (record { sort = Number; low = get_or ps at (pos 0); high = get_or ps (at + 1) (pos 0); first = get_or ps (two i) (pos 0) }) (three i)),
             );
           }))
 

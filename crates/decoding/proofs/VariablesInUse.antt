@@ -2,16 +2,15 @@
 use mathlib.Core.Path.{◌≡◌, refl, sym, ap, ◌∙◌}
 use mathlib.Core.List.{List}
 use Prim.Native.Nat.{ℕ, ◌+◌, ◌≤◌}
-use native.Mathlib.Omega.{arith}
 use mir.Syntax.{w8}
 use mir.Val.{Fits}
 use lib.IntN.{ℤ}
 use lib.ListN.{length, get_or, take, length-map}
+use Rattle.std.specs.Prelude.{Result, Ok, Err}
+use Rattle.results.specs.declared.refusal.Refusal.{Refusal}
+use Rattle.kinds.specs.declared.Sort.{Sort}
 use Rattle.results.specs.Results.{answered, over}
 use Rattle.model.specs.declared.Sizes.{Sizes}
-use Rattle.model.specs.declared.Checked.{Checked}
-use Rattle.model.specs.declared.Checked.TheVariants.{Accepted}
-use Rattle.model.specs.declared.Checked.TheVariants as checked
 use Rattle.model.specs.Trees.{Variable, System, variables, sorts_of}
 use Rattle.model.specs.Sizes.{byte_layout}
 use Rattle.model.specs.Check.{Verdict, verdict, answer_of, kinds_in, parameters_in}
@@ -33,31 +32,31 @@ pub record VariablesInUse {A : Type 0} (f : List Variable → List A) (m : List 
 module _ {A : Type 0} (f : List Variable → List A) where
   -- ---- the two answers
 
-  pub kept : (m : List ℕ) (old : List A) (n : ℕ) → answer_of (verdict m) ≡ checked.Refused n
-      → answered (checked.Refused n) old ≡ variables_after f (verdict m) old
+  pub kept : (m : List ℕ) (old : List A) (n : Refusal) → answer_of (verdict m) ≡ Err n
+      → answered (Err n) old ≡ variables_after f (verdict m) old
   unfolding variables_after
   kept m old n e = ap (λ v. variables_after f v old) (sym (answer_refused n (verdict m) e))
 
-  pub stored : (m : List ℕ) (old new : List A) (s : Sizes) → answer_of (verdict m) ≡ Accepted s
+  pub stored : (m : List ℕ) (old new : List A) (s : Sizes) → answer_of (verdict m) ≡ Ok s
       → ((t : System) → verdict m ≡ accepted s t → new ≡ over (f (variables t)) old)
-      → answered (Accepted s) new ≡ variables_after f (verdict m) old
+      → answered (Ok s) new ≡ variables_after f (verdict m) old
   unfolding variables_after
   stored m old new s e g =
       let a = answer_accepted m s e in
-      ap (answered (Accepted s)) (g a.0 a.1) ∙ ap (λ v. variables_after f v old) (sym a.1)
+      ap (answered (Ok s)) (g a.0 a.1) ∙ ap (λ v. variables_after f v old) (sym a.1)
 
   -- ---- for the functions that call them
 
   -- a model that was refused
-  pub after_refused : (old left : List A) (r : Checked) (n : ℕ) (v : Verdict) → answered r left ≡ variables_after f v old → r ≡ checked.Refused n
+  pub after_refused : (old left : List A) (r : Result Sizes Refusal) (n : Refusal) (v : Verdict) → answered r left ≡ variables_after f v old → r ≡ Err n
       → v ≡ refusal n
   unfolding variables_after
   after_refused old left r n (refusal k) e h =
-      let a : checked.Refused k ≡ checked.Refused n = sym (ap (λ p. p.answer) e) ∙ h in
+      let a : Err k ≡ Err n = sym (ap (λ p. p.answer) e) ∙ h in
       let z : k ≡ n = cc in ap refusal z
   after_refused old left r n (accepted s t) e h =
-      let a : Accepted s ≡ checked.Refused n = sym (ap (λ p. p.answer) e) ∙ h in
-      let z : ◌≡◌ {A = ℕ} 0 1 = cc in absurd (omega arith)
+      let a : Ok s ≡ Err n = sym (ap (λ p. p.answer) e) ∙ h in
+      cc
 
   -- a model that was accepted
   module _ (one_each : (vs : List Variable) → length (f vs) ≡ length vs)
@@ -75,33 +74,33 @@ module _ {A : Type 0} (f : List Variable → List A) where
           part = sym (ap length front ∙ many);
         }
 
-    accepted_by : (r : Checked) (v : Verdict) → verdict m ≡ v → answered r left ≡ variables_after f v old → r ≡ Accepted s → VariablesInUse f m s left
+    accepted_by : (r : Result Sizes Refusal) (v : Verdict) → verdict m ≡ v → answered r left ≡ variables_after f v old → r ≡ Ok s → VariablesInUse f m s left
     unfolding variables_after
     accepted_by r (refusal n) h e q =
-        let a : checked.Refused n ≡ Accepted s = sym (ap (λ p. p.answer) e) ∙ q in
-        let z : ◌≡◌ {A = ℕ} 0 1 = cc in absurd (omega arith)
+        let a : Err n ≡ Ok s = sym (ap (λ p. p.answer) e) ∙ q in
+        cc
     accepted_by r (accepted p t) h e q =
-        let a : Accepted p ≡ Accepted s = sym (ap (λ p. p.answer) e) ∙ q in
+        let a : Ok p ≡ Ok s = sym (ap (λ p. p.answer) e) ∙ q in
         let z : p ≡ s = cc in
         accepted_variables t (h ∙ ap (λ s. accepted s t) z) (ap (λ p. p.left) e)
 
-    in_use_lem : (r : Checked) → answered r left ≡ variables_after f (verdict m) old → r ≡ Accepted s → VariablesInUse f m s left
+    in_use_lem : (r : Result Sizes Refusal) → answered r left ≡ variables_after f (verdict m) old → r ≡ Ok s → VariablesInUse f m s left
     in_use_lem r e q = accepted_by r (verdict m) refl e q
 
 -- ---- sorts
 
-abbrev pub SortsInUse : List ℕ → Sizes → List ℕ → Type 0
+abbrev pub SortsInUse : List ℕ → Sizes → List Sort → Type 0
 SortsInUse = VariablesInUse sorts_of
 
 -- by the kinds alone
-pub sorts_read : (m old : List ℕ) (s : Sizes) (ks new : List ℕ) → answer_of (verdict m) ≡ Accepted s → ks ≡ kinds_in byte_layout s.nodes m
+pub sorts_read : (m : List ℕ) (old : List Sort) (s : Sizes) (ks : List ℕ) (new : List Sort) → answer_of (verdict m) ≡ Ok s → ks ≡ kinds_in byte_layout s.nodes m
     → ((ps : List ℤ) (r : VariablesRead ks ps (s.states + s.flows)) → new ≡ over (sorts_of r.variables) old)
-    → answered (Accepted s) new ≡ sorts_after (verdict m) old
+    → answered (Ok s) new ≡ sorts_after (verdict m) old
 sorts_read m old s ks new e k f =
     stored sorts_of m old new s e (λ t v. f _ (variables_read m s ks (parameters_in byte_layout s.nodes m) k refl t v))
 
-pub sorts_in_use : (m : List ℕ) → ((i : ℕ) → Fits w8 (get_or m i 0)) → (old left : List ℕ) (s : Sizes) (r : Checked)
-    → answered r left ≡ sorts_after (verdict m) old → r ≡ Accepted s → SortsInUse m s left
+pub sorts_in_use : (m : List ℕ) → ((i : ℕ) → Fits w8 (get_or m i 0)) → (old left : List Sort) (s : Sizes) (r : Result Sizes Refusal)
+    → answered r left ≡ sorts_after (verdict m) old → r ≡ Ok s → SortsInUse m s left
 sorts_in_use = in_use_lem sorts_of (λ vs. length-map vs (λ v. v.sort))
 
 -- ---- rows
@@ -109,6 +108,6 @@ sorts_in_use = in_use_lem sorts_of (λ vs. length-map vs (λ v. v.sort))
 abbrev pub RowsInUse : List ℕ → Sizes → List (List ℤ) → Type 0
 RowsInUse = VariablesInUse variable_rows
 
-pub rows_in_use : (m : List ℕ) → ((i : ℕ) → Fits w8 (get_or m i 0)) → (old left : List (List ℤ)) (s : Sizes) (r : Checked)
-    → answered r left ≡ rows_after (verdict m) old → r ≡ Accepted s → RowsInUse m s left
+pub rows_in_use : (m : List ℕ) → ((i : ℕ) → Fits w8 (get_or m i 0)) → (old left : List (List ℤ)) (s : Sizes) (r : Result Sizes Refusal)
+    → answered r left ≡ rows_after (verdict m) old → r ≡ Ok s → RowsInUse m s left
 rows_in_use = in_use_lem variable_rows (λ vs. length-map vs variable_row)

@@ -1,10 +1,11 @@
 -- What `prepare` decodes of an accepted file for the layers above.
-use Rattle.std.specs.Prelude.{◌≡◌, cond, List, [], ◌∷◌, ◌++◌, ℕ, ◌+◌, ◌≤◌, ◌<◌, eqb, ℤ}
+use Rattle.std.specs.Prelude.{◌≡◌, cond, List, [], ◌∷◌, ◌++◌, ℕ, ◌+◌, ◌≤◌, ◌<◌, ℤ, Result, Ok, Err}
 use Rattle.results.specs.Results.{Answered, answered, over}
-use Rattle.kinds.specs.Kinds.{boolean_sort}
+use Rattle.results.specs.declared.refusal.Refusal.{Refusal}
+use Rattle.kinds.specs.declared.Sort.{Sort}
+use Rattle.kinds.specs.declared.Sort.TheVariants.{Boolean}
+use Rattle.kinds.specs.Kinds.{is_sort}
 use Rattle.model.specs.declared.Sizes.{Sizes}
-use Rattle.model.specs.declared.Checked.{Checked}
-use Rattle.model.specs.declared.Checked.TheVariants as checked
 use Rattle.model.specs.declared.Model.{Model}
 use Rattle.model.specs.Trees.{Expression, Instruction, Instructions, Variable, Transition, System, variables, sorts_of}
 use Rattle.model.specs.Trees.Expression.{numeral, truth, variable, negation, binary, if_then_else}
@@ -17,8 +18,6 @@ use Rattle.model.specs.Check.{Verdict, verdict, kinds_in, parameters_in}
 use Rattle.model.specs.Check.Verdict.{accepted, refusal}
 use Rattle.model.specs.Standing.{size_of_expression, size_of, size_of_transition, size_of_transitions}
 use Rattle.variables.specs.Rows.{variable_rows}
-use Rattle.decoding.specs.declared.Prepared.{Prepared}
-use Rattle.decoding.specs.declared.Prepared.TheVariants.{Refused, Ready}
 
 -- the places after each node with its children, in prefix order, of a tree that stands at place `at`
 unfoldable pub nexts_of_expression : Expression → ℕ → List ℕ
@@ -48,7 +47,7 @@ unfoldable mutual
 
 -- 01: "kind 1, Boolean, P its first value, 0 or 1; or three nodes"
 unfoldable pub size_of_variable : Variable → ℕ
-size_of_variable v = cond (eqb v.sort boolean_sort) 1 3
+size_of_variable v = cond (is_sort v.sort Boolean) 1 3
 
 unfoldable pub size_of_variables : List Variable → ℕ
 size_of_variables [] = 0
@@ -57,7 +56,7 @@ size_of_variables (v ∷ vs) = size_of_variable v + size_of_variables vs
 unfoldable pub nexts_of_variables : List Variable → ℕ → List ℕ
 nexts_of_variables [] at = []
 nexts_of_variables (v ∷ vs) at =
-    cond (eqb v.sort boolean_sort) ((at + 1) ∷ []) ((at + 1) ∷ (at + 2) ∷ (at + 3) ∷ [])
+    cond (is_sort v.sort Boolean) ((at + 1) ∷ []) ((at + 1) ∷ (at + 2) ∷ (at + 3) ∷ [])
     ++ nexts_of_variables vs (at + size_of_variable v)
 
 unfoldable pub nexts_of_transitions : List Transition → ℕ → List ℕ
@@ -127,19 +126,19 @@ decoded_over m s t old =
     (over (guard_places t.transitions (transitions_place t)) old.guards)
 
 -- what `prepare` does: the check's refusal with nothing changed, or the model and the arrays decoded
-unfoldable pub prepared_by : List ℕ → Arrays → Verdict → Answered Prepared Arrays
-prepared_by m old (refusal n) = answered (Refused n) old
+unfoldable pub prepared_by : List ℕ → Arrays → Verdict → Answered (Result Model Refusal) Arrays
+prepared_by m old (refusal r) = answered (Err r) old
 prepared_by m old (accepted s t) =
-    answered (Ready (record { sizes = s; assertion = assertion_place t })) (decoded_over m s t old)
+    answered (Ok (record { sizes = s; assertion = assertion_place t })) (decoded_over m s t old)
 
 -- the check's answer, and something of each variable of an accepted model at the beginning of the cells lent for it
-unfoldable pub variables_after : {A : Type 0} → (List Variable → List A) → Verdict → List A → Answered Checked (List A)
-variables_after f (refusal n) old = answered (checked.Refused n) old
-variables_after f (accepted s t) old = answered (checked.Accepted s) (over (f (variables t)) old)
+unfoldable pub variables_after : {A : Type 0} → (List Variable → List A) → Verdict → List A → Answered (Result Sizes Refusal) (List A)
+variables_after f (refusal r) old = answered (Err r) old
+variables_after f (accepted s t) old = answered (Ok s) (over (f (variables t)) old)
 
 -- the sorts; the rows
-abbrev pub sorts_after : Verdict → List ℕ → Answered Checked (List ℕ)
+abbrev pub sorts_after : Verdict → List Sort → Answered (Result Sizes Refusal) (List Sort)
 sorts_after = variables_after sorts_of
 
-abbrev pub rows_after : Verdict → List (List ℤ) → Answered Checked (List (List ℤ))
+abbrev pub rows_after : Verdict → List (List ℤ) → Answered (Result Sizes Refusal) (List (List ℤ))
 rows_after = variables_after variable_rows

@@ -2,14 +2,12 @@
 
 #![tactic(auto)]
 
-ghost use Rattle.std.specs.Prelude.{◌≡◌, List, ◌++◌, ℕ, ◌+◌, ◌<◌, ◌≤◌, ℤ, length, drop};
+ghost use Rattle.std.specs.Prelude.{◌≡◌, List, ◌++◌, ℕ, ◌+◌, ◌<◌, ◌≤◌, ℤ, length, drop, Ok, Some};
 ghost use Rattle.results.specs.Results.{answered, over};
-ghost use Rattle.kinds.specs.Kinds.{table};
-ghost use Rattle.model.specs.declared.Checked.TheVariants.{Accepted};
 ghost use Rattle.model.specs.Trees as trees;
 ghost use Rattle.model.specs.Trees.{Transition, System, sorts_of};
 ghost use Rattle.model.specs.Sizes.{byte_layout};
-ghost use Rattle.model.specs.Check.{kinds_in, parameters_in, answer_of, sort_of, verdict};
+ghost use Rattle.model.specs.Check.{kinds_in, parameters_in, answer_of, verdict};
 ghost use Rattle.model.specs.Check.Verdict.{accepted};
 ghost use Rattle.model.specs.Standing.{size_of_transitions};
 ghost use Rattle.variables.specs.Rows.{variable_rows};
@@ -17,38 +15,26 @@ ghost use Rattle.decoding.specs.NextPlaces.{children_by, following, filled};
 ghost use Rattle.decoding.specs.Decoding.{Enough, VariablesRead, arrays, assertion_place, decoded_over, guard_places, nexts_of_transitions, prepared_by, rows_after, sorts_after, transitions_place};
 ghost use Rattle.decoding.specs.Outside.{given_after};
 
-use model::{Checked, Given, Model, Sizes, Sort, check, header};
+use kinds::Kind;
+use model::{Model, Sizes, Sort, check, header};
+use results::Refusal;
 use syntax::nodes;
 
-// The kinds of a Boolean variable and of a block.
-const BOOLEAN_VARIABLE: u8 = 1;
-
-const BLOCK: u8 = 19;
-
-// The answer of the decoding.
-#[derive(Clone, Copy)]
-pub enum Prepared {
-    Refused(u8),
-    Ready(Model),
-}
-
 // The sorts of so many variables from the first node on. A Boolean is one node, a number three.
-pub fn sorts_in(kinds: &[u8], count: usize, sorts: &mut [u8])
+pub fn sorts_in(kinds: &[u8], count: usize, sorts: &mut [Sort])
     requires { ((ps : List ℤ) × VariablesRead kinds.now ps count) × (count ≤ length sorts.old) }
     ensures { (ps : List ℤ) (read : VariablesRead kinds.now ps count) →
         sorts.new ≡ over (sorts_of read.variables) sorts.old }
 {
-    let mut i = 0;
     let mut at = 0;
-    while i < count {
-        if kinds[at] == BOOLEAN_VARIABLE {
-            sorts[i] = kinds::BOOLEAN;
+    for i in 0..count {
+        if kinds[at] == Kind::BooleanVariable as u8 {
+            sorts[i] = Sort::Boolean;
             at += 1;
         } else {
-            sorts[i] = kinds::NUMBER;
+            sorts[i] = Sort::Number;
             at += 3;
         }
-        i += 1;
     }
 }
 
@@ -64,11 +50,10 @@ fn read_variables(
     ensures { (read : VariablesRead kinds.now parameters.now count) →
         (result ≡ read.next) × (variables.new ≡ over (variable_rows read.variables) variables.old) }
 {
-    let mut i = 0;
     let mut at = 0;
-    while i < count {
+    for i in 0..count {
         let parameter = parameters[at];
-        if kinds[at] == BOOLEAN_VARIABLE {
+        if kinds[at] == Kind::BooleanVariable as u8 {
             variables[i] = [0, 1, parameter];
             at += 1;
         } else {
@@ -77,21 +62,18 @@ fn read_variables(
             variables[i] = [parameter, high, first];
             at += 3;
         }
-        i += 1;
     }
     at
 }
 
 // The number of children of a node.
-fn children_of(rows: &[u8; 256], kind: u8, parameter: i32) -> usize
-    requires { rows.now ≡ table }
+fn children_of(kind: u8, parameter: i32) -> usize
     ensures { result ≡ children_by kind parameter }
 {
-    if kind == BLOCK {
+    if kind == Kind::Block as u8 {
         return nodes::magnitude(parameter);
     }
-    let row = kinds::row_of(rows, kind);
-    row.children as usize
+    usize::from(kinds::row_of(kind).children)
 }
 
 // The place reached from place `from` by following so many entries, none of them past the last node.
@@ -99,14 +81,12 @@ fn follow(nexts: &[u16], nodes: usize, count: usize, from: usize) -> usize
     requires { (nodes ≤ length nexts.now) × (from < 65536) }
     ensures { (result ≡ following nexts.now nodes count from) × (result < 65536) }
 {
-    let mut due = count;
     let mut here = from;
-    while 0 < due {
+    for _ in 0..count {
         if nodes <= here {
             return here;
         }
-        due -= 1;
-        here = nexts[here] as usize;
+        here = usize::from(nexts[here]);
     }
     here
 }
@@ -116,14 +96,11 @@ fn next_places(kinds: &[u8], parameters: &[i32], nexts: &mut [u16])
     requires { (length kinds.now < 65536) × (length kinds.now ≤ length nexts.old) × (length parameters.now ≡ length kinds.now) }
     ensures { nexts.new ≡ filled kinds.now parameters.now (length kinds.now) nexts.old }
 {
-    let rows = kinds::rows();
     let nodes = kinds.len();
-    let mut left = nodes;
-    while 0 < left {
-        left -= 1;
-        let children = children_of(&rows, kinds[left], parameters[left]);
-        let after = follow(nexts, nodes, children, left + 1);
-        nexts[left] = after as u16;
+    for at in (0..nodes).rev() {
+        let children = children_of(kinds[at], parameters[at]);
+        let after = follow(nexts, nodes, children, at + 1);
+        nexts[at] = after as u16;
     }
 }
 
@@ -133,15 +110,13 @@ fn guard_places(nexts: &[u16], count: usize, from: usize, guards: &mut [u16]) ->
     ensures { (ts : List Transition) (rest : List ℕ) → length ts ≡ count → drop from nexts.now ≡ nexts_of_transitions ts from ++ rest →
         (result ≡ from + size_of_transitions ts) × (guards.new ≡ over (guard_places ts from) guards.old) }
 {
-    let mut i = 0;
     let mut at = from;
-    while i < count {
+    for i in 0..count {
         if nexts.len() <= at {
             return at;
         }
         guards[i] = (at + 1) as u16;
-        at = nexts[at] as usize;
-        i += 1;
+        at = usize::from(nexts[at]);
     }
     at
 }
@@ -153,7 +128,7 @@ fn decode_variables(
     parameters: &mut [i32],
     variables: &mut [[i32; 3]],
 ) -> usize
-    requires { (answer_of (verdict model.now) ≡ Accepted sizes) × (sizes.nodes ≤ length parameters.old) × (sizes.states + sizes.flows ≤ length variables.old) }
+    requires { (answer_of (verdict model.now) ≡ Ok sizes) × (sizes.nodes ≤ length parameters.old) × (sizes.states + sizes.flows ≤ length variables.old) }
     ensures { (t : System) → verdict model.now ≡ accepted sizes t →
         (result ≡ transitions_place t)
         × (parameters.new ≡ over (parameters_in byte_layout sizes.nodes model.now) parameters.old)
@@ -179,7 +154,7 @@ pub fn decode(
     nexts: &mut [u16],
     guards: &mut [u16],
 ) -> usize
-    requires { (answer_of (verdict model.now) ≡ Accepted sizes)
+    requires { (answer_of (verdict model.now) ≡ Ok sizes)
         × Enough sizes (length parameters.old) (length variables.old) (length nexts.old) (length guards.old) }
     ensures { (t : System) → verdict model.now ≡ accepted sizes t →
         (result ≡ assertion_place t)
@@ -202,20 +177,16 @@ pub fn prepare(
     variables: &mut [[i32; 3]; Model::MAX_VARIABLES],
     nexts: &mut [u16; Model::MAX_NODES],
     guards: &mut [u16; Model::MAX_TRANSITIONS],
-) -> Prepared
+) -> Result<Model, Refusal>
     ensures { answered result
         (arrays parameters.new variables.new nexts.new guards.new)
         ≡ prepared_by model.now
         (arrays parameters.old variables.old nexts.old guards.old)
         (verdict model.now) }
 {
-    match check::check(model) {
-        Checked::Refused(number) => Prepared::Refused(number),
-        Checked::Accepted(sizes) => {
-            let assertion = decode(model, sizes, parameters, variables, nexts, guards);
-            Prepared::Ready(Model { sizes, assertion })
-        }
-    }
+    let sizes = check::check(model)?;
+    let assertion = decode(model, sizes, parameters, variables, nexts, guards);
+    Ok(Model { sizes, assertion })
 }
 
 // The kinds of a file with so many nodes.
@@ -234,43 +205,39 @@ pub fn kinds_of(model: &[u8], nodes: usize) -> &[u8]
 }
 
 // The check of a model file, and the sorts of an accepted one's variables, which depend on its kinds alone.
-pub fn sorts_of(model: &[u8], sorts: &mut [u8; Model::MAX_VARIABLES]) -> Checked
+pub fn sorts_of(model: &[u8], sorts: &mut [Sort; Model::MAX_VARIABLES]) -> Result<Sizes, Refusal>
     ensures { answered result sorts.new ≡ sorts_after (verdict model.now) sorts.old }
 {
-    match check::check(model) {
-        Checked::Refused(number) => Checked::Refused(number),
-        Checked::Accepted(sizes) => {
-            let kinds = kinds_of(model, sizes.nodes);
-            sorts_in(kinds, sizes.states + sizes.flows, sorts);
-            Checked::Accepted(sizes)
-        }
-    }
+    let sizes = check::check(model)?;
+    let kinds = kinds_of(model, sizes.nodes);
+    sorts_in(kinds, sizes.states + sizes.flows, sorts);
+    Ok(sizes)
 }
 
 // The check of a model file, and the rows of an accepted one's variables.
-pub fn variables_of(model: &[u8], variables: &mut [[i32; 3]; Model::MAX_VARIABLES]) -> Checked
+pub fn variables_of(
+    model: &[u8],
+    variables: &mut [[i32; 3]; Model::MAX_VARIABLES],
+) -> Result<Sizes, Refusal>
     ensures { answered result variables.new ≡ rows_after (verdict model.now) variables.old }
 {
-    match check::check(model) {
-        Checked::Refused(number) => Checked::Refused(number),
-        Checked::Accepted(sizes) => {
-            let mut parameters = [0i32; Model::MAX_NODES];
-            decode_variables(model, sizes, &mut parameters, variables);
-            Checked::Accepted(sizes)
-        }
-    }
+    let sizes = check::check(model)?;
+    let mut parameters = [0i32; Model::MAX_NODES];
+    decode_variables(model, sizes, &mut parameters, variables);
+    Ok(sizes)
 }
 
 // The check of an expression handed outside a model: the model's refusal, or the expression's over the model's variables.
-pub fn check_expression(model: &[u8], kinds: &[u8], parameters: &[i32], wanted: Sort) -> Given
-    ensures { result ≡ given_after (verdict model.now) kinds.now parameters.now (sort_of wanted) }
+pub fn check_expression(
+    model: &[u8],
+    kinds: &[u8],
+    parameters: &[i32],
+    wanted: Sort,
+) -> Result<(), Refusal>
+    ensures { result ≡ given_after (verdict model.now) kinds.now parameters.now (Some wanted) }
 {
-    let mut sorts = [0u8; Model::MAX_VARIABLES];
-    match sorts_of(model, &mut sorts) {
-        Checked::Refused(number) => Given::Refused(number),
-        Checked::Accepted(sizes) => {
-            let count = sizes.states + sizes.flows;
-            check::check_over_sorts(kinds, parameters, &sorts[..count], wanted)
-        }
-    }
+    let mut sorts = [Sort::Boolean; Model::MAX_VARIABLES];
+    let sizes = sorts_of(model, &mut sorts)?;
+    let count = sizes.states + sizes.flows;
+    check::check_over_sorts(kinds, parameters, &sorts[..count], wanted)
 }

@@ -8,8 +8,10 @@ use borrow.Author.Tests.{ltb-true, ltb-false, le-ltb, ne_eqb}
 use lib.Dec.{ltb, eqb}
 use lib.ListN.{length, take}
 use lib.Seq.{take_all, length-take-le, get_or-take}
-use Rattle.model.specs.declared.Sized.{Sized}
-use Rattle.model.specs.declared.Sized.TheVariants.{Refused, Read}
+use Rattle.std.proofs.Common.{Result, Ok, Err}
+use Rattle.results.specs.declared.refusal.Refusal.{Refusal}
+use Rattle.results.specs.declared.refusal.Refusal.TheVariants.{TooManyNodes, WrongLength}
+use Rattle.model.specs.declared.Sizes.{Sizes}
 use Rattle.model.specs.Sizes.{byte_layout, max_nodes, little_at, sizes_in, sized}
 use Rattle.model.specs.Check.{verdict, verdict_in}
 use Rattle.model.specs.Check.Verdict.{refusal, accepted}
@@ -25,18 +27,18 @@ unfolding nodes_in sizes_in little_at
 nodes_of_first n m h = rw (get_or-take n m 4 0 (omega arith), get_or-take n m 5 0 h)
 
 -- 2 is tried before 3
-two_or_three : (m : List ℕ) (t : Bool) (rest : Sized) → (t ≡ false → rest ≡ Refused 3)
-    → verdict_in byte_layout m (cond t (Refused 2) rest) ≡ cond t (refusal 2) (refusal 3)
+two_or_three : (m : List ℕ) (t : Bool) (rest : Result Sizes Refusal) → (t ≡ false → rest ≡ Err WrongLength)
+    → verdict_in byte_layout m (cond t (Err TooManyNodes) rest) ≡ cond t (refusal TooManyNodes) (refusal WrongLength)
 unfolding verdict_in
 two_or_three m true rest h = refl
 two_or_three m false rest h = rw (h refl)
 
-pub long_file : (m : List ℕ) → longest_file < length m → verdict m ≡ cond (ltb max_nodes (nodes_in m)) (refusal 2) (refusal 3)
+pub long_file : (m : List ℕ) → longest_file < length m → verdict m ≡ cond (ltb max_nodes (nodes_in m)) (refusal TooManyNodes) (refusal WrongLength)
 unfolding verdict sized nodes_in
 long_file m h =
     rw (le-ltb (length m) 6 (omega arith))
     (two_or_three m (ltb max_nodes (sizes_in byte_layout m).nodes)
-    (cond (not (eqb (length m) (6 + 5 * (sizes_in byte_layout m).nodes))) (Refused 3) (Read (sizes_in byte_layout m)))
+    (cond (not (eqb (length m) (6 + 5 * (sizes_in byte_layout m).nodes))) (Err WrongLength) (Ok (sizes_in byte_layout m)))
     (λ e.
     let few : (sizes_in byte_layout m).nodes ≤ 4000 = ltb-false max_nodes (sizes_in byte_layout m).nodes e in
     rw (ne_eqb (length m) (6 + 5 * (sizes_in byte_layout m).nodes) (omega arith))))
@@ -54,6 +56,6 @@ verdict_of_first m = by (ltb longest_file (length m)) refl
 pub long_file_refused : LongFileRefused
 long_file_refused m h s t e = never (ltb max_nodes (nodes_in m)) (sym (long_file m h) ∙ e)
   where
-    never : (b : Bool) → cond b (refusal 2) (refusal 3) ≡ accepted s t → ⊥
+    never : (b : Bool) → cond b (refusal TooManyNodes) (refusal WrongLength) ≡ accepted s t → ⊥
     never true r = let z : ◌≡◌ {A = ℕ} 0 1 = cc in omega arith
     never false r = let z : ◌≡◌ {A = ℕ} 0 1 = cc in omega arith

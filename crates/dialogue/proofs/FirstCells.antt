@@ -12,14 +12,15 @@ use lib.Seq.{take_all, take_at, drop_at, length-take-le}
 use Rattle.results.specs.Results.{Answered, answered}
 use Rattle.model.specs.Sizes.{max_variables, max_transitions}
 use Rattle.standing.specs.Runs.{Store, run, store}
-use Rattle.lines.specs.declared.Written.{Written}
+use Rattle.std.specs.Prelude.{Option}
+use Rattle.std.specs.Option.{unwrap_or}
 use Rattle.lines.specs.Lines.{room, value_width, mark_width, Output, written_into}
 use Rattle.replies.specs.Replies.{Reply}
 use Rattle.replies.specs.Printing.{is_short, reply_into}
 use Rattle.replies.proofs.Answering.{replied_whole}
 use Rattle.dialogue.specs.declared.Dimensions.{Dimensions}
 use Rattle.dialogue.specs.Sizes.{line_bytes}
-use Rattle.dialogue.specs.Cells.{at_most, length_of, in_use, past_use, into}
+use Rattle.dialogue.specs.Cells.{at_most, in_use, past_use, into}
 
 module _ {A : Type 0} (old : List A) (n : ℕ) where
   abbrev count : ℕ
@@ -107,12 +108,11 @@ module _ (out : List ℕ) (d : Dimensions) (s : Store) (l : length out ≡ line_
       ∙ le-ltb (length out) (room mark_width (length (take d.transitions s.buffer))) (omega (arith, l, t, length-take d.transitions s.buffer))
 
   -- a line for which there is room is told by its length
-  pub told : {w : Written} {new : List ℕ} {left : Store} (r : Reply) {n : ℕ} → n ≡ length_of w
+  pub told : {w : Option ℕ} {new : List ℕ} {left : Store} (r : Reply) {n : ℕ} → n ≡ unwrap_or w 0
       → answered (written_into w new) left ≡ reply_into out (in_use d s) r → answered (answered n new) left ≡ into out r
-  unfolding length_of
   told {w} {new} {left} r e p =
       ap (λ k. answered (answered k new) left) e
-      ∙ ap (λ (x : Answered Output Store). answered (answered (length_of x.answer.answer) x.answer.left) x.left)
+      ∙ ap (λ (x : Answered Output Store). answered (answered (unwrap_or x.answer.answer 0) x.answer.left) x.left)
       (p ∙ replied_whole out (in_use d s) roomy r)
 
 -- what is written leaves the slice as long as it was, so it fits

@@ -6,7 +6,7 @@ use native.Mathlib.Numerals.{add-one}
 use native.Mathlib.Omega.{arith}
 use lib.ListN.{length, take, set, length-append, length-map, length-take}
 use lib.Seq.{take_all, take_at, take-suc-set, length-take-le}
-use Rattle.commands.specs.declared.Command.TheVariants.{Unknown}
+use Rattle.std.specs.Prelude.{None}
 use Rattle.commands.specs.Commands.{command_of}
 use Rattle.commands.proofs.Commands.{long_line_unknown}
 use Rattle.dialogue.specs.Sizes.{kept_bytes}
@@ -27,5 +27,5 @@ module _ (bytes : List ℕ) (l : length bytes ≡ kept_bytes) where
       let short : length (take at bytes ++ (b ∷ [])) ≤ kept_bytes = simp length-append (omega (arith, length-take-le at bytes (omega arith))) in
       ap (λ n. take n (set bytes at b)) (add-one at) ∙ take-suc-set bytes at b (omega arith) ∙ sym (take_all kept_bytes (take at bytes ++ (b ∷ [])) short)
 
-  pub long_unknown : (n : ℕ) → kept_bytes < n → Unknown ≡ command_of (take n bytes)
+  pub long_unknown : (n : ℕ) → kept_bytes < n → None ≡ command_of (take n bytes)
   long_unknown n h = sym (long_line_unknown (take n bytes) (rw (take_all n bytes (omega arith)) (omega arith)))

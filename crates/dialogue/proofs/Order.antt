@@ -13,7 +13,8 @@ use Rattle.run.specs.Lists.{call, calls_of}
 use Rattle.run.specs.Lists.Performed.{nothing, next}
 use Rattle.run.proofs.Final.{order_independent}
 use Rattle.commands.specs.declared.Command.{Command}
-use Rattle.commands.specs.declared.Command.TheVariants.{Fire, Undo, Marks, Unknown}
+use Rattle.std.specs.Prelude.{Option, Some, None}
+use Rattle.commands.specs.declared.Command.TheVariants.{Fire, Undo, Marks}
 use Rattle.commands.specs.Commands.{command_of}
 use Rattle.replies.specs.Replies.{Reply, reply, run_reply, look_reply, is_accepted}
 use Rattle.dialogue.specs.Transcript.{lines_of, replies, fresh, started_text, transcript_by}
@@ -27,12 +28,12 @@ module _ (m m' : List ℕ) (b : Bytes m) (f : ShuffledFile m m') where
       ap (λ (ds : List (Done Store)). get_or ds 0 (call m c s))
       (order_independent m m' b (f.sizes, f.before, f.read) f (c ∷ []) s (call m c s ∷ []) (call m' c s ∷ []) (next refl nothing) (next refl nothing)).1
 
-  same_reply : (c : Command) (s : Store) → reply m' c s ≡ reply m c s
+  same_reply : (c : Option Command) (s : Store) → reply m' c s ≡ reply m c s
   unfolding reply
-  same_reply (Fire t) s = ap run_reply (same_call (calls.Fire t) s)
-  same_reply Undo s = ap run_reply (same_call calls.Undo s)
-  same_reply Marks s = ap look_reply (same_call calls.Marks s)
-  same_reply Unknown s = refl
+  same_reply (Some (Fire t)) s = ap run_reply (same_call (calls.Fire t) s)
+  same_reply (Some Undo) s = ap run_reply (same_call calls.Undo s)
+  same_reply (Some Marks) s = ap look_reply (same_call calls.Marks s)
+  same_reply None s = refl
 
   same_replies : (ls : List (List ℕ)) (s : Store) → replies m' ls s ≡ replies m ls s
   unfolding replies

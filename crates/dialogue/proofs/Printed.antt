@@ -9,6 +9,9 @@ use lib.Dec.{ltb}
 use lib.IntN.{ℤ, pos}
 use lib.ListN.{length, take, drop, replicate, length-replicate, replicate-append-replicate}
 use lib.Seq.{take_all, take_at, take-append_seam}
+use Rattle.results.specs.declared.refusal.Refusal.{Refusal}
+use Rattle.results.specs.declared.refusal.Refusal.TheVariants.{TooManyNodes, WrongLength}
+use Rattle.results.specs.Refusals.{number_of}
 use Rattle.model.specs.declared.Sizes.{Sizes}
 use Rattle.model.specs.Trees.{System}
 use Rattle.model.specs.Sizes.{max_nodes, max_variables, max_transitions}
@@ -66,18 +69,18 @@ module _ (m : List ℕ) where
       ∙ answered_by_lines m (flatten ps) o.left)
 
   -- a refused model
-  refused_opening : (n : ℕ) → verdict m ≡ refusal n → (input : List ℕ) (s : Store) → started_text m input s ≡ refusal_text n
+  refused_opening : (r : Refusal) → verdict m ≡ refusal r → (input : List ℕ) (s : Store) → started_text m input s ≡ refusal_text (number_of r)
   unfolding call_by run_text is_accepted
-  refused_opening n e input s =
+  refused_opening r e input s =
       ap (λ v.
       let d = call_by v calls.Start s in
       (run_reply d).answer ++ cond (is_accepted d.answer) (replies m (lines_of input) d.left) []) e
-      ∙ append-nil (refusal_text n)
+      ∙ append-nil (refusal_text (number_of r))
 
 -- ---- the program
 
 module _ (ps : List (List ℕ)) (out : List ℕ) where
-  refused_printed : (m m' : List ℕ) (n : ℕ) → verdict m ≡ refusal n → verdict m' ≡ refusal n → program_text m' ps out ≡ transcript m (flatten ps)
+  refused_printed : (m m' : List ℕ) (n : Refusal) → verdict m ≡ refusal n → verdict m' ≡ refusal n → program_text m' ps out ≡ transcript m (flatten ps)
   unfolding transcript_by
   refused_printed m m' n e e' =
       let d = dimensions_of (length m') (verdict m') in
@@ -102,9 +105,9 @@ module _ (ps : List (List ℕ)) (out : List ℕ) where
 pub transcript_of_kept : TranscriptOfKept
 transcript_of_kept m ps out b = by (ltb longest_file (length m)) refl
   where
-    long : (t : Bool) → verdict m ≡ cond t (refusal 2) (refusal 3) → program_text (take file_bytes m) ps out ≡ transcript m (flatten ps)
-    long true e = refused_printed ps out m (take file_bytes m) 2 e (sym (verdict_of_first m) ∙ e)
-    long false e = refused_printed ps out m (take file_bytes m) 3 e (sym (verdict_of_first m) ∙ e)
+    long : (t : Bool) → verdict m ≡ cond t (refusal TooManyNodes) (refusal WrongLength) → program_text (take file_bytes m) ps out ≡ transcript m (flatten ps)
+    long true e = refused_printed ps out m (take file_bytes m) TooManyNodes e (sym (verdict_of_first m) ∙ e)
+    long false e = refused_printed ps out m (take file_bytes m) WrongLength e (sym (verdict_of_first m) ∙ e)
 
     by : (t : Bool) → ltb longest_file (length m) ≡ t → program_text (take file_bytes m) ps out ≡ transcript m (flatten ps)
     by true e = long (ltb max_nodes (nodes_in m)) (long_file m (ltb-true longest_file (length m) e))

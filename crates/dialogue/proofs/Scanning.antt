@@ -11,6 +11,7 @@ use lib.ListN.{length, take, drop, get_or, drop_of_length-le}
 use lib.Seq.{drop-cons, take-take}
 use Rattle.results.specs.Results.{Answered, answered}
 use Rattle.standing.specs.Runs.{Store}
+use Rattle.std.specs.Prelude.{Option}
 use Rattle.commands.specs.declared.Command.{Command}
 use Rattle.commands.specs.Commands.{command_of}
 use Rattle.lines.specs.Lines.{feed_byte}
@@ -173,7 +174,7 @@ module _ (m : List ℕ) where
     line_kept q = sym (taken ∙ ap (λ x. line_turn x line s) q)
 
   -- a line that was answered, in the slice for the lines
-  pub ended_into : (s : Store) (out line : List ℕ) {kept : List ℕ} {a : Answered ℕ (List ℕ)} {left : Store} {c : Command} {t : Turn}
+  pub ended_into : (s : Store) (out line : List ℕ) {kept : List ℕ} {a : Answered ℕ (List ℕ)} {left : Store} {c : Option Command} {t : Turn}
       → kept ≡ [] → answered a left ≡ into out (reply m c s) → c ≡ command_of line → ended (reply m (command_of line) s) ≡ t
       → answered a (progress kept left) ≡ into out t
   ended_into s out line {a = a} {left = left} k e f g =
@@ -188,7 +189,7 @@ module _ (m : List ℕ) where
     unfolding closing_by
     nothing_begun e = rw e
 
-    pub begun_closed : {c : Command} → (n ≡ 0 → ⊥) → length bytes ≡ kept_bytes → c ≡ command_of (take n bytes) → reply m c s ≡ closing m (progress (take n bytes) s)
+    pub begun_closed : {c : Option Command} → (n ≡ 0 → ⊥) → length bytes ≡ kept_bytes → c ≡ command_of (take n bytes) → reply m c s ≡ closing m (progress (take n bytes) s)
     unfolding closing_by
     begun_closed h l k = ap (λ x. reply m x s) k ∙ by n bytes h l
       where

@@ -1,14 +1,13 @@
 -- What the functions find and leave in the arrays lent. A run takes the first cells of the values, of the marks and of the buffer that
 -- they are copied into, and the model the first bytes of the file; what is printed stands at the beginning of the slice for the lines.
-use Rattle.std.specs.Prelude.{cond, List, ℕ, ◌+◌, ltb, ℤ, length, take, drop}
+use Rattle.std.specs.Prelude.{◌≡◌, cond, List, ℕ, ◌+◌, ltb, ℤ, length, take, drop}
 use Rattle.results.specs.Results.{Answered, answered, over}
 use Rattle.model.specs.Check.{Verdict}
 use Rattle.model.specs.Check.Verdict.{refusal, accepted}
 use Rattle.standing.specs.Runs.{Store, run, store}
-use Rattle.lines.specs.declared.Written.{Written}
-use Rattle.lines.specs.declared.Written.TheVariants.{Length, TooShort}
 use Rattle.dialogue.specs.declared.Dimensions.{Dimensions}
 use Rattle.dialogue.specs.declared.Line.{Line}
+use Rattle.dialogue.specs.declared.Session.{Session}
 
 -- the bytes kept of a line
 abbrev pub kept_of : Line → List ℕ
@@ -36,14 +35,28 @@ past_use d s = (drop d.variables s.run.values, (drop d.transitions s.run.marks, 
 unfoldable pub at_most : ℕ → ℕ → ℕ
 at_most most count = cond (ltb most count) most count
 
--- the bytes of a line that was written
-unfoldable pub length_of : Written → ℕ
-length_of (Length n) = n
-length_of TooShort = 0
-
 -- a text at the beginning of a slice, told by its length; the cells from there on stay
 abbrev pub placed : List ℕ → List ℕ → Answered ℕ (List ℕ)
 placed text out = answered (length text) (over text out)
 
 abbrev pub into : {A : Type 0} → List ℕ → Answered (List ℕ) A → Answered (Answered ℕ (List ℕ)) A
 into out r = answered (placed r.answer out) r.left
+
+-- ---- all that a program keeps
+
+-- the arrays that the run is lent, and the run in their first cells
+abbrev pub store_of : Session → Store
+store_of s = store (run s.values s.marks s.history s.n) s.buffer
+
+abbrev pub used : Session → Store
+used s = in_use s.dimensions (store_of s)
+
+-- the model, in the first bytes of the file
+abbrev pub model_of : Session → List ℕ
+model_of s = take s.dimensions.bytes s.file
+
+-- the file, what is in use, and the cells past it stay
+pub record KeepsRest (old new : Session) : Type 0 where
+  pub file : new.file ≡ old.file
+  pub dimensions : new.dimensions ≡ old.dimensions
+  pub past : past_use old.dimensions (store_of new) ≡ past_use old.dimensions (store_of old)

@@ -1,6 +1,7 @@
 -- 01: "Program `gtsrun` reads file `model.gts`, then lines of standard input [..]. It prints a line for the start, then one per command [..].
 -- It stops after a refused start. The last line counts also without its line feed." All that is printed, line by line.
 use Rattle.std.specs.Prelude.{cond, List, [], ◌∷◌, ◌++◌, ℕ, ◌+◌, eqb, pos, replicate}
+use Rattle.results.specs.Refusals.{number_of}
 use Rattle.model.specs.Check.{Verdict, verdict}
 use Rattle.model.specs.Check.Verdict.{refusal, accepted}
 use Rattle.standing.specs.Runs.{Store, run, store}
@@ -35,7 +36,7 @@ abbrev pub started_text : List ℕ → List ℕ → Store → List ℕ
 started_text m input s = (opening m s).answer ++ cond (is_started m s) (replies m (lines_of input) (opening m s).left) []
 
 unfoldable pub transcript_by : Verdict → List ℕ → List ℕ → List ℕ
-transcript_by (refusal n) m input = refusal_text n
+transcript_by (refusal r) m input = refusal_text (number_of r)
 transcript_by (accepted z t) m input = started_text m input (fresh (z.states + z.flows) z.transitions)
 
 -- all that the program prints, by the file's bytes and the input's

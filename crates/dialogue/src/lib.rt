@@ -11,6 +11,7 @@ ghost use Rattle.dialogue.specs.Turns.{before_line_feed, has_line_feed, to_line_
 ghost use Rattle.dialogue.specs.Cells.{kept_of};
 
 use commands::Command;
+use model::Model;
 
 // The program's sizes.
 #[derive(Clone, Copy)]
@@ -48,18 +49,31 @@ pub struct Dimensions {
     pub transitions: usize,
 }
 
-// The start: is the run started, what is in use, and how many bytes are to be printed.
-#[derive(Clone, Copy)]
+// All that the program keeps: the line that was begun, the array for the lines, the arrays that the run is lent, what of them and of
+// the model's file is in use, and the file.
+#[derive(Drop)]
+pub struct Session {
+    pub line: Line,
+    pub out: [u8; Program::LINE_BYTES],
+    pub values: [i32; Model::MAX_VARIABLES],
+    pub marks: [u8; Model::MAX_TRANSITIONS],
+    pub history: [u8; Program::PLACES],
+    pub n: usize,
+    pub buffer: [u8; Model::MAX_TRANSITIONS],
+    pub dimensions: Dimensions,
+    pub file: [u8; Program::FILE_BYTES],
+}
+
+// The start: is the run started, and how many bytes are to be printed.
+#[derive(Clone, Copy, PartialEq, Eq, Debug)]
 pub struct Opening {
     pub is_started: bool,
-    pub dimensions: Dimensions,
     pub length: usize,
 }
 
-// A line taken from a part of the input: the line so far, the place after the bytes taken, and how many bytes are to be printed.
-#[derive(Clone, Copy)]
+// A line taken from a part of the input: the place after the bytes taken, and how many bytes are to be printed.
+#[derive(Clone, Copy, PartialEq, Eq, Debug)]
 pub struct Taken {
-    pub line: Line,
     pub next: usize,
     pub length: usize,
 }
@@ -99,14 +113,14 @@ impl Line {
         }
     }
 
-    // The command of the bytes kept.
-    fn command(self) -> Command
+    // The command of the bytes kept; none, if they are none.
+    fn command(self) -> Option<Command>
         ensures { result ≡ command_of (kept_of self) }
     {
         let bytes = self.bytes;
         let length = self.length;
         if Program::KEPT_BYTES < length {
-            return Command::Unknown;
+            return None;
         }
         commands::command_of(&bytes[..length])
     }
@@ -119,6 +133,7 @@ impl Line {
     {
         let mut line = self;
         let mut at = from;
+        // It ends at a line feed, and the place after it is told: no iterator tells that place.
         while at < part.len() {
             let byte = part[at];
             at += 1;

@@ -1,35 +1,43 @@
--- A signed number as the one whose bytes it has.
-use mathlib.Core.Path.{◌≡◌, refl, sym, ap, ◌∙◌}
-use mathlib.Core.Bool.{true, false, true≢false}
-use Prim.Native.Nat.{ℕ, ◌-◌, ◌≤◌}
+-- The bytes of a number, low byte first, as the library gives them; a signed number is the one whose bytes it has.
+use mathlib.Core.Path.{◌≡◌, refl, sym, ap, ap₂, ◌∙◌}
+use mathlib.Core.List.{◌∷◌}
+use Prim.Native.Nat.{ℕ, zero, suc, ◌/◌, ◌%◌, ◌^◌, ◌≤◌}
 use native.Mathlib.Omega.{arith}
-use lib.IntN.{ℤ, pos, negsuc, nat_abs}
-use lib.Signed.{nat_abs-le, lt_z, non_neg}
+use lib.IntN.{ℤ, pos, negsuc}
+use lib.ListN.{take}
 use mir.Syntax.{w32}
-use mir.Val.{to_z, of_z, SFits}
-use mir.ValLaws.{to_z-of_z}
-use Rattle.model.specs.Nodes.{twos_complement}
-use Rattle.syntax.proofs.Parameters.{sign}
+use mir.Val.{of_z}
+use Rattle.std.specs.Int.{byte_at, bytes_low_first}
+use Rattle.std.proofs.Math.Nat.{pow-suc, div-div-eq-div-mul}
+use Rattle.model.specs.Nodes.{little_bytes, twos_complement}
 
-complement_below : (p : ℤ) → non_neg p ≡ false → 4294967296 - nat_abs p ≡ twos_complement p
+byte : (i n m : ℕ) → m ≡ n / 256 ^ i → byte_at i n ≡ m % 256
+byte zero n m e = let whole : n / 1 ≡ n = omega arith in ap (λ k. k % 256) (sym (e ∙ whole))
+byte (suc i) n m e = ap (λ k. k % 256) (sym e)
+
+next : (i n m : ℕ) → m ≡ n / 256 ^ i → m / 256 ≡ n / 256 ^ suc i
+next i n m e = ap (λ k. k / 256) e ∙ div-div-eq-div-mul n (256 ^ i) 256 ∙ ap (λ k. n / k) (sym (pow-suc 256 i))
+
+low : (i k n m : ℕ) → m ≡ n / 256 ^ i → bytes_low_first i k n ≡ little_bytes k m
+unfolding little_bytes
+low i zero n m e = refl
+low i (suc k) n m e = ap₂ (λ a l. a ∷ l) (byte i n m e) (low (suc i) k n (m / 256) (next i n m e))
+
+front : (i k j n : ℕ) → k ≤ j → take k (bytes_low_first i j n) ≡ bytes_low_first i k n
+front i zero j n h = refl
+front i (suc k) zero n h = absurd (omega arith)
+front i (suc k) (suc j) n h = ap (λ l. byte_at i n ∷ l) (front (suc i) k j n (omega arith))
+
+whole : (n : ℕ) → n ≡ n / 256 ^ 0
+whole n = let e : n / 1 ≡ n = omega arith in sym e
+
+pub low_bytes : (k j n : ℕ) → k ≤ j → take k (bytes_low_first 0 j n) ≡ little_bytes k n
+low_bytes k j n h = front 0 k j n h ∙ low 0 k n n (whole n)
+
+pub all_bytes : (k n : ℕ) → bytes_low_first 0 k n ≡ little_bytes k n
+all_bytes k n = low 0 k n n (whole n)
+
+pub complement : (p : ℤ) → of_z w32 p ≡ twos_complement p
 unfolding twos_complement
-complement_below (pos n) e = absurd (true≢false e)
-complement_below (negsuc n) e = refl
-
-complement_other : (p : ℤ) → non_neg p ≡ true → nat_abs p ≡ twos_complement p
-unfolding twos_complement
-complement_other (pos n) e = refl
-complement_other (negsuc n) e = absurd (true≢false (sym e))
-
-module _ {p : ℤ} (f : SFits w32 p) {n : ℕ} (read : n ≡ nat_abs (to_z w32 (of_z w32 p))) where
-  size : n ≡ nat_abs p
-  size = read ∙ ap nat_abs (to_z-of_z w32 p f)
-
-  pub size_within : n ≤ 4294967296
-  size_within = omega (arith, size, nat_abs-le p f.sfits)
-
-  pub negative_complement : lt_z (to_z w32 (of_z w32 p)) (pos 0) ≡ true → 4294967296 - n ≡ twos_complement p
-  negative_complement e = ap (λ n. 4294967296 - n) size ∙ complement_below p (sign f e)
-
-  pub other_complement : lt_z (to_z w32 (of_z w32 p)) (pos 0) ≡ false → n ≡ twos_complement p
-  other_complement e = size ∙ complement_other p (sign f e)
+complement (pos n) = refl
+complement (negsuc n) = refl

@@ -2,7 +2,7 @@
 use mathlib.Core.Path.{◌≡◌, refl, sym, ap, ◌∙◌}
 use mathlib.Core.Bool.{Bool, true, false, cond}
 use mathlib.Core.List.{List, [], ◌∷◌, ◌++◌, flat_map}
-use Prim.Native.Nat.{ℕ, zero, suc, ◌+◌, ◌-◌, ◌/◌, ◌%◌, ◌≤◌, ◌<◌}
+use Prim.Native.Nat.{ℕ, suc, ◌+◌, ◌≤◌, ◌<◌}
 use native.Mathlib.Nat.{zero-add}
 use native.Mathlib.Numerals.{add-one}
 use native.Mathlib.Omega.{arith}
@@ -11,7 +11,6 @@ use lib.Dec.{ltb}
 use lib.ListN.{length, drop, set, get_or, length-set, drop_of_length-le}
 use lib.Seq.{sets, sets-eq, drop-cons}
 use Rattle.results.specs.Results.{over}
-use Rattle.model.specs.Nodes.{little_bytes}
 use Rattle.encoding.specs.Tapes.{Tape, tape, put, put_all}
 
 -- ---- one cell
@@ -88,21 +87,6 @@ put_full (a ∷ new) cells at h g =
     by false e p q = q (ltb-false at (length cells) e)
 
 -- ---- the pieces of a file
-
--- the low byte of a number has been written
-pub little_more : (due rest : ℕ) (t : Tape ℕ) {u v : Tape ℕ} → 0 < due → u ≡ put (rest % 256) t → put_all (little_bytes due rest) t ≡ v
-    → put_all (little_bytes (due - 1) (rest / 256)) u ≡ v
-unfolding little_bytes put_all
-little_more zero rest t h e f = absurd (omega arith)
-little_more (suc due) rest t {u} h e f =
-    let less : suc due - 1 ≡ due = omega arith in
-    ap (λ n. put_all (little_bytes n (rest / 256)) u) less ∙ ap (put_all (little_bytes due (rest / 256))) e ∙ f
-
--- no byte of it is left
-pub little_done : (due rest : ℕ) (t : Tape ℕ) {u : Tape ℕ} → due ≤ 0 → put_all (little_bytes due rest) t ≡ u → t ≡ u
-unfolding little_bytes put_all
-little_done zero rest t h e = e
-little_done (suc due) rest t h e = absurd (omega arith)
 
 -- the piece of the first of those that are left has been written
 pub pieces_more : {A B : Type 0} (f : A → List B) (l : List A) (i : ℕ) (d : A) (t : Tape B) {u v : Tape B} → i < length l → u ≡ put_all (f (get_or l i d)) t

@@ -1,5 +1,6 @@
 -- Cells that are written one after another. Past the last cell nothing is written, so a tape takes anything.
 use Rattle.std.specs.Prelude.{cond, List, [], ◌∷◌, ℕ, ◌+◌, ltb, length, set}
+use Rattle.encoding.specs.declared.Tape.{Tape as Lent}
 
 -- the cells, and the place of the next one that is written
 pub record Tape (A : Type 0) : Type 0 where
@@ -8,6 +9,10 @@ pub record Tape (A : Type 0) : Type 0 where
 
 abbrev pub tape : {A : Type 0} → List A → ℕ → Tape A
 tape cells at = record { cells = cells; at = at }
+
+-- the cells that are lent, and the place
+abbrev pub tape_in : {A : Type 0} → Lent A → Tape A
+tape_in t = tape t.cells.now t.at
 
 unfoldable pub put : {A : Type 0} → A → Tape A → Tape A
 put a t = cond (ltb t.at (length t.cells)) (tape (set t.cells t.at a) (t.at + 1)) t

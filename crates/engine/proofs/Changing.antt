@@ -1,5 +1,6 @@
 -- The states of a transition are made: where its guard is true the old ones are stored in cells of their own, and its action over
 -- the values of all variables changes them.
+use Rattle.std.specs.Prelude.{Result, Ok, Err}
 use mathlib.Core.Path.{◌≡◌, refl, sym, ap, ◌∙◌}
 use mathlib.Core.Bool.{Bool, true, false, true≢false}
 use mathlib.Core.List.{List, ◌++◌}
@@ -17,10 +18,8 @@ use Rattle.model.specs.Trees.{Transition, System, variables}
 use Rattle.interpreter.specs.declared.Fault.{Fault}
 use Rattle.expressions.specs.Cells.{valuation_of}
 use Rattle.expressions.proofs.Evaluating.{expression_within}
-use Rattle.semantics.specs.declared.Finding.{Finding}
-use Rattle.semantics.specs.declared.Finding.TheVariants.{Clear, Faulty}
-use Rattle.semantics.specs.declared.Firing.{Firing}
-use Rattle.semantics.specs.declared.Firing.TheVariants.{Disabled, ActionFault}
+use Rattle.semantics.specs.declared.NotFired.{NotFired}
+use Rattle.semantics.specs.declared.NotFired.TheVariants.{Disabled, ActionFault}
 use Rattle.semantics.specs.Actions.{Acted, act}
 use Rattle.semantics.specs.Actions.Acted.{faulty, states}
 use Rattle.semantics.specs.Meanings.{Meaning, guard_over, action_in, meaning_of}
@@ -29,30 +28,28 @@ use Rattle.semantics.proofs.Knowing.{element_below}
 use Rattle.propagation.specs.Cells.{states_by_acting, ActionStands}
 use Rattle.propagation.proofs.Valuations.{known_values}
 use Rattle.results.specs.Results.{answered, over}
-use Rattle.engine.specs.declared.transitions.Stage.{Stage}
-use Rattle.engine.specs.declared.transitions.Stage.TheVariants.{Over, Open}
-use Rattle.engine.specs.Cells.{Loaded, AllHeld, stage_by_guard, LeftByChanging}
+use Rattle.engine.specs.Cells.{Loaded, AllHeld, admission, LeftByChanging}
 use Rattle.engine.proofs.Loading.{loaded_well_formed, loaded_states, loaded_places, loaded_guards, loaded_guard, loaded_action, loaded_scoped}
 use Rattle.engine.proofs.Counts.{rows_count}
 use Rattle.engine.proofs.Guards.{length_all, all_rows, guard_missing, left_over, left_open, not_unknown}
 
 -- ---- by what the action comes to
 
-faulty_by : (m : Meaning) (old ss new : List ℤ) (x : Acted) (f : Fault) → answered (Faulty f) new ≡ states_by_acting ss x
-    → answered (ActionFault f) old ≡ left_by_acting m old x
+faulty_by : (m : Meaning) (old ss new : List ℤ) (x : Acted) (f : Fault) → answered (Err f) new ≡ states_by_acting ss x
+    → answered (Err (ActionFault f)) old ≡ left_by_acting m old x
 unfolding states_by_acting left_by_acting
 faulty_by m old ss new (faulty g) f e =
-    let a : Faulty f ≡ Faulty g = ap (λ l. l.answer) e in
+    let a : Err f ≡ Err g = ap (λ l. l.answer) e in
     let b : f ≡ g = cc in rw b
 faulty_by m old ss new (states n) f e =
-    let a : Faulty f ≡ Clear = ap (λ l. l.answer) e in
+    let a : Err f ≡ Ok tt = ap (λ l. l.answer) e in
     let z : true ≡ false = cc in absurd (true≢false z)
 
-clear_by : (m : Meaning) (old ss new : List ℤ) (x : Acted) → answered Clear new ≡ states_by_acting ss x
+clear_by : (m : Meaning) (old ss new : List ℤ) (x : Acted) → answered (Ok tt) new ≡ states_by_acting ss x
     → left_by_settling old (m.propagate new) ≡ left_by_acting m old x
 unfolding states_by_acting left_by_acting
 clear_by m old ss new (faulty g) e =
-    let a : Clear ≡ Faulty g = ap (λ l. l.answer) e in
+    let a : Ok tt ≡ Err g = ap (λ l. l.answer) e in
     let z : true ≡ false = cc in absurd (true≢false z)
 clear_by m old ss new (states n) e = rw (ap (λ l. l.left) e)
 
@@ -67,7 +64,7 @@ module _ {model : Model} {kinds : List ℕ} {parameters : List ℤ} {rows : List
   unfolding meaning_of
   no_states l e = e ∙ ap (λ n. replicate n (pos 0)) (all_rows d)
 
-  pub over_by_room : length old < model.sizes.states + model.sizes.flows → LeftByChanging (meaning_of d.decoded.system) k old blank (Over Disabled)
+  pub over_by_room : length old < model.sizes.states + model.sizes.flows → LeftByChanging (meaning_of d.decoded.system) k old blank (Err Disabled)
   unfolding LeftByChanging fired
   over_by_room h = (rw (lt-ltb (length old) (length (meaning_of d.decoded.system).declarations) short), no_states blank zeros)
     where
@@ -77,7 +74,7 @@ module _ {model : Model} {kinds : List ℕ} {parameters : List ℤ} {rows : List
   -- the guard was evaluated over the values of all variables, held as cells
   module _ (fits : model.sizes.states + model.sizes.flows ≤ length old) (cells : List ℤ)
       (held : length rows ≤ length old → AllHeld (length rows) old cells) (x : Evaluation)
-      (guarded : x ≡ guard_over d.decoded.system k (valuation_of cells)) (stage : Stage) (admitted : stage ≡ stage_by_guard x) where
+      (guarded : x ≡ guard_over d.decoded.system k (valuation_of cells)) (stage : Result (Unit {0}) NotFired) (admitted : stage ≡ admission x) where
     pub length_rows : length rows ≡ model.sizes.states + model.sizes.flows
     length_rows = all_rows d ∙ length_all d
 
@@ -89,20 +86,20 @@ module _ {model : Model} {kinds : List ℕ} {parameters : List ℤ} {rows : List
     by_guard_lem =
         rw (guarded, known_values cells (held room).known, (held room).held, all_rows d, le-ltb (length old) (length (variables d.decoded.system)) (omega (arith, length_all d)))
 
-    pub over_by_guard : (r : Firing) → stage ≡ Over r → LeftByChanging (meaning_of d.decoded.system) k old blank stage
+    pub over_by_guard : (r : NotFired) → stage ≡ Err r → LeftByChanging (meaning_of d.decoded.system) k old blank (Err r)
     unfolding LeftByChanging
-    over_by_guard r e = rw e (left_over _ k old x r (sym e ∙ admitted) ∙ by_guard_lem, no_states blank zeros)
+    over_by_guard r e = (left_over _ k old x r (sym e ∙ admitted) ∙ by_guard_lem, no_states blank zeros)
 
     -- ---- the firing goes on
 
-    module _ (going : stage ≡ Open) where
+    module _ (going : stage ≡ Ok tt) where
       pub within : k < length guards
       within = by (ltb k (length guards)) refl
         where
           by : (t : Bool) → ltb k (length guards) ≡ t → k < length guards
           by true e = ltb-true k (length guards) e
           by false e =
-              absurd (not_unknown (sym going ∙ admitted ∙ ap stage_by_guard (guarded ∙ sym (guard_missing d k (ltb-false k (length guards) e) _))))
+              absurd (not_unknown (sym going ∙ admitted ∙ ap admission (guarded ∙ sym (guard_missing d k (ltb-false k (length guards) e) _))))
 
       pub transition : (t : Transition) × (get_elem? d.decoded.system.transitions k ≡ some t)
       transition = element_below d.decoded.system.transitions k (omega (arith, within, loaded_guards d))
@@ -165,7 +162,7 @@ module _ {model : Model} {kinds : List ℕ} {parameters : List ℤ} {rows : List
             ∙ left_open (meaning_of d.decoded.system) k old x (sym going ∙ admitted)
             ∙ by_guard_lem
 
-        module _ (new : List ℤ) (kept : length new ≡ length (take model.sizes.states array)) (r : Finding)
+        module _ (new : List ℤ) (kept : length new ≡ length (take model.sizes.states array)) (r : Result (Unit {0}) Fault)
             (left : answered r new ≡ states_by_acting (take model.sizes.states array) (act d.decoded.system transition.0.action cells)) where
           length_new : length new ≡ model.sizes.states
           length_new = kept ∙ sym length_old
@@ -180,15 +177,15 @@ module _ {model : Model} {kinds : List ℕ} {parameters : List ℤ} {rows : List
           enough : length (meaning_of d.decoded.system).declarations ≤ length old
           enough = omega (arith, room, rows_count d)
 
-          pub over_by_action : (f : Fault) → r ≡ Faulty f → (cleared : List ℤ) → cleared ≡ replicate (length (new ++ drop model.sizes.states array)) (pos 0)
-              → LeftByChanging (meaning_of d.decoded.system) k old cleared (Over (ActionFault f))
+          pub over_by_action : (f : Fault) → r ≡ Err f → (cleared : List ℤ) → cleared ≡ replicate (length (new ++ drop model.sizes.states array)) (pos 0)
+              → LeftByChanging (meaning_of d.decoded.system) k old cleared (Err (ActionFault f))
           unfolding LeftByChanging
           over_by_action f e cleared h = (
             faulty_by _ old _ new _ f (ap (λ r. answered r new) (sym e) ∙ left) ∙ acted,
             no_states cleared (h ∙ ap (λ n. replicate n (pos 0)) (length_joined ∙ length_blank)),
           )
 
-          pub changed : r ≡ Clear → LeftByChanging (meaning_of d.decoded.system) k old (new ++ drop model.sizes.states array) Open
+          pub changed : r ≡ Ok tt → LeftByChanging (meaning_of d.decoded.system) k old (new ++ drop model.sizes.states array) (Ok tt)
           unfolding LeftByChanging
           changed e = (
             enough,

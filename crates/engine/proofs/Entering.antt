@@ -1,5 +1,6 @@
 -- New states are entered: the flow part of the values is lent to the assertion, and the states are stored when it settles. What is
 -- left is as `left_by_settling` has it.
+use Rattle.std.specs.Prelude.{Result, Ok, Err}
 use mathlib.Core.Path.{◌≡◌, refl, sym, ap, subst, ◌∙◌}
 use mathlib.Core.Bool.{true, false, true≢false}
 use mathlib.Core.List.{List, [], ◌∷◌, ◌++◌, append_assoc}
@@ -13,9 +14,7 @@ use lib.Seq.{drop_at, drop-drop}
 use Rattle.model.specs.Trees.{Instruction, Variable, System, variables}
 use Rattle.model.specs.WellFormed.{WellFormed}
 use Rattle.interpreter.specs.declared.Fault.{Fault}
-use Rattle.semantics.specs.declared.Propagated.{Propagated}
-use Rattle.semantics.specs.declared.Propagated.TheVariants.{Refused, Settled}
-use Rattle.semantics.specs.declared.Firing.TheVariants.{AssertionFault, Fired}
+use Rattle.semantics.specs.declared.NotFired.TheVariants.{AssertionFault}
 use Rattle.expressions.specs.Expressions.{Valuation, known_from}
 use Rattle.interpreter.specs.Instructions.{first_of}
 use Rattle.semantics.specs.Actions.{cells, value_or0}
@@ -106,26 +105,26 @@ module _ {ks : List ℕ} {ps : List ℤ} {nexts : List ℕ} {rows : List (List �
       (rounds_bounded_tree p.assertion.system p.assertion.well_formed ss count new e).2
       ∙ sym (row_count (variables p.assertion.system) p.assertion.rows_held) ∙ all
 
-  refused_by_lem : (x : Settling) (f : Fault) (flows : List ℤ) → answered (Refused f) flows ≡ flows_by_settling (length ss) (flow_part s n old) x
-      → answered (AssertionFault f) (with_flows s n old flows) ≡ left_by_settling old x
+  refused_by_lem : (x : Settling) (f : Fault) (flows : List ℤ) → answered (Err f) flows ≡ flows_by_settling (length ss) (flow_part s n old) x
+      → answered (Err (AssertionFault f)) (with_flows s n old flows) ≡ left_by_settling old x
   unfolding flows_by_settling left_by_settling
   refused_by_lem (refused g) f flows e =
-      let a : Refused f ≡ Refused g = ap (λ l. l.answer) e in
+      let a : Err f ≡ Err g = ap (λ l. l.answer) e in
       let b : f ≡ g = cc in
       rw (b, ap (λ l. l.left) e, with_same s n old)
   refused_by_lem (settled c new) f flows e =
-      let a : Refused f ≡ Settled c = ap (λ l. l.answer) e in
+      let a : Err f ≡ Ok c = ap (λ l. l.answer) e in
       let z : true ≡ false = cc in absurd (true≢false z)
 
   settled_by : (x : Settling) → settle p.assertion.system ss ≡ x → (count : ℕ) (flows : List ℤ)
-      → answered (Settled count) flows ≡ flows_by_settling (length ss) (flow_part s n old) x
-      → answered (Fired count) (over ss (with_flows s n old flows)) ≡ left_by_settling old x
+      → answered (Ok count) flows ≡ flows_by_settling (length ss) (flow_part s n old) x
+      → answered (Ok count) (over ss (with_flows s n old flows)) ≡ left_by_settling old x
   unfolding flows_by_settling left_by_settling
   settled_by (refused g) k count flows e =
-      let a : Settled count ≡ Refused g = ap (λ l. l.answer) e in
+      let a : Ok count ≡ Err g = ap (λ l. l.answer) e in
       let z : true ≡ false = cc in absurd (true≢false z)
   settled_by (settled c new) k count flows e =
-      let a : Settled count ≡ Settled c = ap (λ l. l.answer) e in
+      let a : Ok count ≡ Ok c = ap (λ l. l.answer) e in
       let b : count ≡ c = cc in
       rw (
         b,
@@ -138,14 +137,14 @@ module _ {ks : List ℕ} {ps : List ℤ} {nexts : List ℕ} {rows : List (List �
   states_fit flows e =
       simp (length-append, length-take, length-drop) (omega (arith, e, length_flow_part, states_first, long))
 
-  module _ (r : Propagated) (flows : List ℤ)
+  module _ (r : Result ℕ Fault) (flows : List ℤ)
       (left : answered r flows ≡ flows_by_settling (length ss) (flow_part s n old) (settle p.assertion.system ss)) where
-    pub enter_refused : (f : Fault) → r ≡ Refused f
-        → answered (AssertionFault f) (with_flows s n old flows) ≡ left_by_settling old (settle p.assertion.system ss)
+    pub enter_refused : (f : Fault) → r ≡ Err f
+        → answered (Err (AssertionFault f)) (with_flows s n old flows) ≡ left_by_settling old (settle p.assertion.system ss)
     enter_refused f k = refused_by_lem (settle p.assertion.system ss) f flows (ap (λ r. answered r flows) (sym k) ∙ left)
 
-    pub enter_settled : (count : ℕ) → r ≡ Settled count → (new : List ℤ) → new ≡ over ss (with_flows s n old flows)
-        → answered (Fired count) new ≡ left_by_settling old (settle p.assertion.system ss)
+    pub enter_settled : (count : ℕ) → r ≡ Ok count → (new : List ℤ) → new ≡ over ss (with_flows s n old flows)
+        → answered (Ok count) new ≡ left_by_settling old (settle p.assertion.system ss)
     enter_settled count k new h =
-        ap (answered (Fired count)) h
+        ap (answered (Ok count)) h
         ∙ settled_by (settle p.assertion.system ss) refl count flows (ap (λ r. answered r flows) (sym k) ∙ left)

@@ -1,4 +1,5 @@
 -- Starting and firing on a loaded model: what the code answers and leaves is as the definitions `begun` and `fired` have it.
+use Rattle.std.specs.Prelude.{Err, Result, Ok}
 use mathlib.Core.Path.{◌≡◌, sym, ap, subst, ◌∙◌}
 use mathlib.Core.List.{List}
 use Prim.Native.Nat.{ℕ, ◌+◌, ◌-◌, ◌≤◌, ◌<◌}
@@ -8,23 +9,17 @@ use lib.IntN.{ℤ, pos}
 use lib.ListN.{length, take, replicate, length-take, length-replicate}
 use Rattle.model.specs.declared.Model.{Model}
 use Rattle.model.specs.Trees.{variables}
-use Rattle.semantics.specs.declared.Firing.{Firing}
-use Rattle.semantics.specs.declared.Firing.TheVariants.{Disabled}
+use Rattle.semantics.specs.declared.NotFired.{NotFired}
+use Rattle.semantics.specs.declared.NotFired.TheVariants.{Disabled}
 use Rattle.semantics.specs.Propagation.{settle}
 use Rattle.semantics.specs.Meanings.{meaning_of}
-use Rattle.semantics.specs.Firing.{left_by_settling, fired, begun}
+use Rattle.semantics.specs.Firing.{Firing, left_by_settling, fired, begun}
 use Rattle.scratch.specs.Blank.{unknown_cell, BlankFiring}
 use Rattle.propagation.specs.Cells.{PropagationStands}
 use Rattle.results.specs.Results.{answered}
-use Rattle.engine.specs.declared.transitions.Stage.{Stage}
-use Rattle.engine.specs.declared.transitions.Stage.TheVariants.{Over, Open}
 use Rattle.engine.specs.Cells.{Loaded, AllHeld, LeftByChanging}
 use Rattle.engine.proofs.Loading.{loaded_states, loaded_flows, assertion_stands}
 use Rattle.engine.proofs.Guards.{length_all, all_rows}
-
--- two calls keep a length; its lists are named, since to find them costs
-pub kept_by_both : {A : Type 0} (last middle first : List A) → length last ≡ length middle → length middle ≡ length first → length last ≡ length first
-kept_by_both last middle first p q = p ∙ q
 
 module _ {model : Model} {kinds : List ℕ} {parameters : List ℤ} {rows : List (List ℤ)} {nexts guards : List ℕ}
     (d : Loaded model kinds parameters rows nexts guards) where
@@ -34,12 +29,12 @@ module _ {model : Model} {kinds : List ℕ} {parameters : List ℤ} {rows : List
   -- ---- starting
 
   module _ (ss old : List ℤ) where
-    pub begin_short : length old < model.sizes.states + model.sizes.flows → answered Disabled old ≡ begun (meaning_of d.decoded.system) ss old
+    pub begin_short : length old < model.sizes.states + model.sizes.flows → answered (Err Disabled) old ≡ begun (meaning_of d.decoded.system) ss old
     unfolding begun meaning_of
     begin_short h = rw (lt-ltb (length old) (length (variables d.decoded.system)) (omega (arith, length_all d)))
 
     pub begin_other : model.sizes.states + model.sizes.flows ≤ length old → (length ss ≡ model.sizes.states → ⊥)
-        → answered Disabled old ≡ begun (meaning_of d.decoded.system) ss old
+        → answered (Err Disabled) old ≡ begun (meaning_of d.decoded.system) ss old
     unfolding begun meaning_of
     begin_other h n =
         rw (
@@ -83,15 +78,15 @@ module _ {model : Model} {kinds : List ℕ} {parameters : List ℤ} {rows : List
         → forgotten ≡ replicate (length rows) unknown_cell
     nothing_known_lem cells forgotten l e = e ∙ ap (λ n. replicate n unknown_cell) (l ∙ length_blank)
 
-    module _ (x : Stage) (new : List ℤ) (kept : length new ≡ length states) (changed : LeftByChanging (meaning_of d.decoded.system) k old new x) where
+    module _ (x : Result (Unit {0}) NotFired) (new : List ℤ) (kept : length new ≡ length states) (changed : LeftByChanging (meaning_of d.decoded.system) k old new x) where
       length_new : length new ≡ length rows
       length_new = kept ∙ ap length b.zeros ∙ length-replicate (length rows) (pos 0)
 
-      module _ (r : Firing) (over : x ≡ Over r) where
-        is_over : LeftByChanging (meaning_of d.decoded.system) k old new (Over r)
+      module _ (r : NotFired) (over : x ≡ Err r) where
+        is_over : LeftByChanging (meaning_of d.decoded.system) k old new (Err r)
         is_over = subst (λ x. LeftByChanging (meaning_of d.decoded.system) k old new x) over changed
 
-        pub over_left : answered r old ≡ fired (meaning_of d.decoded.system) k old
+        pub over_left : answered (Err r) old ≡ fired (meaning_of d.decoded.system) k old
         unfolding LeftByChanging
         over_left = is_over.0
 
@@ -108,8 +103,8 @@ module _ {model : Model} {kinds : List ℕ} {parameters : List ℤ} {rows : List
       pub states_zeros : (cleared : List ℤ) → cleared ≡ replicate (length new) (pos 0) → cleared ≡ replicate (length rows) (pos 0)
       states_zeros cleared e = e ∙ ap (λ n. replicate n (pos 0)) length_new
 
-      module _ (going : x ≡ Open) where
-        is_open : LeftByChanging (meaning_of d.decoded.system) k old new Open
+      module _ (going : x ≡ Ok tt) where
+        is_open : LeftByChanging (meaning_of d.decoded.system) k old new (Ok tt)
         is_open = subst (λ x. LeftByChanging (meaning_of d.decoded.system) k old new x) going changed
 
         room : model.sizes.states + model.sizes.flows ≤ length old

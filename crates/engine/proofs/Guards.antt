@@ -1,5 +1,6 @@
 -- Guards of a loaded model: the values of all variables are held as cells, and what the guard over them comes to either ends the
 -- firing or lets it go on.
+use Rattle.std.specs.Prelude.{Result, Ok, Err}
 use mathlib.Core.Path.{◌≡◌, refl, sym, ap, ◌∙◌}
 use mathlib.Core.Bool.{Bool, true, false, cond, true≢false}
 use mathlib.Core.List.{List}
@@ -22,16 +23,15 @@ use Rattle.expressions.specs.declared.Evaluated.{Evaluated}
 use Rattle.expressions.specs.Expressions.{Valuation, evaluate}
 use Rattle.expressions.specs.Cells.{evaluated_as, ExpressionStands}
 use Rattle.expressions.proofs.Cells.{no_element}
-use Rattle.semantics.specs.declared.Firing.TheVariants.{Disabled, GuardFailed}
-use Rattle.semantics.specs.declared.Firing.{Firing}
+use Rattle.semantics.specs.declared.NotFired.TheVariants.{Disabled, GuardFailed}
+use Rattle.semantics.specs.declared.NotFired.{NotFired}
 use Rattle.semantics.specs.Meanings.{Meaning, guard_in, guard_over}
 use Rattle.semantics.specs.Firing.{Left, left_by_acting, left_by_guard}
 use Rattle.semantics.proofs.Knowing.{element_below}
 use Rattle.propagation.specs.Cells.{AllRepresentable}
 use Rattle.results.specs.Results.{answered, over}
 use Rattle.variables.proofs.Columns.{row_count}
-use Rattle.engine.specs.declared.transitions.Stage.TheVariants.{Over, Open}
-use Rattle.engine.specs.Cells.{Loaded, AllHeld, stage_by_guard}
+use Rattle.engine.specs.Cells.{Loaded, AllHeld, admission}
 use Rattle.engine.proofs.Loading.{loaded_well_formed, loaded_states, loaded_flows, loaded_guards, loaded_guard}
 
 -- ---- values held as cells
@@ -88,47 +88,51 @@ module _ {model : Model} {kinds : List ℕ} {parameters : List ℤ} {rows : List
 
 -- ---- what the guard makes of a firing
 
-pub guard_unknown : (x : Evaluation) → x ≡ Unknown → Over Disabled ≡ stage_by_guard x
-unfolding stage_by_guard
+pub guard_unknown : (x : Evaluation) → x ≡ Unknown → Err Disabled ≡ admission x
+unfolding admission
 guard_unknown x e = rw e
 
-pub guard_failed : (x : Evaluation) → x ≡ Failed → Over GuardFailed ≡ stage_by_guard x
-unfolding stage_by_guard
+pub guard_failed : (x : Evaluation) → x ≡ Failed → Err GuardFailed ≡ admission x
+unfolding admission
 guard_failed x e = rw e
 
 module _ (x : Evaluation) (v : ℤ) (fits : mag v < 2 ^ 31) (is : x ≡ Value v) where
-  pub guard_false : (of_z w32 v ≡ 1 → ⊥) → Over Disabled ≡ stage_by_guard x
-  unfolding stage_by_guard
+  pub guard_false : (of_z w32 v ≡ 1 → ⊥) → Err Disabled ≡ admission x
+  unfolding admission
   guard_false n = rw (is, other_bits w32 {x = v} {y = pos 1} (record { sfits = fits }) one_fits n)
 
-  pub guard_true : of_z w32 v ≡ 1 → Open ≡ stage_by_guard x
-  unfolding stage_by_guard
+  pub guard_true : of_z w32 v ≡ 1 → Ok tt ≡ admission x
+  unfolding admission
   guard_true n = rw (is, equal_bits w32 {x = v} {y = pos 1} (record { sfits = fits }) one_fits n)
 
 -- ---- what is left, by the stage that the guard leads to
 
+-- this is what a guard with this truth value makes of the firing
+abbrev IsByTruth : Result (Unit {0}) NotFired → Bool → Type 0
+IsByTruth r b = r ≡ cond b (Ok tt) (Err Disabled)
+
 module _ (m : Meaning) (k : ℕ) (old : List ℤ) where
-  by_value : (b : Bool) (r : Firing) (l : Left) → Over r ≡ cond b Open (Over Disabled) → answered r old ≡ cond b l (answered Disabled old)
+  by_value : (b : Bool) (r : NotFired) (l : Left) → IsByTruth (Err r) b → answered (Err r) old ≡ cond b l (answered (Err Disabled) old)
   by_value true r l e = let z : true ≡ false = cc in absurd (true≢false z)
   by_value false r l e = let f : r ≡ Disabled = cc in rw f
 
-  pub left_over : (x : Evaluation) (r : Firing) → Over r ≡ stage_by_guard x → answered r old ≡ left_by_guard m k old x
-  unfolding stage_by_guard left_by_guard
+  pub left_over : (x : Evaluation) (r : NotFired) → Err r ≡ admission x → answered (Err r) old ≡ left_by_guard m k old x
+  unfolding admission left_by_guard
   left_over Unknown r e = let f : r ≡ Disabled = cc in rw f
   left_over Failed r e = let f : r ≡ GuardFailed = cc in rw f
   left_over (Value v) r e = by_value (eq_z v (boolean true)) r _ e
 
-  by_true_lem : (b : Bool) (l : Left) → Open ≡ cond b Open (Over Disabled) → l ≡ cond b l (answered Disabled old)
+  by_true_lem : (b : Bool) (l : Left) → IsByTruth (Ok tt) b → l ≡ cond b l (answered (Err Disabled) old)
   by_true_lem true l e = refl
   by_true_lem false l e = let z : true ≡ false = cc in absurd (true≢false z)
 
-  pub left_open : (x : Evaluation) → Open ≡ stage_by_guard x
+  pub left_open : (x : Evaluation) → Ok tt ≡ admission x
       → left_by_acting m old (m.action k (take (length m.declarations) old)) ≡ left_by_guard m k old x
-  unfolding stage_by_guard left_by_guard
+  unfolding admission left_by_guard
   left_open Unknown e = let z : true ≡ false = cc in absurd (true≢false z)
   left_open Failed e = let z : true ≡ false = cc in absurd (true≢false z)
   left_open (Value v) e = by_true_lem (eq_z v (boolean true)) _ e
 
-pub not_unknown : Open ≡ stage_by_guard Unknown → ⊥
-unfolding stage_by_guard
+pub not_unknown : Ok tt ≡ admission Unknown → ⊥
+unfolding admission
 not_unknown e = let z : true ≡ false = cc in true≢false z

@@ -1,5 +1,5 @@
 -- What the functions on a decoded model are lent, what they may ask of it, and how a firing goes on from one of them to the next.
-use Rattle.std.specs.Prelude.{◌≡◌, true, cond, List, ℕ, ◌≤◌, ℤ, pos, length, take, replicate}
+use Rattle.std.specs.Prelude.{◌≡◌, true, cond, List, ℕ, ◌≤◌, ℤ, pos, length, take, replicate, Err, Result, Ok}
 use Rattle.evaluation.specs.declared.Evaluation.{Evaluation}
 use Rattle.evaluation.specs.declared.Evaluation.TheVariants.{Unknown, Failed, Value}
 use Rattle.evaluation.specs.Numbers.{eq_z, boolean}
@@ -8,11 +8,10 @@ use Rattle.model.specs.Theorems.{Bytes}
 use Rattle.decoding.specs.Decoding.{Decoded}
 use Rattle.propagation.specs.Cells.{AllRepresentable}
 use Rattle.results.specs.Results.{answered}
-use Rattle.semantics.specs.declared.Firing.TheVariants.{Disabled, GuardFailed}
+use Rattle.semantics.specs.declared.NotFired.{NotFired}
+use Rattle.semantics.specs.declared.NotFired.TheVariants.{Disabled, GuardFailed}
 use Rattle.semantics.specs.Meanings.{Meaning, meaning_of}
 use Rattle.semantics.specs.Firing.{left_by_settling, fired}
-use Rattle.engine.specs.declared.transitions.Stage.{Stage}
-use Rattle.engine.specs.declared.transitions.Stage.TheVariants.{Over, Open}
 
 -- the values of so many variables, the first of those lent, are held as cells
 pub record AllHeld (count : ℕ) (values cells : List ℤ) : Type 0 where
@@ -20,17 +19,17 @@ pub record AllHeld (count : ℕ) (values cells : List ℤ) : Type 0 where
   pub held : cells ≡ take count values
   pub known : AllRepresentable cells
 
--- by the guard: the firing is over where it is not true
-unfoldable pub stage_by_guard : Evaluation → Stage
-stage_by_guard Unknown = Over Disabled
-stage_by_guard Failed = Over GuardFailed
-stage_by_guard (Value v) = cond (eq_z v (boolean true)) Open (Over Disabled)
+-- by the guard: why nothing is fired where it is not true
+unfoldable pub admission : Evaluation → Result (Unit {0}) NotFired
+admission Unknown = Err Disabled
+admission Failed = Err GuardFailed
+admission (Value v) = cond (eq_z v (boolean true)) (Ok tt) (Err Disabled)
 
 -- by guard and action: what the firing leaves where it is over, with no states made, and where it goes on what the assertion
 -- over the states made leaves
-unfoldable pub LeftByChanging : Meaning → ℕ → List ℤ → List ℤ → Stage → Type 0
-LeftByChanging m t old states (Over r) = (answered r old ≡ fired m t old) × (states ≡ replicate (length m.declarations) (pos 0))
-LeftByChanging m t old states Open =
+unfoldable pub LeftByChanging : Meaning → ℕ → List ℤ → List ℤ → Result (Unit {0}) NotFired → Type 0
+LeftByChanging m t old states (Err r) = (answered (Err r) old ≡ fired m t old) × (states ≡ replicate (length m.declarations) (pos 0))
+LeftByChanging m t old states (Ok tt) =
     (length m.declarations ≤ length old) × (left_by_settling old (m.propagate (take m.states states)) ≡ fired m t old)
 
 -- the slices are the decoding of an accepted file: what the functions exported here ask

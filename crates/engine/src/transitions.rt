@@ -7,22 +7,18 @@ ghost use Rattle.waiting.specs.Index.{Indexed};
 ghost use Rattle.expressions.specs.Cells.{valuation_of};
 ghost use Rattle.semantics.specs.Meanings.{guard_over, meaning_of};
 ghost use Rattle.semantics.specs.Firing.{fired, begun};
-ghost use Rattle.engine.specs.Cells.{Loaded, AllHeld, stage_by_guard, LeftByChanging};
+ghost use Rattle.engine.specs.Cells.{Loaded, AllHeld, admission, LeftByChanging};
 
 use evaluation::Evaluation;
+use interpreter::Gathered;
 use model::Model;
-use semantics::{Finding, Firing, Propagated};
+use reading::Gathering;
+use semantics::{Firing, NotFired};
 use syntax::Cursor;
+use tables::{Index, Tables};
 
 // What a true expression comes to.
 const TRUE: i32 = 1;
-
-// A firing is over, with this answer, or goes on.
-#[derive(Clone, Copy)]
-enum Stage {
-    Over(Firing),
-    Open,
-}
 
 // The guard of a transition over cells.
 pub fn guard(
@@ -59,18 +55,13 @@ fn hold(values: &[i32], cells: &mut [i64])
 }
 
 // What the guard makes of a firing.
-fn admit(guard: Evaluation) -> Stage
-    ensures { result ≡ stage_by_guard guard }
+fn admit(guard: Evaluation) -> Result<(), NotFired>
+    ensures { result ≡ admission guard }
 {
     match guard {
-        Evaluation::Unknown => Stage::Over(Firing::Disabled),
-        Evaluation::Failed => Stage::Over(Firing::GuardFailed),
-        Evaluation::Value(v) => {
-            if v != TRUE {
-                return Stage::Over(Firing::Disabled);
-            }
-            Stage::Open
-        }
+        Evaluation::Value(v) if v == TRUE => Ok(()),
+        Evaluation::Failed => Err(NotFired::GuardFailed),
+        _ => Err(NotFired::Disabled),
     }
 }
 
@@ -89,7 +80,7 @@ fn change_states(
     waits: &mut [u16],
     states: &mut [i32],
     transition: usize,
-) -> Stage
+) -> Result<(), NotFired>
     requires { Loaded model kinds.now parameters.now variables.now nexts.now guards.now
         × (length variables.now ≤ length values.now → AllHeld (length variables.now) values.now cells.now)
         × (states.old ≡ replicate (length variables.now) (pos 0))
@@ -100,35 +91,37 @@ fn change_states(
 {
     let n = model.sizes.states + model.sizes.flows;
     if values.len() < n {
-        return Stage::Over(Firing::Disabled);
+        return Err(NotFired::Disabled);
     }
     let evaluation = guard(
         model, kinds, parameters, variables, nexts, guards, cells, transition,
     );
-    let stage = admit(evaluation);
-    if let Stage::Over(_) = stage {
-        return stage;
-    }
+    admit(evaluation)?;
     let s = model.sizes.states;
     propagation::store(&values[..s], states);
     let place = guards[transition] as usize;
     let action = nexts[place] as usize;
-    match propagation::act(
+    let tables = Tables {
+        model,
         kinds,
         parameters,
-        nexts,
         variables,
-        cells,
+        nexts,
+        guards,
+    };
+    let mut gathering = Gathering {
+        found: Gathered::default(),
         given,
         queue,
+        queued: 0,
         waits,
-        action,
-        &mut states[..s],
-    ) {
-        Finding::Clear => Stage::Open,
-        Finding::Faulty(fault) => {
-            scratch::clear(states);
-            Stage::Over(Firing::ActionFault(fault))
+        pending: 0,
+    };
+    match propagation::act(&tables, cells, &mut gathering, action, &mut states[..s]) {
+        Ok(()) => Ok(()),
+        Err(fault) => {
+            states.fill(0);
+            Err(NotFired::ActionFault(fault))
         }
     }
 }
@@ -160,30 +153,40 @@ pub fn begin(
     let s = model.sizes.states;
     let n = s + model.sizes.flows;
     if values.len() < n {
-        return Firing::Disabled;
+        return Err(NotFired::Disabled);
     }
     if states.len() != s {
-        return Firing::Disabled;
+        return Err(NotFired::Disabled);
     }
-    match propagation::propagate(
+    let tables = Tables {
+        model,
         kinds,
         parameters,
-        nexts,
-        heads,
-        links,
         variables,
-        model.assertion,
-        states,
-        cells,
+        nexts,
+        guards,
+    };
+    let index = Index { heads, links };
+    let mut gathering = Gathering {
+        found: Gathered::default(),
         given,
         queue,
+        queued: 0,
         waits,
+        pending: 0,
+    };
+    match propagation::propagate(
+        &tables,
+        &index,
+        states,
+        cells,
+        &mut gathering,
         &mut values[s..n],
     ) {
-        Propagated::Refused(fault) => Firing::AssertionFault(fault),
-        Propagated::Settled(count) => {
+        Err(fault) => Err(NotFired::AssertionFault(fault)),
+        Ok(count) => {
             propagation::store(states, values);
-            Firing::Fired(count)
+            Ok(count)
         }
     }
 }
@@ -214,14 +217,12 @@ pub fn fire(
         × BlankFiring (length variables.now) (length kinds.now) states.new cells.new given.new queue.new waits.new }
 {
     hold(values, cells);
-    let stage = change_states(
+    let changed = change_states(
         model, kinds, parameters, variables, nexts, guards, values, cells, given, queue, waits,
         states, transition,
     );
     scratch::forget(cells);
-    if let Stage::Over(firing) = stage {
-        return firing;
-    }
+    changed?;
     let s = model.sizes.states;
     let firing = begin(
         model,
@@ -239,6 +240,6 @@ pub fn fire(
         waits,
         values,
     );
-    scratch::clear(states);
+    states.fill(0);
     firing
 }

@@ -5,15 +5,15 @@ use mathlib.Core.Bool.{Bool, true, false, true≢false, cond}
 use Prim.Native.Nat.{ℕ, zero, suc, ◌+◌, ◌-◌, ◌*◌, ◌/◌, ◌≤◌, ◌<◌, ◌^◌}
 use native.Mathlib.Nat.{mul-le-mul, div-le_self}
 use native.Mathlib.Omega.{arith}
-use borrow.Author.Tests.{eq-eqb, ne_eqb, ltb-true, ltb-false, le-leb, lt-leb}
+use borrow.Author.Tests.{eq-eqb, ne_eqb, le-leb, lt-leb}
 use lib.Dec.{eqb, ltb}
 use lib.IntN.{ℤ, pos, negsuc, neg_ℤ, nat_abs, sub_ℕ, ◌+ℤ◌, ◌-ℤ◌, ◌*ℤ◌}
-use lib.Signed.{mag, mag_rem, nat_abs-le, quot_z, rem_z, lt_z}
+use lib.Signed.{mag, mag_rem, nat_abs-le, quot_z, rem_z}
 use mir.Syntax.{Width, w32, w64}
 use mir.Val.{to_z, of_z, SFits}
 use mir.ValLaws.{to_z-of_z}
 use Rattle.evaluation.specs.declared.Evaluation.TheVariants.{Failed, Value}
-use Rattle.evaluation.specs.Numbers.{least, greatest, checked, eq_z}
+use Rattle.evaluation.specs.Numbers.{checked, eq_z}
 use Rattle.evaluation.specs.Meaning.{divided}
 use Rattle.evaluation.proofs.Laws.{eq_z_refl, eq_z_true}
 
@@ -65,19 +65,12 @@ one_fits = record { sfits = omega arith }
 
 -- ---- `checked`
 
-checked_below : (z : ℤ) → lt_z z least ≡ true → checked z ≡ Failed
+checked_beyond : (z : ℤ) → (SFits w32 z → ⊥) → checked z ≡ Failed
 unfolding checked
-checked_below (pos n) e = absurd (true≢false (sym e))
-checked_below (negsuc n) e = rw (lt-leb n 2147483647 (ltb-true 2147483647 n e))
-
-checked_above : (z : ℤ) → lt_z greatest z ≡ true → checked z ≡ Failed
-unfolding checked
-checked_above (pos n) e = rw (lt-leb n 2147483647 (ltb-true 2147483647 n e))
-checked_above (negsuc n) e = absurd (true≢false (sym e))
-
-within_fits : (z : ℤ) → lt_z z least ≡ false → lt_z greatest z ≡ false → SFits w32 z
-within_fits (pos n) e h = record { sfits = omega (arith, ltb-false 2147483647 n h) }
-within_fits (negsuc n) e h = record { sfits = omega (arith, ltb-false 2147483647 n e) }
+checked_beyond (pos n) e =
+    let beyond : n < 2147483648 → ⊥ = λ h. e (record { sfits = h }) in rw (lt-leb n 2147483647 (omega arith))
+checked_beyond (negsuc n) e =
+    let beyond : n < 2147483648 → ⊥ = λ h. e (record { sfits = h }) in rw (lt-leb n 2147483647 (omega arith))
 
 pub checked_fits : (z : ℤ) → SFits w32 z → checked z ≡ Value z
 unfolding checked
@@ -86,19 +79,11 @@ checked_fits (negsuc n) f = rw (le-leb n 2147483647 (omega (arith, f.sfits)))
 
 -- a 64-bit number in 32 bits
 module _ {z : ℤ} (f : SFits w64 z) where
-  pub narrow_below : lt_z (to_z w64 (of_z w64 z)) least ≡ true → Failed ≡ checked z
-  narrow_below e = sym (checked_below z (rw (to_z-of_z w64 z f) at e))
+  pub narrow_beyond : (SFits w32 (to_z w64 (of_z w64 z)) → ⊥) → Failed ≡ checked z
+  narrow_beyond e = sym (checked_beyond z (λ h. e (rw (to_z-of_z w64 z f) h)))
 
-  pub narrow_above : lt_z greatest (to_z w64 (of_z w64 z)) ≡ true → Failed ≡ checked z
-  narrow_above e = sym (checked_above z (rw (to_z-of_z w64 z f) at e))
-
-  module _ (e : lt_z (to_z w64 (of_z w64 z)) least ≡ false) (h : lt_z greatest (to_z w64 (of_z w64 z)) ≡ false) where
-    pub narrow_fits : SFits w32 (to_z w64 (of_z w64 z))
-    narrow_fits = within_fits (to_z w64 (of_z w64 z)) e h
-
-    pub narrow_within : Value (stored (to_z w64 (of_z w64 z))) ≡ checked z
-    narrow_within =
-        read_one Value narrow_fits ∙ sym (checked_fits (to_z w64 (of_z w64 z)) narrow_fits) ∙ ap checked (to_z-of_z w64 z f)
+  pub narrow_within : {v : ℤ} → SFits w32 (to_z w64 (of_z w64 z)) → v ≡ to_z w64 (of_z w64 z) → Value (stored v) ≡ checked z
+  narrow_within h e = rw (e, to_z-of_z w64 z f) (read_one Value (rw (to_z-of_z w64 z f) at h) ∙ sym (checked_fits z (rw (to_z-of_z w64 z f) at h)))
 
 -- ---- the size of an answer by the sizes of its operands
 

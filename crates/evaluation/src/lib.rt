@@ -8,7 +8,7 @@ ghost use Rattle.evaluation.specs.Numbers.{checked, eq_z, boolean};
 ghost use Rattle.evaluation.specs.Meaning.{divided};
 
 // What an expression evaluates to; a Boolean is 0 or 1.
-#[derive(Clone, Copy)]
+#[derive(Clone, Copy, PartialEq, Eq, Debug)]
 pub enum Evaluation {
     Unknown,
     Failed,
@@ -16,7 +16,7 @@ pub enum Evaluation {
 }
 
 // The operators with two operands.
-#[derive(Clone, Copy)]
+#[derive(Clone, Copy, PartialEq, Eq, Debug)]
 pub enum Operator {
     Conjunction,
     Disjunction,
@@ -31,33 +31,21 @@ pub enum Operator {
     Equivalence,
 }
 
-// The ends of the whole numbers of 32 bits.
-const LEAST: i64 = -2147483648;
-
-const GREATEST: i64 = 2147483647;
-
 // A number of 32 bits, or failed.
 fn narrowed(z: i64) -> Evaluation
     ensures { result ≡ checked z }
 {
-    if z < LEAST {
-        return Evaluation::Failed;
+    match i32::try_from(z) {
+        Ok(v) => Evaluation::Value(v),
+        Err(_) => Evaluation::Failed,
     }
-    if GREATEST < z {
-        return Evaluation::Failed;
-    }
-    Evaluation::Value(z as i32)
 }
 
 // A Boolean is 0 or 1.
 fn truth(b: bool) -> Evaluation
     ensures { result ≡ Evaluation.Value (boolean b) }
 {
-    if b {
-        Evaluation::Value(1)
-    } else {
-        Evaluation::Value(0)
-    }
+    Evaluation::Value(i32::from(b))
 }
 
 // Kind 38, and kind 47.
@@ -85,21 +73,21 @@ pub fn less_or_equal(x: i32, y: i32) -> Evaluation
 pub fn sum(x: i32, y: i32) -> Evaluation
     ensures { result ≡ checked (x +ℤ y) }
 {
-    narrowed((x as i64) + (y as i64))
+    narrowed(i64::from(x) + i64::from(y))
 }
 
 // Kind 42.
 pub fn difference(x: i32, y: i32) -> Evaluation
     ensures { result ≡ checked (x -ℤ y) }
 {
-    narrowed((x as i64) - (y as i64))
+    narrowed(i64::from(x) - i64::from(y))
 }
 
 // Kind 43.
 pub fn product(x: i32, y: i32) -> Evaluation
     ensures { result ≡ checked (x *ℤ y) }
 {
-    narrowed((x as i64) * (y as i64))
+    narrowed(i64::from(x) * i64::from(y))
 }
 
 // Kind 44.
@@ -109,7 +97,7 @@ pub fn quotient(x: i32, y: i32) -> Evaluation
     if y == 0 {
         return Evaluation::Failed;
     }
-    narrowed((x as i64) / (y as i64))
+    narrowed(i64::from(x) / i64::from(y))
 }
 
 // Kind 45.
@@ -119,5 +107,5 @@ pub fn remainder(x: i32, y: i32) -> Evaluation
     if y == 0 {
         return Evaluation::Failed;
     }
-    narrowed((x as i64) % (y as i64))
+    narrowed(i64::from(x) % i64::from(y))
 }

@@ -1,65 +1,51 @@
 -- Cells of 64 bits: what the two tests on a cell tell, and what a list of cells holds.
+use Rattle.std.proofs.Common.{Result, Ok, Err, OkIff, is_ok}
 use mathlib.Core.Path.{◌≡◌, refl, sym, ap, ◌∙◌}
-use mathlib.Core.Bool.{Bool, true, false, true≢false, cond}
+use mathlib.Core.Bool.{Bool, true, false, cond}
 use mathlib.Core.List.{List, [], ◌∷◌}
 use mathlib.Core.Option.{some, none}
 use Prim.Native.Nat.{ℕ, zero, suc, ◌≤◌, ◌<◌, ◌^◌}
 use native.Mathlib.Omega.{arith}
 use native.Mathlib.Nat.{not-suc-le-zero, le_of_suc-le-suc}
-use borrow.Author.Tests.{lt-leb, le-leb, ltb-true, ltb-false}
+use borrow.Author.Tests.{lt-leb, le-leb}
 use lib.IntN.{ℤ, pos, negsuc}
-use lib.Signed.{mag, lt_z, le_z}
+use lib.Signed.{mag}
 use lib.ListN.{length, get_or, set, get_elem?}
 use mir.Syntax.{w32, w64}
 use mir.Val.{to_z, of_z, SFits}
 use mir.ValLaws.{to_z-of_z}
 use Rattle.evaluation.specs.declared.Evaluation.{Evaluation}
 use Rattle.evaluation.specs.declared.Evaluation.TheVariants.{Unknown, Value}
-use Rattle.evaluation.specs.Numbers.{least, greatest, representable}
-use Rattle.evaluation.proofs.Signed.{narrow_fits}
+use Rattle.evaluation.specs.Numbers.{representable}
 use Rattle.expressions.specs.Expressions.{evaluation_of}
 use Rattle.expressions.specs.Cells.{cell_value, valuation_of}
 
 -- ---- a number of 32 bits
 
-below : (z : ℤ) → lt_z z least ≡ true → representable z ≡ false
-below (pos n) e = absurd (true≢false (sym e))
-below (negsuc n) e = rw (lt-leb n 2147483647 (ltb-true 2147483647 n e))
-
-above : (z : ℤ) → lt_z greatest z ≡ true → representable z ≡ false
-above (pos n) e = rw (lt-leb n 2147483647 (ltb-true 2147483647 n e))
-above (negsuc n) e = absurd (true≢false (sym e))
-
-not_below : (z : ℤ) → lt_z z least ≡ false → le_z z greatest ≡ representable z
-not_below (pos n) e = refl
-not_below (negsuc n) e = rw (le-leb n 2147483647 (ltb-false 2147483647 n e))
+beyond : (z : ℤ) → (SFits w32 z → ⊥) → representable z ≡ false
+beyond (pos n) e =
+    let far : n < 2147483648 → ⊥ = λ h. e (record { sfits = h }) in rw (lt-leb n 2147483647 (omega arith))
+beyond (negsuc n) e =
+    let far : n < 2147483648 → ⊥ = λ h. e (record { sfits = h }) in rw (lt-leb n 2147483647 (omega arith))
 
 pub fits_representable : (z : ℤ) → SFits w32 z → representable z ≡ true
 fits_representable (pos n) f = rw (le-leb n 2147483647 (omega (arith, f.sfits)))
 fits_representable (negsuc n) f = rw (le-leb n 2147483647 (omega (arith, f.sfits)))
 
--- what the tests on a cell tell
+-- what a cell that is converted tells
 module _ {z : ℤ} (f : SFits w64 z) where
-  pub number_below : lt_z (to_z w64 (of_z w64 z)) least ≡ true → false ≡ representable z
-  number_below e = sym (below z (rw (to_z-of_z w64 z f) at e))
+  pub number_told : {E : Type 0} (r : Result ℤ E) → OkIff r (SFits w32 (to_z w64 (of_z w64 z))) (to_z w64 (of_z w64 z)) → is_ok r ≡ representable z
+  number_told (Ok v) e = sym (fits_representable z (rw (to_z-of_z w64 z f) at e.0))
+  number_told (Err x) e = sym (beyond z (λ h. e (rw (to_z-of_z w64 z f) h)))
 
-  pub number_not_below : lt_z (to_z w64 (of_z w64 z)) least ≡ false → le_z (to_z w64 (of_z w64 z)) greatest ≡ representable z
-  number_not_below e = rw (to_z-of_z w64 z f) (not_below z (rw (to_z-of_z w64 z f) at e))
-
-  pub held_below : lt_z (to_z w64 (of_z w64 z)) least ≡ true → Unknown ≡ evaluation_of (cell_value (some z))
+  pub held_beyond : (SFits w32 (to_z w64 (of_z w64 z)) → ⊥) → Unknown ≡ evaluation_of (cell_value (some z))
   unfolding cell_value evaluation_of
-  held_below e = rw (below z (rw (to_z-of_z w64 z f) at e))
+  held_beyond e = rw (beyond z (λ h. e (rw (to_z-of_z w64 z f) h)))
 
-  pub held_above : lt_z greatest (to_z w64 (of_z w64 z)) ≡ true → Unknown ≡ evaluation_of (cell_value (some z))
+  pub held_within : {v : ℤ} → SFits w32 (to_z w64 (of_z w64 z)) → v ≡ to_z w64 (of_z w64 z)
+      → Value (to_z w32 (of_z w32 v)) ≡ evaluation_of (cell_value (some z))
   unfolding cell_value evaluation_of
-  held_above e = rw (above z (rw (to_z-of_z w64 z f) at e))
-
-  pub held_within : lt_z (to_z w64 (of_z w64 z)) least ≡ false → lt_z greatest (to_z w64 (of_z w64 z)) ≡ false
-      → Value (to_z w32 (of_z w32 (to_z w64 (of_z w64 z)))) ≡ evaluation_of (cell_value (some z))
-  unfolding cell_value evaluation_of
-  held_within e h =
-      let g : SFits w32 (to_z w64 (of_z w64 z)) = narrow_fits f e h in
-      rw (to_z-of_z w32 (to_z w64 (of_z w64 z)) g, fits_representable z (rw (to_z-of_z w64 z f) at g), to_z-of_z w64 z f)
+  held_within g e = rw (e, to_z-of_z w32 (to_z w64 (of_z w64 z)) g, fits_representable z (rw (to_z-of_z w64 z f) at g), to_z-of_z w64 z f)
 
 -- ---- lists of cells
 
@@ -87,10 +73,10 @@ module _ {A : Type 0} where
   element_set_other (b ∷ l) (suc x) (suc y) a n = element_set_other l x y a (λ e. n (ap suc e))
 
 module _ (cells : List ℤ) (x : ℕ) where
-  pub held_cell : {r : Evaluation} → x < length cells → mag (get_or cells x (pos 0)) < 2 ^ 63
-      → r ≡ evaluation_of (cell_value (some (to_z w64 (of_z w64 (get_or cells x (pos 0)))))) → r ≡ evaluation_of (valuation_of cells x)
-  held_cell h f e =
-      e ∙ ap (λ z. evaluation_of (cell_value (some z))) (to_z-of_z w64 _ (record { sfits = f }))
+  pub held_cell : {r : Evaluation} {z : ℤ} → x < length cells → z ≡ get_or cells x (pos 0) → mag z < 2 ^ 63
+      → r ≡ evaluation_of (cell_value (some (to_z w64 (of_z w64 z)))) → r ≡ evaluation_of (valuation_of cells x)
+  held_cell h is f e =
+      e ∙ ap (λ z. evaluation_of (cell_value (some z))) (to_z-of_z w64 _ (record { sfits = f }) ∙ is)
       ∙ ap (λ o. evaluation_of (cell_value o)) (sym (element cells x (pos 0) h))
 
   pub no_cell : length cells ≤ x → Unknown ≡ evaluation_of (valuation_of cells x)

@@ -22,11 +22,6 @@ pub struct Evaluated {
     pub next: Cursor,
 }
 
-// The least and the greatest number of 32 bits.
-const LEAST: i64 = -2147483648;
-
-const GREATEST: i64 = 2147483647;
-
 // Kinds of expressions. Those before negation have no children.
 const VARIABLE: u8 = 34;
 
@@ -38,33 +33,26 @@ const CONDITIONAL: u8 = 46;
 pub fn is_number(cell: i64) -> bool
     ensures { result ≡ representable cell }
 {
-    if cell < LEAST {
-        return false;
-    }
-    cell <= GREATEST
+    i32::try_from(cell).is_ok()
 }
 
 // What a cell holds: a number of 32 bits, or unknown.
 fn held(cell: i64) -> Evaluation
     ensures { result ≡ evaluation_of (cell_value (some cell)) }
 {
-    if cell < LEAST {
-        return Evaluation::Unknown;
+    match i32::try_from(cell) {
+        Ok(v) => Evaluation::Value(v),
+        Err(_) => Evaluation::Unknown,
     }
-    if GREATEST < cell {
-        return Evaluation::Unknown;
-    }
-    Evaluation::Value(cell as i32)
 }
 
 // The variable with this number.
 fn variable(cells: &[i64], number: usize) -> Evaluation
     ensures { result ≡ evaluation_of (valuation_of cells.now number) }
 {
-    if number < cells.len() {
-        held(cells[number])
-    } else {
-        Evaluation::Unknown
+    match cells.get(number) {
+        Some(cell) => held(*cell),
+        None => Evaluation::Unknown,
     }
 }
 
@@ -109,7 +97,7 @@ fn past(kinds: &[u8], at: usize) -> usize
     let mut due: usize = 1;
     while 0 < due {
         due = due - 1 + children(kinds[here]);
-        here = here + 1;
+        here += 1;
     }
     here
 }

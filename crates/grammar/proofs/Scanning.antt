@@ -2,11 +2,10 @@
 use mathlib.Core.Path.{◌≡◌, refl, sym, ap, subst, ◌∙◌}
 use mathlib.Core.Bool.{true, false, ◌&&◌}
 use mathlib.Core.List.{List, [], ◌∷◌, ◌++◌, map, cons≢nil}
-use Prim.Native.Nat.{ℕ, ◌+◌, ◌-◌, ◌≤◌}
+use Prim.Native.Nat.{ℕ}
 use native.Mathlib.Omega.{arith}
 use lib.Dec.{T, eqb, ltb, eqb→eq, lt→ltb}
-use lib.ListN.{length, take, drop, take-append-drop, drop_of_length-le}
-use lib.Seq.{drop-drop}
+use lib.ListN.{length, take, drop, take-append-drop}
 use Rattle.ascii.specs.Ascii.{same}
 use Rattle.grammar.specs.Words.{is_letter_or_digit, is_run, is_among, two_byte_signs, is_word, words_after, words_of, Longest}
 use Rattle.grammar.specs.Tokens.{token_of, tokens_of}
@@ -108,18 +107,13 @@ first_word w rest h = along w [] rest h.is_one ∙ after_word w rest h
 pub space_first : (rest : List ℕ) → words_of (32 ∷ rest) ≡ words_of rest
 space_first rest = first_byte 32 rest
 
-module _ (text : List ℕ) (at : ℕ) where
-  -- past the last byte
-  pub tokens_end : length text ≤ at → tokens_of (drop at text) ≡ []
-  unfolding words_after
-  tokens_end h = rw (drop_of_length-le text h)
+-- no word is left where no byte is
+pub no_words : (l : List ℕ) → length l ≡ 0 → tokens_of l ≡ []
+unfolding words_after
+no_words [] h = refl
+no_words (b ∷ l) h = absurd (omega arith)
 
-  -- at a word
-  pub tokens_word : (next : ℕ) → at ≤ next → Longest (take (next - at) (drop at text)) (drop next text)
-      → tokens_of (drop at text) ≡ token_of (take (next - at) (drop at text)) ∷ tokens_of (drop next text)
-  tokens_word next h l =
-      let w = take (next - at) (drop at text) in
-      let place : at + (next - at) ≡ next = omega arith in
-      let parts : drop at text ≡ w ++ drop next text =
-      sym (take-append-drop (next - at) (drop at text)) ∙ ap (λ (r : List ℕ). w ++ r) (drop-drop (next - at) at text ∙ ap (λ (k : ℕ). drop k text) place) in
-      ap (λ (t : List ℕ). tokens_of t) parts ∙ ap (λ (ws : List (List ℕ)). map token_of ws) (first_word w (drop next text) l)
+-- the token of a word, and those of what follows it
+pub token_first : (l : List ℕ) (n : ℕ) → Longest (take n l) (drop n l) → tokens_of l ≡ token_of (take n l) ∷ tokens_of (drop n l)
+token_first l n h =
+    ap (λ (t : List ℕ). tokens_of t) (sym (take-append-drop n l)) ∙ ap (λ (ws : List (List ℕ)). map token_of ws) (first_word (take n l) (drop n l) h)

@@ -1,127 +1,80 @@
 -- What a word is. 02: "Variables are v0, v1 and so on; numbers are digits up to 2147483647, both without leading zeros; Booleans are true
 -- and false".
-use Rattle.std.specs.Prelude.{Bool, cond, ◌&&◌, ◌||◌, List, [], ◌∷◌, map, ℕ, suc, leb, ltb, get_or, take, drop}
+use Rattle.std.specs.Prelude.{Bool, cond, ◌&&◌, ◌||◌, List, [], ◌∷◌, map, ℕ, eqb, leb, ltb, get_or, take, drop, Option, Some, None, unwrap_or}
 use Rattle.ascii.specs.Ascii.{same, are_digits, value_of}
+use Rattle.grammar.specs.declared.Token.{Token}
+use Rattle.grammar.specs.declared.Token.TheVariants.{Unknown, Number, Variable, True, False, Div, Mod, If, Then, Else, Not, And, Or, Open, Close, Comma, Plus, Minus, Times, Equal, Unequal, Less, LessOrEqual, Greater, GreaterOrEqual}
 use Rattle.grammar.specs.Words.{words_of}
 
-pub record Token : Type 0 where
-  pub code : ℕ
-  pub number : ℕ
+-- which of the 25 sorts of tokens this is; numbers are one sort, variables another
+abbrev pub ordinal : Token → ℕ
+ordinal Unknown = 0
+ordinal (Number n) = 1
+ordinal (Variable x) = 2
+ordinal True = 3
+ordinal False = 4
+ordinal Div = 5
+ordinal Mod = 6
+ordinal If = 7
+ordinal Then = 8
+ordinal Else = 9
+ordinal Not = 10
+ordinal And = 11
+ordinal Or = 12
+ordinal Open = 13
+ordinal Close = 14
+ordinal Comma = 15
+ordinal Plus = 16
+ordinal Minus = 17
+ordinal Times = 18
+ordinal Equal = 19
+ordinal Unequal = 20
+ordinal Less = 21
+ordinal LessOrEqual = 22
+ordinal Greater = 23
+ordinal GreaterOrEqual = 24
 
-abbrev pub token : ℕ → ℕ → Token
-token c n = record { code = c; number = n }
+-- tokens of one sort
+abbrev pub alike : Token → Token → Bool
+alike t u = eqb (ordinal t) (ordinal u)
 
--- what means nothing
-abbrev pub unknown_code : ℕ
-unknown_code = 0
-
-abbrev pub number_code : ℕ
-number_code = 1
-
-abbrev pub variable_code : ℕ
-variable_code = 2
-
-abbrev pub true_code : ℕ
-true_code = 3
-
-abbrev pub false_code : ℕ
-false_code = 4
-
-abbrev pub div_code : ℕ
-div_code = 5
-
-abbrev pub mod_code : ℕ
-mod_code = 6
-
-abbrev pub if_code : ℕ
-if_code = 7
-
-abbrev pub then_code : ℕ
-then_code = 8
-
-abbrev pub else_code : ℕ
-else_code = 9
-
-abbrev pub not_code : ℕ
-not_code = 10
-
-abbrev pub and_code : ℕ
-and_code = 11
-
-abbrev pub or_code : ℕ
-or_code = 12
-
-abbrev pub open_code : ℕ
-open_code = 13
-
-abbrev pub close_code : ℕ
-close_code = 14
-
-abbrev pub comma_code : ℕ
-comma_code = 15
-
-abbrev pub plus_code : ℕ
-plus_code = 16
-
-abbrev pub minus_code : ℕ
-minus_code = 17
-
-abbrev pub times_code : ℕ
-times_code = 18
-
-abbrev pub equal_code : ℕ
-equal_code = 19
-
-abbrev pub unequal_code : ℕ
-unequal_code = 20
-
-abbrev pub less_code : ℕ
-less_code = 21
-
-abbrev pub less_or_equal_code : ℕ
-less_or_equal_code = 22
-
-abbrev pub greater_code : ℕ
-greater_code = 23
-
-abbrev pub greater_or_equal_code : ℕ
-greater_or_equal_code = 24
-
--- the words with a meaning of their own, from code 3 on
-unfoldable pub fixed_words : List (List ℕ)
+-- the words with a meaning of their own
+unfoldable pub fixed_words : List (List ℕ × Token)
 fixed_words =
     -- `true` `false`
-    (116 ∷ 114 ∷ 117 ∷ 101 ∷ []) ∷ (102 ∷ 97 ∷ 108 ∷ 115 ∷ 101 ∷ [])
+    (116 ∷ 114 ∷ 117 ∷ 101 ∷ [], True) ∷ (102 ∷ 97 ∷ 108 ∷ 115 ∷ 101 ∷ [], False)
     -- `div` `mod`
-    ∷ (100 ∷ 105 ∷ 118 ∷ []) ∷ (109 ∷ 111 ∷ 100 ∷ [])
+    ∷ (100 ∷ 105 ∷ 118 ∷ [], Div) ∷ (109 ∷ 111 ∷ 100 ∷ [], Mod)
     -- `if` `then` `else`
-    ∷ (105 ∷ 102 ∷ []) ∷ (116 ∷ 104 ∷ 101 ∷ 110 ∷ []) ∷ (101 ∷ 108 ∷ 115 ∷ 101 ∷ [])
+    ∷ (105 ∷ 102 ∷ [], If) ∷ (116 ∷ 104 ∷ 101 ∷ 110 ∷ [], Then) ∷ (101 ∷ 108 ∷ 115 ∷ 101 ∷ [], Else)
     -- `not` `and` `or`
-    ∷ (110 ∷ 111 ∷ 116 ∷ []) ∷ (97 ∷ 110 ∷ 100 ∷ []) ∷ (111 ∷ 114 ∷ [])
+    ∷ (110 ∷ 111 ∷ 116 ∷ [], Not) ∷ (97 ∷ 110 ∷ 100 ∷ [], And) ∷ (111 ∷ 114 ∷ [], Or)
     -- `(` `)` `,`
-    ∷ (40 ∷ []) ∷ (41 ∷ []) ∷ (44 ∷ [])
+    ∷ (40 ∷ [], Open) ∷ (41 ∷ [], Close) ∷ (44 ∷ [], Comma)
     -- `+` `-` `*`
-    ∷ (43 ∷ []) ∷ (45 ∷ []) ∷ (42 ∷ [])
+    ∷ (43 ∷ [], Plus) ∷ (45 ∷ [], Minus) ∷ (42 ∷ [], Times)
     -- `==` `!=`
-    ∷ (61 ∷ 61 ∷ []) ∷ (33 ∷ 61 ∷ [])
+    ∷ (61 ∷ 61 ∷ [], Equal) ∷ (33 ∷ 61 ∷ [], Unequal)
     -- `<` `<=` `>` `>=`
-    ∷ (60 ∷ []) ∷ (60 ∷ 61 ∷ []) ∷ (62 ∷ []) ∷ (62 ∷ 61 ∷ []) ∷ []
+    ∷ (60 ∷ [], Less) ∷ (60 ∷ 61 ∷ [], LessOrEqual) ∷ (62 ∷ [], Greater) ∷ (62 ∷ 61 ∷ [], GreaterOrEqual) ∷ []
 
--- the code of a word among these, the first having code c; 0 for none
-unfoldable pub code_among : List (List ℕ) → ℕ → List ℕ → ℕ
-code_among [] c w = unknown_code
-code_among (s ∷ ss) c w = cond (same s w) c (code_among ss (suc c) w)
+-- the token of a word among these
+unfoldable pub token_among : List (List ℕ × Token) → List ℕ → Option Token
+token_among [] w = None
+token_among ((s, t) ∷ ss) w = cond (same s w) (Some t) (token_among ss w)
 
 -- digits without leading zeros
 unfoldable pub is_numeral : List ℕ → Bool
 is_numeral w = are_digits w && (same w (48 ∷ []) || ltb 48 (get_or w 0 0))
 
+-- a word without a meaning of its own: a number, a variable, or nothing
+unfoldable pub other_token : List ℕ → Token
+other_token w =
+    cond (is_numeral w && leb (value_of w) 2147483647) (Number (value_of w))
+    (cond (same (take 1 w) (118 ∷ []) && is_numeral (drop 1 w)) (Variable (value_of (drop 1 w))) Unknown)
+
 unfoldable pub token_of : List ℕ → Token
-token_of w =
-    cond (ltb 0 (code_among fixed_words true_code w)) (token (code_among fixed_words true_code w) 0)
-    (cond (is_numeral w && leb (value_of w) 2147483647) (token number_code (value_of w))
-    (cond (same (take 1 w) (118 ∷ []) && is_numeral (drop 1 w)) (token variable_code (value_of (drop 1 w)))
-    (token unknown_code 0)))
+token_of w = unwrap_or (token_among fixed_words w) (other_token w)
 
 abbrev pub tokens_of : List ℕ → List Token
 tokens_of text = map token_of (words_of text)

@@ -4,8 +4,7 @@
 
 ghost use Rattle.std.specs.Prelude.{◌≤◌, length};
 
-use dialogue::{Dimensions, Line, Program, exchange};
-use model::Model;
+use dialogue::{Program, Session};
 use std::fs::File;
 use std::io;
 use std::io::Read;
@@ -19,6 +18,7 @@ fn fill(source: &mut impl Read, bytes: &mut [u8]) -> usize
     ensures { result ≤ length bytes.new }
 {
     let mut filled = 0;
+    // A read tells how many bytes came; no method of the library tells that of a source that ends early.
     while filled < bytes.len() {
         match source.read(&mut bytes[filled..]) {
             Ok(0) | Err(_) => return filled,
@@ -36,119 +36,41 @@ fn read_model(files: &impl Files, file: &mut [u8; Program::FILE_BYTES]) -> usize
     }
 }
 
-// Prints the line at the beginning of the array.
-fn print(rt: &impl Print, out: &[u8; Program::LINE_BYTES], length: usize) -> io::Result<()> {
-    rt.write_all(exchange::first(out, length))
-}
-
-// Answers each line that a part of the input ends; the line that it begins.
-fn answer_part(
-    rt: &impl Print,
-    begun: Line,
-    part: &[u8],
-    file: &[u8; Program::FILE_BYTES],
-    dimensions: Dimensions,
-    values: &mut [i32; Model::MAX_VARIABLES],
-    marks: &mut [u8; Model::MAX_TRANSITIONS],
-    history: &mut [u8; Program::PLACES],
-    n: &mut usize,
-    buffer: &mut [u8; Model::MAX_TRANSITIONS],
-    out: &mut [u8; Program::LINE_BYTES],
-) -> io::Result<Line> {
-    let mut line = begun;
+// Answers each line that a part of the input ends.
+fn answer_part(rt: &impl Print, session: &mut Session, part: &[u8]) -> io::Result<()> {
     let mut at = 0;
+    // Each step is as long as the line that was taken.
     while at < part.len() {
-        let taken = exchange::take_line(
-            line, part, at, file, dimensions, values, marks, history, n, buffer, out,
-        );
-        print(rt, out, taken.length)?;
-        line = taken.line;
+        let taken = session.take_line(part, at);
+        rt.write_all(session.printed(taken.length))?;
         at = taken.next;
     }
-    Ok(line)
+    Ok(())
 }
 
 // Answers the lines of standard input.
-fn answer_all<R: Input + Print>(
-    rt: &R,
-    file: &[u8; Program::FILE_BYTES],
-    dimensions: Dimensions,
-    values: &mut [i32; Model::MAX_VARIABLES],
-    marks: &mut [u8; Model::MAX_TRANSITIONS],
-    history: &mut [u8; Program::PLACES],
-    n: &mut usize,
-    buffer: &mut [u8; Model::MAX_TRANSITIONS],
-    out: &mut [u8; Program::LINE_BYTES],
-) -> io::Result<()> {
+fn answer_all<R: Input + Print>(rt: &R, session: &mut Session) -> io::Result<()> {
     let mut input = rt.reader();
     let mut part = [0u8; PART];
-    let mut line = Line::empty();
     for _ in 0..u64::MAX {
         let count = input.read(&mut part)?;
         if count == 0 {
             break;
         }
-        line = answer_part(
-            rt,
-            line,
-            &part[0..count],
-            file,
-            dimensions,
-            values,
-            marks,
-            history,
-            n,
-            buffer,
-            out,
-        )?;
+        answer_part(rt, session, &part[..count])?;
     }
-    let length = exchange::close(
-        line, file, dimensions, values, marks, history, n, buffer, out,
-    );
-    print(rt, out, length)
+    let length = session.close();
+    rt.write_all(session.printed(length))
 }
 
-// Starts the run and, unless that is refused, answers the input.
-fn serve<R: Input + Print>(
-    rt: &R,
-    file: &[u8; Program::FILE_BYTES],
-    bytes: usize,
-) -> io::Result<()> {
-    let mut values = [0i32; Model::MAX_VARIABLES];
-    let mut marks = [0u8; Model::MAX_TRANSITIONS];
-    let mut history = [0u8; Program::PLACES];
-    let mut n: usize = 0;
-    let mut buffer = [0u8; Model::MAX_TRANSITIONS];
-    let mut out = [0u8; Program::LINE_BYTES];
-    let opening = exchange::open(
-        file,
-        bytes,
-        &mut values,
-        &mut marks,
-        &mut history,
-        &mut n,
-        &mut buffer,
-        &mut out,
-    );
-    print(rt, &out, opening.length)?;
-    if !opening.is_started {
-        return Ok(());
-    }
-    answer_all(
-        rt,
-        file,
-        opening.dimensions,
-        &mut values,
-        &mut marks,
-        &mut history,
-        &mut n,
-        &mut buffer,
-        &mut out,
-    )
-}
-
+// Reads the model, starts the run and, unless that is refused, answers the input.
 fn main(rt: HostRuntime) -> io::Result<()> {
-    let mut file = [0u8; Program::FILE_BYTES];
-    let bytes = read_model(&rt, &mut file);
-    serve(&rt, &file, bytes)
+    let mut session = Session::empty();
+    let bytes = read_model(&rt, &mut session.file);
+    let opening = session.open(bytes);
+    rt.write_all(session.printed(opening.length))?;
+    if opening.is_started {
+        answer_all(&rt, &mut session)?;
+    }
+    Ok(())
 }

@@ -10,7 +10,7 @@ use borrow.Author.Tests.{eqb-true, eqb-false}
 use lib.Dec.{eqb}
 use lib.ListN.{length, get_or, set}
 use lib.Seq.{get_or-set_same, get_or-set_other}
-use Rattle.waiting.specs.Index.{Owning, OwnerOf, Owners, owner_in}
+use Rattle.waiting.specs.Index.{Owning, Owners, owner_in}
 
 -- the owners below a place, and the last assignment or if-then there
 pub record Owned (ks : List ℕ) (at to last : ℕ) (owner : ℕ → ℕ) : Type 0 where

@@ -18,13 +18,11 @@ const VARIABLE: u8 = 34;
 fn latest(kind: u8, here: usize, last: usize) -> usize
     ensures { (kind ≡ 17 → result ≡ here) × (kind ≡ 18 → result ≡ here) × ((kind ≡ 17 → ⊥) → (kind ≡ 18 → ⊥) → result ≡ last) }
 {
-    if kind == ASSIGNMENT {
-        return here;
+    if matches!(kind, ASSIGNMENT | IF_THEN) {
+        here
+    } else {
+        last
     }
-    if kind == IF_THEN {
-        return here;
-    }
-    last
 }
 
 // The owner of each node from the assertion on, past the entries for the mentions, which stay.
@@ -35,12 +33,9 @@ fn own(kinds: &[u8], assertion: usize, links: &mut [u16])
 {
     let nodes = kinds.len();
     let mut owner = assertion;
-    let mut here = assertion;
-    while here < nodes {
-        let now = latest(kinds[here], here, owner);
-        owner = now;
-        links[nodes + here] = now as u16;
-        here += 1;
+    for here in assertion..nodes {
+        owner = latest(kinds[here], here, owner);
+        links[nodes + here] = owner as u16;
     }
 }
 
@@ -73,11 +68,9 @@ pub fn index(
     ensures { Indexed kinds.now parameters.now assertion (length heads.old) heads.new links.new }
 {
     let n = kinds.len();
-    scratch::set_all(n as u16, heads);
-    let mut left = n;
-    while assertion < left {
-        left -= 1;
-        mention(kinds, parameters, heads, links, left);
+    heads.fill(n as u16);
+    for at in (assertion..n).rev() {
+        mention(kinds, parameters, heads, links, at);
     }
     own(kinds, assertion, links);
 }

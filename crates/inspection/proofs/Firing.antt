@@ -3,7 +3,7 @@ use mathlib.Core.Path.{◌≡◌, sym}
 use mathlib.Core.Bool.{true, false, not}
 use mathlib.Core.List.{List}
 use mathlib.Core.Logic.{◌⊎◌, inl, inr}
-use mathlib.Core.Option.{some}
+use Rattle.std.specs.Prelude.{Some}
 use Prim.Native.Nat.{ℕ, ◌≤◌, ◌<◌}
 use native.Mathlib.Omega.{arith}
 use borrow.Author.Tests.{lt-ltb, not-false}
@@ -47,7 +47,7 @@ acting_later m old (states ss) = settling_later old (m.propagate ss)
 
 module _ (m : Meaning) (r : Run) where
   -- the run was not refused
-  standing : (t : ℕ) → pick m r ≡ picked (some t) → (too_short m r.values ≡ false) × (too_few m r.marks ≡ false) × (holds m r ≡ true)
+  standing : (t : ℕ) → pick m r ≡ picked (Some t) → (too_short m r.values ≡ false) × (too_few m r.marks ≡ false) × (holds m r ≡ true)
   unfolding pick
   standing t =
       by_test Stands (too_short m r.values) _ _ (λ e p. clash cc) (λ long.
@@ -55,7 +55,7 @@ module _ (m : Meaning) (r : Run) where
       by_test Stands (not (holds m r)) _ _ (λ e p. clash cc) (λ held p. (long, room, not-false _ held))))
     where
       Stands : Answer → Type 0
-      Stands a = a ≡ picked (some t) → (too_short m r.values ≡ false) × (too_few m r.marks ≡ false) × (holds m r ≡ true)
+      Stands a = a ≡ picked (Some t) → (too_short m r.values ≡ false) × (too_few m r.marks ≡ false) × (holds m r ≡ true)
 
   guarded_later : (t : ℕ) → too_short m r.values ≡ false
       → m.guard t (take (length m.declarations) r.values) ≡ Value (boolean true) → Later (answer_of (fired m t r.values).answer)

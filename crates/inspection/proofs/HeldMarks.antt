@@ -4,10 +4,11 @@ use mathlib.Core.Bool.{Bool, true, false, cond, not, ◌&&◌}
 use borrow.Author.Tests.{le-ltb}
 use lib.Dec.{eqb, ltb}
 use lib.ListN.{length}
-use Rattle.semantics.specs.declared.Firing.{Firing}
+use Rattle.semantics.specs.Firing.{Firing}
 use Rattle.semantics.specs.Firing.{fired}
 use Rattle.standing.specs.Runs.{Run, Done, with_marks}
-use Rattle.standing.specs.Holding.{too_short, history_holds, first_outside, is_none}
+use Rattle.std.specs.Prelude.{is_none}
+use Rattle.standing.specs.Holding.{too_short, history_holds, first_outside}
 use Rattle.marking.proofs.Refreshed.{marks_enough, marks_within_lem}
 use Rattle.replaying.specs.Replays.{is_fired}
 use Rattle.steps.specs.Calls.{fired_into, fire}

@@ -1,7 +1,6 @@
 -- Proofs of crate `inspection`: what the functions are proved by, and the theorems.
+pub mod Asked
 pub mod QueryTests
-pub mod Declared
-pub mod Ranges
 pub mod First
 pub mod Lowest
 pub mod Outside

@@ -2,7 +2,7 @@
 use mathlib.Core.Path.{◌≡◌, refl, sym, ap, ◌∙◌}
 use mathlib.Core.Bool.{Bool, true, false, cond}
 use mathlib.Core.List.{List, [], ◌∷◌}
-use mathlib.Core.Option.{Option, some, none}
+use Rattle.std.specs.Prelude.{Option, Some, None}
 use Prim.Native.Nat.{ℕ, zero, suc, ◌+◌, ◌<◌}
 use native.Mathlib.Omega.{arith}
 use borrow.Author.Tests.{eqb-true, eqb-false}
@@ -34,7 +34,7 @@ finds [] x = nowhere (IsOne []) (IsNotOne []) x
 finds (a ∷ l) x = go (eqb a 1) refl (finds l (suc x))
   where
     go : (t : Bool) → eqb a 1 ≡ t → IsFirst (IsOne l) (IsNotOne l) (length l) (suc x) (first_fireable l (suc x))
-        → IsFirst (IsOne (a ∷ l)) (IsNotOne (a ∷ l)) (suc (length l)) x (cond t (some x) (first_fireable l (suc x)))
+        → IsFirst (IsOne (a ∷ l)) (IsNotOne (a ∷ l)) (suc (length l)) x (cond t (Some x) (first_fireable l (suc x)))
     go true e f = here (IsOne (a ∷ l)) (IsNotOne (a ∷ l)) (length l) x (eqb-true a 1 e)
     go false e f = later (IsOne (a ∷ l)) (IsNotOne (a ∷ l)) (length l) x (eqb-false a 1 e) (first_fireable l (suc x)) f
 
@@ -49,11 +49,11 @@ pick_lowest m r long room held =
     let is : (o : Option ℕ) → pick m r ≡ picked o → first_fireable marks 0 ≡ o = λ o e.
     let same : picked (first_fireable marks 0) ≡ picked o = sym first ∙ e in cc in (
       λ t. (
-        λ e. let f = (lowest t).0 (is (some t) e) in ((omega (arith, count, f.0), f.1), λ k h q. f.2 k h q.1),
+        λ e. let f = (lowest t).0 (is (Some t) e) in ((omega (arith, count, f.0), f.1), λ k h q. f.2 k h q.1),
         λ h. first ∙ ap picked ((lowest t).1 (omega (arith, count, h.0.0), h.0.1, λ k b q. h.1 k b (omega (arith, count, h.0.0), q))),
       ),
       (
-        λ e t q. none-at.0 (is none e) t (omega (arith, count, q.0)) q.1,
+        λ e t q. none-at.0 (is None e) t (omega (arith, count, q.0)) q.1,
         λ h. first ∙ ap picked (none-at.1 (λ t b q. h t (omega (arith, count), q))),
       ),
     )

@@ -2,7 +2,7 @@
 use mathlib.Core.Path.{◌≡◌, refl, sym, ap, ◌∙◌, subst}
 use mathlib.Core.Bool.{Bool, true, false, cond, ◌&&◌}
 use mathlib.Core.List.{List, [], ◌∷◌}
-use mathlib.Core.Option.{Option, some, none}
+use Rattle.std.specs.Prelude.{Option, Some, None, is_none}
 use Prim.Native.Nat.{ℕ, suc, ◌-◌, ◌≤◌}
 use native.Mathlib.Omega.{arith}
 use borrow.Author.Tests.{ltb-false}
@@ -15,7 +15,7 @@ use Rattle.model.proofs.KindCases.{both as both_true}
 use Rattle.semantics.specs.Meanings.{Meaning}
 use Rattle.standing.specs.Runs.{Answer}
 use Rattle.standing.specs.Runs.Answer.{outside}
-use Rattle.standing.specs.Holding.{too_short, first_outside, looked_at, is_none}
+use Rattle.standing.specs.Holding.{too_short, first_outside, looked_at}
 use Rattle.replaying.proofs.Tests.{clash, by_test, both, each}
 use Rattle.inspection.specs.Queries.{range_check}
 use Rattle.inspection.specs.Theorems.{InRangeOver as In, FirstOutsideExact, LookedOnly, HoldsByRangeCheck}
@@ -35,7 +35,7 @@ finds (v ∷ vs) [] x h = absurd (omega arith)
 finds (v ∷ vs) (c ∷ cs) x h = go (le_z v.low c && le_z c v.high) refl (finds vs cs (suc x) (omega arith))
   where
     go : (b : Bool) → (le_z v.low c && le_z c v.high) ≡ b → IsFirst (Out vs cs) (In vs cs) (length vs) (suc x) (first_outside vs cs (suc x))
-        → IsFirst (Out (v ∷ vs) (c ∷ cs)) (In (v ∷ vs) (c ∷ cs)) (suc (length vs)) x (cond b (first_outside vs cs (suc x)) (some x))
+        → IsFirst (Out (v ∷ vs) (c ∷ cs)) (In (v ∷ vs) (c ∷ cs)) (suc (length vs)) x (cond b (first_outside vs cs (suc x)) (Some x))
     go true e f =
         later (Out (v ∷ vs) (c ∷ cs)) (In (v ∷ vs) (c ∷ cs)) (length vs) x (each (le_z v.low c) (le_z c v.high) (subst T (sym e) tt))
         (first_outside vs cs (suc x)) f
@@ -75,12 +75,12 @@ first_outside_exact m values long =
     let lowest = first_is (Out vs values) (In vs values) (λ k o i. o i) (length vs) (first_outside vs values 0) f in
     let all = none_is (Out vs values) (In vs values) (λ k o i. o i) (length vs) (first_outside vs values 0) f in (
       λ x n. (
-        λ e. let t = tells m values long (some x) n e in let l = (lowest x).0 t.0 in (t.1, l.0, l.1, l.2),
-        λ h. told m values long (some x) ((lowest x).1 (h.1, h.2, h.3)) ∙ ap (outside (some x)) (sym h.0),
+        λ e. let t = tells m values long (Some x) n e in let l = (lowest x).0 t.0 in (t.1, l.0, l.1, l.2),
+        λ h. told m values long (Some x) ((lowest x).1 (h.1, h.2, h.3)) ∙ ap (outside (Some x)) (sym h.0),
       ),
       λ n. (
-        λ e. let t = tells m values long none n e in (t.1, all.0 t.0),
-        λ h. told m values long none (all.1 h.1) ∙ ap (outside none) (sym h.0),
+        λ e. let t = tells m values long None n e in (t.1, all.0 t.0),
+        λ h. told m values long None (all.1 h.1) ∙ ap (outside None) (sym h.0),
       ),
     )
 
@@ -88,14 +88,14 @@ first_outside_exact m values long =
 
 -- how many values are looked at from variable x on
 from : ℕ → ℕ → Option ℕ → ℕ
-from x total none = total
-from x total (some y) = suc y - x
+from x total None = total
+from x total (Some y) = suc y - x
 
 one_more : (vs : List Variable) (cs : List ℤ) (x : ℕ) (o : Option ℕ) → IsFirst (Out vs cs) (In vs cs) (length vs) (suc x) o
     → from x (suc (length vs)) o ≡ suc (from (suc x) (length vs) o)
 unfolding from
-one_more vs cs x none f = refl
-one_more vs cs x (some y) f = omega (arith, counted_from (Out vs cs) (In vs cs) (length vs) (suc x) y f)
+one_more vs cs x None f = refl
+one_more vs cs x (Some y) f = omega (arith, counted_from (Out vs cs) (In vs cs) (length vs) (suc x) y f)
 
 module _ (c d : ℤ) (cs ds : List ℤ) (n : ℕ) (e : take (suc n) (d ∷ ds) ≡ take (suc n) (c ∷ cs)) where
   same_head : d ≡ c
@@ -115,11 +115,11 @@ only (v ∷ vs) (c ∷ cs) (d ∷ ds) x h k q =
     go (le_z v.low c && le_z c v.high) refl q (λ w. only vs cs ds (suc x) (omega arith) (omega arith) w)
   where
     go : (b : Bool) → (le_z v.low c && le_z c v.high) ≡ b
-        → take (from x (suc (length vs)) (cond b (first_outside vs cs (suc x)) (some x))) (d ∷ ds)
-        ≡ take (from x (suc (length vs)) (cond b (first_outside vs cs (suc x)) (some x))) (c ∷ cs)
+        → take (from x (suc (length vs)) (cond b (first_outside vs cs (suc x)) (Some x))) (d ∷ ds)
+        ≡ take (from x (suc (length vs)) (cond b (first_outside vs cs (suc x)) (Some x))) (c ∷ cs)
         → (take (from (suc x) (length vs) (first_outside vs cs (suc x))) ds ≡ take (from (suc x) (length vs) (first_outside vs cs (suc x))) cs
         → first_outside vs ds (suc x) ≡ first_outside vs cs (suc x))
-        → cond (le_z v.low d && le_z d v.high) (first_outside vs ds (suc x)) (some x) ≡ cond b (first_outside vs cs (suc x)) (some x)
+        → cond (le_z v.low d && le_z d v.high) (first_outside vs ds (suc x)) (Some x) ≡ cond b (first_outside vs cs (suc x)) (Some x)
     go true e w f =
         let n = from (suc x) (length vs) (first_outside vs cs (suc x)) in
         let l : length vs ≤ length cs = omega arith in
@@ -132,8 +132,8 @@ only (v ∷ vs) (c ∷ cs) (d ∷ ds) x h k q =
 
 from_0 : (total : ℕ) (o : Option ℕ) → looked_at total o ≡ from 0 total o
 unfolding from looked_at
-from_0 total none = refl
-from_0 total (some y) = omega arith
+from_0 total None = refl
+from_0 total (Some y) = omega arith
 
 -- 9 gives another answer
 long_enough : (m : Meaning) (values : List ℤ) (o : Option ℕ) (n : ℕ) → range_check m values ≡ outside o n → too_short m values ≡ false
@@ -156,14 +156,13 @@ looked_only m values other long o n e same =
 
 -- ---- 20
 
-none_of : (o : Option ℕ) → is_none o ≡ true → o ≡ none
-unfolding is_none
-none_of none e = refl
-none_of (some x) e = clash (sym e)
+none_of : (o : Option ℕ) → is_none o ≡ true → o ≡ None
+none_of None e = refl
+none_of (Some x) e = clash (sym e)
 
 pub holds_by_range_check : HoldsByRangeCheck
-unfolding looked_at is_none
+unfolding looked_at
 holds_by_range_check m r long = (
-  λ h. let b = both_true _ _ h in let c = both_true _ _ b.1 in (b.0, c.0, told m r.values long none (none_of _ c.1)),
-  λ h. rw (h.0, h.1, (tells m r.values long none _ h.2).0),
+  λ h. let b = both_true _ _ h in let c = both_true _ _ b.1 in (b.0, c.0, told m r.values long None (none_of _ c.1)),
+  λ h. rw (h.0, h.1, (tells m r.values long None _ h.2).0),
 )

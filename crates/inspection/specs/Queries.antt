@@ -1,10 +1,9 @@
 -- Marks, value, pick and the check of the values, over the meaning of an accepted model and exactly what each is lent.
-use Rattle.std.specs.Prelude.{cond, not, ◌&&◌, List, [], ◌∷◌, ◌++◌, ℕ, suc, eqb, ltb, ℤ, pos, length, get_or, take, drop}
-use Rattle.std.proofs.Math.Option.{Option, some, none}
+use Rattle.std.specs.Prelude.{cond, not, ◌&&◌, List, [], ◌∷◌, ◌++◌, ℕ, suc, eqb, ltb, ℤ, pos, length, get_or, take, drop, Option, Some, None, is_none}
 use Rattle.semantics.specs.Meanings.{Meaning}
 use Rattle.standing.specs.Runs.{Run, Answer, Done, answered}
 use Rattle.standing.specs.Runs.Answer.{refused, done, number, picked, outside}
-use Rattle.standing.specs.Holding.{too_short, too_few, history_holds, first_outside, is_none, looked_at, holds}
+use Rattle.standing.specs.Holding.{too_short, too_few, history_holds, first_outside, looked_at, holds}
 use Rattle.marking.specs.Marks.{marks_of, marks_over}
 
 -- Marks: "into a lent slice, cells from T on untouched". A4: "The marks call copies them, also where a caller made them up". 10 for the
@@ -38,8 +37,8 @@ value m x r =
 
 -- the first mark that is 1, counted from t
 unfoldable pub first_fireable : List ℕ → ℕ → Option ℕ
-first_fireable [] t = none
-first_fireable (k ∷ ks) t = cond (eqb k 1) (some t) (first_fireable ks (suc t))
+first_fireable [] t = None
+first_fireable (k ∷ ks) t = cond (eqb k 1) (Some t) (first_fireable ks (suc t))
 
 -- Pick. A1: "the fireable transition with the lowest number"; 01: "or none exactly if no mark is 1". A4: "Fire and pick go by the guards",
 -- not by the marks held.

@@ -1,6 +1,5 @@
 -- The theorems on pick, on the check of the values, on marks and on fire by the guards. Proved in proofs/.
-use Rattle.std.specs.Prelude.{true, false, List, map, ◌++◌, ◌↔◌, ◌⊎◌, ◌≡◌, ℕ, suc, ◌≤◌, ◌<◌, T, ℤ, pos, length, get_or, take, drop}
-use Rattle.std.proofs.Math.Option.{Option, some, none}
+use Rattle.std.specs.Prelude.{true, false, List, map, ◌++◌, ◌↔◌, ◌⊎◌, ◌≡◌, ℕ, suc, ◌≤◌, ◌<◌, T, ℤ, pos, length, get_or, take, drop, Option, Some, None}
 use Rattle.std.specs.Int.Signed.{le_z}
 use Rattle.evaluation.specs.declared.Evaluation.TheVariants.{Value}
 use Rattle.evaluation.specs.Numbers.{boolean}
@@ -28,15 +27,15 @@ FireableExact =
 abbrev pub PickLowest : Type 0
 PickLowest =
     (m : Meaning) (r : Run) → too_short m r.values ≡ false → too_few m r.marks ≡ false → holds m r ≡ true
-    → ((t : ℕ) → (pick m r ≡ picked (some t)) ↔ (Fireable m r.values t × ((k : ℕ) → k < t → Fireable m r.values k → ⊥)))
-    × ((pick m r ≡ picked none) ↔ ((t : ℕ) → Fireable m r.values t → ⊥))
+    → ((t : ℕ) → (pick m r ≡ picked (Some t)) ↔ (Fireable m r.values t × ((k : ℕ) → k < t → Fireable m r.values k → ⊥)))
+    × ((pick m r ≡ picked None) ↔ ((t : ℕ) → Fireable m r.values t → ⊥))
 
 -- Pick and fire agree on what is fireable: fire of the transition picked is refused neither for the run (9, 10, 20) nor for its number (11)
 -- nor by its guard (23, 24). What may still refuse it is a full history, its action and the assertion. 01: 23, 24 "guard
 -- false, guard failed".
 abbrev pub PickedFires : Type 0
 PickedFires =
-    (m : Meaning) (r : Run) (t : ℕ) → pick m r ≡ picked (some t)
+    (m : Meaning) (r : Run) (t : ℕ) → pick m r ≡ picked (Some t)
     → (k : ℕ) → (fire m t r).answer ≡ refused k → (k ≡ 21) ⊎ ((25 ≤ k) × (k ≤ 30))
 
 -- the value of a variable lies within its ends: not below its low end, not above its high end
@@ -53,13 +52,13 @@ InRange m values x = InRangeOver m.declarations values x
 abbrev pub FirstOutsideExact : Type 0
 FirstOutsideExact =
     (m : Meaning) (values : List ℤ) → too_short m values ≡ false
-    → ((x looked : ℕ) → (range_check m values ≡ outside (some x) looked)
+    → ((x looked : ℕ) → (range_check m values ≡ outside (Some x) looked)
     ↔ ((looked ≡ suc x) × (x < length m.declarations) × (InRange m values x → ⊥) × ((k : ℕ) → k < x → InRange m values k)))
-    × ((looked : ℕ) → (range_check m values ≡ outside none looked)
+    × ((looked : ℕ) → (range_check m values ≡ outside None looked)
     ↔ ((looked ≡ length m.declarations) × ((x : ℕ) → x < length m.declarations → InRange m values x)))
 
 -- The values that were not looked at change nothing: whatever they are, the answer is the same. A3: the check "should not go on when the
--- second is already wrong". That the code reads no others is its loop (`check_ranges` of standing): a promise cannot speak of reads.
+-- second is already wrong". That the code reads no others is its loop (`first_outside` of standing): a promise cannot speak of reads.
 abbrev pub LookedOnly : Type 0
 LookedOnly =
     (m : Meaning) (values other : List ℤ) → too_short m other ≡ false
@@ -73,7 +72,7 @@ HoldsByRangeCheck =
     (m : Meaning) (r : Run) → too_short m r.values ≡ false
     → (holds m r ≡ true)
     ↔ ((history_holds m.transitions r.count r.history ≡ true) × (marks_within m.transitions r.marks ≡ true)
-    × (range_check m r.values ≡ outside none (length m.declarations)))
+    × (range_check m r.values ≡ outside None (length m.declarations)))
 
 -- A4: "The marks call copies them, also where a caller made them up": on a run and a buffer that 9, 10 and 20 do not refuse it is done and
 -- gives what is held, whatever the guards come to

@@ -1,8 +1,9 @@
 -- An active assignment: the flags and the cell.
 use mathlib.Core.Path.{◌≡◌, sym, ap, ◌∙◌}
-use mathlib.Core.Bool.{Bool, true, false, not, ◌||◌}
+use mathlib.Core.Bool.{Bool, true, false, not, ◌||◌, or-false, or-true}
 use mathlib.Core.List.{List}
 use Prim.Native.Nat.{ℕ, ◌<◌, ◌^◌}
+use borrow.Author.Tests.{eq-eqb, ne_eqb}
 use lib.Dec.{eqb}
 use lib.IntN.{ℤ, pos}
 use lib.Signed.{mag}
@@ -18,37 +19,36 @@ use Rattle.interpreter.specs.declared.Gathered.{Gathered}
 use Rattle.interpreter.specs.Instructions.Effect.{gives}
 use Rattle.interpreter.specs.Gathering.{gathering, gather}
 
--- ---- a flag that was found, or is found now
+module _ (lows highs given : List ℤ) (x : ℕ) {v : ℤ} (f : SFits w32 v) (found : Gathered) (g : mag (get_or given x (pos 0)) < 2 ^ 63)
+    {within : Bool} (told : within ≡ within_ends lows highs x (to_z w32 (of_z w32 v)))
+    {r : Bool} (test : r ≡ representable (to_z w64 (of_z w64 (get_or given x (pos 0)))))
+    {w : ℤ} (same : w ≡ to_z w32 (of_z w32 v)) where
+  inside : within ≡ within_ends lows highs x v
+  inside = told ∙ read_one (within_ends lows highs x) f
 
-pub found_before : {a o : Bool} (b : Bool) → a ≡ true → o ≡ a → o ≡ (a || b)
-found_before b e p = p ∙ e ∙ rw (e)
+  number : {t : Bool} → r ≡ t → representable (get_or given x (pos 0)) ≡ t
+  number e = sym (ap representable (to_z-of_z w64 (get_or given x (pos 0)) (record { sfits = g }))) ∙ sym test ∙ e
 
-pub found_now : {a o b : Bool} → a ≡ false → o ≡ b → o ≡ (a || b)
-found_now e p = p ∙ rw (e)
-
--- ---- the cell
-
-module _ (lows highs given : List ℤ) (x : ℕ) {v : ℤ} (f : SFits w32 v) (g : mag (get_or given x (pos 0)) < 2 ^ 63) (found : Gathered)
-    {outside : Bool} (o : outside ≡ (found.outside || not (within_ends lows highs x v)))
-    {r : Bool} (test : r ≡ representable (to_z w64 (of_z w64 (get_or given x (pos 0))))) where
-  told : {t : Bool} → r ≡ t → representable (get_or given x (pos 0)) ≡ t
-  told e = sym (ap representable (to_z-of_z w64 (get_or given x (pos 0)) (record { sfits = g }))) ∙ sym test ∙ e
-
-  -- the value held is another one
-  pub differing : not (eqb (of_z w64 (get_or given x (pos 0))) (of_z w64 (to_z w32 (of_z w32 v)))) ≡ not (eq_z v (get_or given x (pos 0)))
-  differing =
-      ap not
+  bits : eqb (of_z w64 (get_or given x (pos 0))) (of_z w64 w) ≡ eq_z v (get_or given x (pos 0))
+  bits =
+      rw (same)
       (same_bits w64 (record { sfits = g }) (wide_fits f) ∙ read_one (eq_z (get_or given x (pos 0))) f ∙ eq_z_comm (get_or given x (pos 0)) v)
 
-  pub keeps : r ≡ true → {conflict : Bool} → conflict ≡ (found.conflict || not (eq_z v (get_or given x (pos 0))))
-      → gathering (record { failed = found.failed; outside = outside; conflict = conflict; fresh = found.fresh }) given
-      ≡ gather lows highs (gives x v) (gathering found given)
-  unfolding gather
-  keeps e k = rw (told e, o, k)
-
   pub takes : r ≡ false
-      → gathering (record { failed = found.failed; outside = outside; conflict = found.conflict; fresh = true })
-      (set given x (to_z w64 (of_z w64 (to_z w32 (of_z w32 v)))))
+      → gathering (record { failed = found.failed; outside = found.outside || not within; conflict = found.conflict; fresh = true }) (set given x (to_z w64 (of_z w64 w)))
       ≡ gather lows highs (gives x v) (gathering found given)
   unfolding gather
-  takes e = rw (told e, o, to_z-of_z w64 _ (wide_fits f), to_z-of_z w32 v f)
+  takes e = rw (inside, number e, same, to_z-of_z w64 _ (wide_fits f), to_z-of_z w32 v f)
+
+  -- the value held is another one
+  pub differs : r ≡ true → (of_z w64 (get_or given x (pos 0)) ≡ of_z w64 w → ⊥)
+      → gathering (record { failed = found.failed; outside = found.outside || not within; conflict = true; fresh = found.fresh }) given
+      ≡ gather lows highs (gives x v) (gathering found given)
+  unfolding gather
+  differs e n = rw (inside, number e, ← bits, ne_eqb _ _ n, or-true found.conflict)
+
+  pub agrees : r ≡ true → of_z w64 (get_or given x (pos 0)) ≡ of_z w64 w
+      → gathering (record { failed = found.failed; outside = found.outside || not within; conflict = found.conflict; fresh = found.fresh }) given
+      ≡ gather lows highs (gives x v) (gathering found given)
+  unfolding gather
+  agrees e k = rw (inside, number e, ← bits, eq-eqb _ _ k, or-false found.conflict)

@@ -1,22 +1,50 @@
-// What an instruction comes to.
+// What an instruction comes to, found step by step: a failure, or a value that an active assignment gives.
 
 #![tactic(auto)]
 
-pub mod instructions; // instructions.rt: an instruction over cells
+ghost use Rattle.std.specs.Prelude.{◌≡◌, ◌<◌, length};
+ghost use Rattle.variables.specs.Rows.{lows_in, highs_in};
+ghost use Rattle.interpreter.specs.Instructions.Effect.{gives};
+ghost use Rattle.interpreter.specs.Gathering as specs;
+ghost use Rattle.interpreter.specs.Gathering.{gathering, failing};
 
 // The three classes of fault, the one with the lowest number first.
-#[derive(Clone, Copy)]
+#[derive(Clone, Copy, PartialEq, Eq, Debug)]
 pub enum Fault {
     Failure,
     Outside,
     Conflict,
 }
 
-// What was found in going over an instruction; `fresh`: a variable without a value was given one.
-#[derive(Clone, Copy)]
+// What was found in going over an instruction, nothing by default; `fresh`: a variable without a value was given one.
+#[derive(Clone, Copy, PartialEq, Eq, Debug, Default)]
 pub struct Gathered {
     pub failed: bool,
     pub outside: bool,
     pub conflict: bool,
     pub fresh: bool,
+}
+
+impl Gathered {
+    // Something failed.
+    pub fn fail(&mut self)
+        ensures { self.new ≡ failing self.old }
+    {
+        self.failed = true;
+    }
+
+    // An active assignment gives the variable a value.
+    pub fn give(&mut self, variables: &[[i32; 3]], given: &mut [i64], variable: usize, value: i32)
+        requires { (variable < length given.old) × (variable < length variables.now) }
+        ensures { gathering self.new given.new ≡ specs.gather (lows_in variables.now) (highs_in variables.now) (gives variable value) (gathering self.old given.old) }
+    {
+        self.outside |= !variables::is_within(variables, variable, value);
+        let held = given[variable];
+        if !expressions::is_number(held) {
+            given[variable] = i64::from(value);
+            self.fresh = true;
+        } else if held != i64::from(value) {
+            self.conflict = true;
+        }
+    }
 }

@@ -9,9 +9,8 @@
 
 #![tactic(auto)]
 
-ghost use Rattle.std.specs.Prelude.{◌+◌, ◌≤◌, length};
+ghost use Rattle.std.specs.Prelude.{◌≡◌, ◌+◌, ◌*◌, ◌<◌, ◌≤◌, length};
 
-use cases::{Outcome, Tally};
 use std::io;
 use std::io::Read;
 use synchronisation::Synchronised;
@@ -22,187 +21,115 @@ const MEMBERS: usize = 64;
 // The most cells of the slice lent.
 const CELLS: usize = 20480;
 
-// Where a case's numbers stand in its header.
-const MODEL: usize = 2;
-
-const MANDATORY: usize = 4;
-
-const OPTIONAL: usize = 6;
-
-const LENT: usize = 8;
-
-const WANTED: usize = 10;
-
-// The length of the body.
-fn body_length(head: &[u8; 16]) -> usize {
-    let members = cases::two(head, MANDATORY) + cases::two(head, OPTIONAL);
-    cases::two(head, MODEL) + 8 * members + cases::two(head, WANTED)
+// The header of a case.
+#[derive(Clone, Copy)]
+struct Head {
+    refusal: u8,
+    byte: u8,
+    model: usize,
+    mandatory: usize,
+    optional: usize,
+    lent: usize,
+    file: usize,
+    ghost two_bytes: { (model < 65536) × (mandatory < 65536) × (optional < 65536) × (file < 65536) },
 }
 
-// The number in eight bytes.
-fn eight(bytes: &[u8], at: usize) -> usize
-    requires { at + 8 ≤ length bytes.now }
-{
-    cases::four(bytes, at) + 4294967296 * cases::four(bytes, at + 4)
+impl From<[u8; 16]> for Head {
+    fn from(bytes: [u8; 16]) -> Head {
+        Head {
+            refusal: bytes[0],
+            byte: bytes[1],
+            model: cases::number::<2>(&bytes, 2),
+            mandatory: cases::number::<2>(&bytes, 4),
+            optional: cases::number::<2>(&bytes, 6),
+            lent: cases::number::<2>(&bytes, 8),
+            file: cases::number::<2>(&bytes, 10),
+        }
+    }
+}
+
+impl Head {
+    // The length of the body.
+    fn body_length(self) -> usize
+        ensures { result ≡ self.model + 8 * self.mandatory + 8 * self.optional + self.file }
+    {
+        self.model + 8 * self.mandatory + 8 * self.optional + self.file
+    }
+
+    // The wanted answer.
+    fn wanted(self) -> Result<usize, u8> {
+        match self.refusal {
+            0 => Ok(self.file),
+            number => Err(number),
+        }
+    }
+}
+
+// The answer of a call: the length of the new model, or the number of a refusal.
+fn answer_of(answer: Synchronised) -> Result<usize, u8> {
+    match answer {
+        Synchronised::Length(length) => Ok(length),
+        Synchronised::Refused(number) => Err(number),
+    }
 }
 
 // The stored members, eight bytes each.
-fn load_members(stored: &[u8], members: &mut [usize]) {
-    let mut i = 0;
-    while i < members.len() {
-        if stored.len() / 8 <= i {
-            return;
-        }
-        members[i] = eight(stored, 8 * i);
-        i += 1;
+fn load_members(stored: &[u8], members: &mut [usize])
+    requires { 8 * length members.old ≤ length stored.now }
+{
+    for (i, member) in members.iter_mut().enumerate() {
+        *member = cases::number::<8>(stored, 8 * i);
     }
 }
 
-fn is_refusal(head: &[u8; 16], number: u8) -> bool {
-    if number == 0 {
-        return false;
-    }
-    head[0] == number
-}
-
-fn is_length(head: &[u8; 16], length: usize) -> bool {
-    if head[0] != 0 {
-        return false;
-    }
-    cases::two(head, WANTED) == length
-}
-
-fn is_answer(head: &[u8; 16], answer: Synchronised) -> bool {
-    match answer {
-        Synchronised::Refused(number) => is_refusal(head, number),
-        Synchronised::Length(length) => is_length(head, length),
-    }
-}
-
-// Prints a word and a number.
-fn tell(rt: &impl Print, word: &str, number: u64) -> io::Result<()> {
-    print!(rt; "{word}{number}")
-}
-
-// Prints an answer.
-fn tell_answer(rt: &impl Print, answer: Synchronised) -> io::Result<()> {
-    match answer {
-        Synchronised::Refused(number) => tell(rt, " refusal ", number as u64),
-        Synchronised::Length(length) => tell(rt, " length ", length as u64),
-    }
-}
-
-// The wanted answer.
-fn wanted(head: &[u8; 16]) -> Synchronised {
-    if head[0] == 0 {
-        Synchronised::Length(cases::two(head, WANTED))
-    } else {
-        Synchronised::Refused(head[0])
-    }
-}
-
-// Is the answer the stored one? If not, both are told.
-fn is_wanted(rt: &impl Print, head: &[u8; 16], answer: Synchronised) -> io::Result<bool> {
-    if is_answer(head, answer) {
-        return Ok(true);
-    }
-    print!(rt; "wanted")?;
-    tell_answer(rt, wanted(head))?;
-    print!(rt; ", came")?;
-    tell_answer(rt, answer)?;
-    print!(rt; "; ")?;
-    Ok(false)
-}
-
-// Are the answer and every cell of the slice, whose cells hold the stored byte before, as stored?
-fn is_equal(
-    rt: &impl Print,
-    head: &[u8; 16],
-    model: &[u8],
-    mandatory: &[usize],
-    optional: &[usize],
-    file: &[u8],
-    out: &mut [u8],
-) -> io::Result<bool> {
-    cases::fill_bytes(out, head[1]);
-    let answer = synchronisation::synchronise(model, mandatory, optional, out);
-    if !is_wanted(rt, head, answer)? {
-        return Ok(false);
-    }
-    if !cases::is_same_bytes(out, file, head[1]) {
-        print!(rt; "a byte is another; ")?;
-        return Ok(false);
-    }
-    Ok(true)
-}
-
-// The same of a case, with lists and a slice of the stored lengths; false where there is no such case.
-fn is_case_equal(rt: &impl Print, head: &[u8; 16], body: &[u8]) -> io::Result<bool> {
-    let first = cases::two(head, MANDATORY);
-    let second = cases::two(head, OPTIONAL);
-    let lent = cases::two(head, LENT);
-    let model = cases::two(head, MODEL);
-    let middle = model + 8 * first;
-    let file = middle + 8 * second;
-    let end = file + cases::two(head, WANTED);
-    if body.len() < end {
-        return Ok(false);
-    }
-    if MEMBERS < first {
-        return Ok(false);
-    }
-    if MEMBERS < second {
-        return Ok(false);
-    }
-    if CELLS < lent {
+// Synchronises the members of a case into a slice of the stored length, whose cells hold the stored byte before: are the answer and
+// every cell as stored? False where there is no such case.
+fn is_equal(rt: &impl Print, head: Head, body: &[u8]) -> io::Result<bool>
+    requires { length body.now ≡ head.model + 8 * head.mandatory + 8 * head.optional + head.file }
+{
+    if MEMBERS < head.mandatory || MEMBERS < head.optional || CELLS < head.lent {
         return Ok(false);
     }
     let mut mandatory = [0usize; MEMBERS];
     let mut optional = [0usize; MEMBERS];
-    let mut out = [0u8; CELLS];
-    load_members(&body[model..middle], &mut mandatory);
-    load_members(&body[middle..file], &mut optional);
-    is_equal(
-        rt,
-        head,
-        &body[0..model],
-        &mandatory[0..first],
-        &optional[0..second],
-        &body[file..end],
-        &mut out[0..lent],
-    )
+    let mut out = [head.byte; CELLS];
+    let mandatory = &mut mandatory[..head.mandatory];
+    let optional = &mut optional[..head.optional];
+    let out = &mut out[..head.lent];
+    let (model, rest) = body.split_at(head.model);
+    let (first, rest) = rest.split_at(8 * head.mandatory);
+    let (second, file) = rest.split_at(8 * head.optional);
+    load_members(first, mandatory);
+    load_members(second, optional);
+    let answer = answer_of(synchronisation::synchronise(model, mandatory, optional, out));
+    if !cases::is_wanted(rt, "length", head.wanted(), answer)? {
+        return Ok(false);
+    }
+    let is_same = cases::is_same(out, file, head.byte);
+    if !is_same {
+        print!(rt; "a byte is another; ")?;
+    }
+    Ok(is_same)
 }
 
-// Reads one case and runs it.
-fn next_case(rt: &impl Print, file: &mut impl Read, buffer: &mut [u8]) -> io::Result<Outcome> {
-    let mut head = [0u8; 16];
-    if !cases::is_read(file, &mut head, 16)? {
-        return Ok(Outcome::End);
+// Reads one case and runs it; none at the end of the file.
+fn next_case(rt: &impl Print, file: &mut impl Read, buffer: &mut [u8]) -> io::Result<Option<bool>> {
+    let Some(bytes): Option<[u8; 16]> = cases::next_bytes(file)? else {
+        return Ok(None);
+    };
+    let head = Head::from(bytes);
+    let length = head.body_length();
+    if !cases::is_read(file, buffer, length)? {
+        return Ok(None);
     }
-    if !cases::is_read(file, buffer, body_length(&head))? {
-        return Ok(Outcome::End);
+    match buffer.get(..length) {
+        Some(body) => Ok(Some(is_equal(rt, head, body)?)),
+        None => Ok(None),
     }
-    Ok(Outcome::Equal(is_case_equal(rt, &head, buffer)?))
-}
-
-// All cases of the file.
-fn run(rt: &impl Print, file: &mut impl Read, buffer: &mut [u8]) -> io::Result<Tally> {
-    let mut tally = Tally::empty();
-    for _ in 0..u64::MAX {
-        match next_case(rt, file, buffer)? {
-            Outcome::End => return Ok(tally),
-            Outcome::Equal(is_same) => {
-                tally = cases::counted(tally, is_same);
-                cases::tell(rt, &tally, is_same)?;
-            }
-        }
-    }
-    Ok(tally)
 }
 
 fn main(rt: HostRuntime) -> io::Result<()> {
     let mut file = cases::open(&rt)?;
     let mut buffer = [0u8; 65536];
-    let tally = run(&rt, &mut file, &mut buffer)?;
-    cases::print(&rt, tally, b"joins")
+    cases::run(&rt, "joins", || next_case(&rt, &mut file, &mut buffer))
 }

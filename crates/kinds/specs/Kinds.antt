@@ -1,6 +1,13 @@
 -- 01: "A kind byte is looked up in a table of 256 rows: where the kind may stand, how many children it has, what it
 -- yields; the table follows the list above at every byte". The rule of that table, by 01's list.
-use Rattle.std.specs.Prelude.{Bool, cond, ◌&&◌, ◌||◌, List, [], ◌∷◌, ◌≡◌, ℕ, zero, suc, ◌+◌, ◌*◌, ◌/◌, ◌%◌, ◌<◌, eqb, leb, get_or}
+use Rattle.std.specs.Prelude.{Bool, true, false, cond, ◌&&◌, ◌||◌, List, [], ◌∷◌, ◌≡◌, ◌≢◌, ℕ, zero, suc, ◌<◌, eqb, leb, get_or, Option, Some, None, Result, MatchResult}
+use Rattle.kinds.specs.declared.kind.Kind.{Kind}
+use Rattle.kinds.specs.declared.kind.Kind.TheVariants as kind
+use Rattle.kinds.specs.declared.kind.UnknownKind.{UnknownKind}
+use Rattle.kinds.specs.declared.Place.{Place}
+use Rattle.kinds.specs.declared.Place.TheVariants.{Nowhere, Variable, HighEnd, FirstValue, Transition, Instruction, Expression}
+use Rattle.kinds.specs.declared.Sort.{Sort}
+use Rattle.kinds.specs.declared.Sort.TheVariants.{Boolean, Number}
 use Rattle.kinds.specs.declared.Row.{Row}
 use Rattle.evaluation.specs.declared.Operator.{Operator}
 use Rattle.evaluation.specs.declared.Operator.TheVariants.{Conjunction, Disjunction, Equality, Less, LessOrEqual, Sum, Difference, Product, Quotient, Remainder, Equivalence}
@@ -8,46 +15,77 @@ use Rattle.evaluation.specs.declared.Operator.TheVariants.{Conjunction, Disjunct
 abbrev pub between : ℕ → ℕ → ℕ → Bool
 between low high k = leb low k && leb k high
 
--- the places where a kind may stand
-abbrev pub nowhere : ℕ
-nowhere = 0
+-- the byte of a kind
+abbrev pub code_of : Kind → ℕ
+code_of kind.BooleanVariable = 1
+code_of kind.LowEnd = 2
+code_of kind.HighEnd = 3
+code_of kind.FirstValue = 4
+code_of kind.Transition = 5
+code_of kind.Skip = 16
+code_of kind.Assignment = 17
+code_of kind.IfThen = 18
+code_of kind.Block = 19
+code_of kind.Numeral = 32
+code_of kind.Truth = 33
+code_of kind.Variable = 34
+code_of kind.Negation = 35
+code_of kind.Conjunction = 36
+code_of kind.Disjunction = 37
+code_of kind.Equality = 38
+code_of kind.Less = 39
+code_of kind.LessOrEqual = 40
+code_of kind.Sum = 41
+code_of kind.Difference = 42
+code_of kind.Product = 43
+code_of kind.Quotient = 44
+code_of kind.Remainder = 45
+code_of kind.Conditional = 46
+code_of kind.Equivalence = 47
 
-abbrev pub variable_place : ℕ
-variable_place = 1
+-- the kind of a byte, or the byte where it stands for none
+abbrev pub Decodes : ℕ → Result Kind UnknownKind → Type 0
+Decodes byte r = MatchResult r (λ kind. code_of kind ≡ byte) (λ e. (e.0 ≡ byte) × ((kind : Kind) → code_of kind ≢ byte))
 
-abbrev pub high_place : ℕ
-high_place = 2
+-- the sorts that may be wanted of an expression, and none where the kind alone does not tell (a variable's sort, 01: its type)
+abbrev pub boolean_sort : Option Sort
+boolean_sort = Some Boolean
 
-abbrev pub first_place : ℕ
-first_place = 3
+abbrev pub number_sort : Option Sort
+number_sort = Some Number
 
-abbrev pub transition_place : ℕ
-transition_place = 4
+abbrev pub no_sort : Option Sort
+no_sort = None
 
-abbrev pub instruction_place : ℕ
-instruction_place = 5
+abbrev pub is_sort : Sort → Sort → Bool
+is_sort Boolean Boolean = true
+is_sort Number Number = true
+is_sort _ _ = false
 
-abbrev pub expression_place : ℕ
-expression_place = 6
+-- one sort, or both none
+abbrev pub same_sort : Option Sort → Option Sort → Bool
+same_sort None None = true
+same_sort (Some a) (Some b) = is_sort a b
+same_sort _ _ = false
 
--- what an expression yields (a variable's sort, 01: its type); 0 where the kind alone does not tell
-abbrev pub boolean_sort : ℕ
-boolean_sort = 1
+abbrev pub is_place : Place → Place → Bool
+is_place Nowhere Nowhere = true
+is_place Variable Variable = true
+is_place HighEnd HighEnd = true
+is_place FirstValue FirstValue = true
+is_place Transition Transition = true
+is_place Instruction Instruction = true
+is_place Expression Expression = true
+is_place _ _ = false
 
-abbrev pub number_sort : ℕ
-number_sort = 2
-
-abbrev pub no_sort : ℕ
-no_sort = 0
-
-unfoldable pub place_of : ℕ → ℕ
+unfoldable pub place_of : ℕ → Place
 place_of k =
-    cond (eqb k 1 || eqb k 2) variable_place
-    (cond (eqb k 3) high_place
-    (cond (eqb k 4) first_place
-    (cond (eqb k 5) transition_place
-    (cond (between 16 19 k) instruction_place
-    (cond (between 32 47 k) expression_place nowhere)))))
+    cond (eqb k 1 || eqb k 2) Variable
+    (cond (eqb k 3) HighEnd
+    (cond (eqb k 4) FirstValue
+    (cond (eqb k 5) Transition
+    (cond (between 16 19 k) Instruction
+    (cond (between 32 47 k) Expression Nowhere)))))
 
 -- 19 has P children
 unfoldable pub children_of : ℕ → ℕ
@@ -57,7 +95,7 @@ children_of k =
     (cond (eqb k 46) 3 0))
 
 -- 01: "Kinds 33, 35 to 40 and 47 yield Booleans, 32 and 41 to 45 numbers"; 34 yields its variable's sort, 46 the wanted one
-unfoldable pub result_of : ℕ → ℕ
+unfoldable pub result_of : ℕ → Option Sort
 result_of k =
     cond (eqb k 33 || between 35 40 k || eqb k 47) boolean_sort
     (cond (eqb k 32 || between 41 45 k) number_sort no_sort)
@@ -65,34 +103,26 @@ result_of k =
 unfoldable pub row_of : ℕ → Row
 row_of k = record { place = place_of k; children = children_of k; result = result_of k }
 
--- a row packed in a byte
-unfoldable pub packed : Row → ℕ
-packed row = row.place + 8 * row.children + 32 * row.result
-
--- the row unpacked from a byte
-unfoldable pub unpacked : ℕ → Row
-unpacked n = record { place = n % 8; children = n / 8 % 4; result = n / 32 }
-
--- the row of a kind byte in a table of packed rows; past the table's end the row of nowhere
-unfoldable pub row_in : List ℕ → ℕ → Row
-row_in rows k = unpacked (get_or rows k 0)
-
 -- a rule at so many places, counted from i
-unfoldable pub column : (ℕ → ℕ) → ℕ → ℕ → List ℕ
+unfoldable pub column : {A : Type 0} → (ℕ → A) → ℕ → ℕ → List A
 column f i zero = []
 column f i (suc n) = f i ∷ column f (suc i) n
 
--- 01: "a table of 256 rows": the packed row of every byte
-unfoldable pub table : List ℕ
-table = column (λ k. packed (row_of k)) 0 256
+-- 01: "a table of 256 rows": the row of every byte
+unfoldable pub table : List Row
+table = column row_of 0 256
+
+-- the row of a kind byte in a table of rows; past the table's end the row of nowhere
+unfoldable pub row_in : List Row → ℕ → Row
+row_in rows k = get_or rows k (record { place = Nowhere; children = 0; result = None })
 
 -- 01: "the table follows the list above at every byte". Proved in proofs/Follows.antt.
 abbrev pub TableFollows : Type 0
 TableFollows = (k : ℕ) → k < 256 → row_in table k ≡ row_of k
 
 -- 01: "Operands of 35 to 37 and 47 are Boolean, of 38 to 45 numbers." Of other kinds it has no meaning.
-unfoldable pub operand_sort : ℕ → ℕ
-operand_sort k = cond (between 35 37 k || eqb k 47) boolean_sort number_sort
+unfoldable pub operand_sort : ℕ → Sort
+operand_sort k = cond (between 35 37 k || eqb k 47) Boolean Number
 
 unfoldable pub kind_of : Operator → ℕ
 kind_of Conjunction = 36
@@ -120,3 +150,24 @@ operator_of k =
     (cond (eqb k 43) Product
     (cond (eqb k 44) Quotient
     (cond (eqb k 45) Remainder Equivalence)))))))))
+
+-- the same of a kind in place of its byte
+abbrev pub sort_of_operands : Kind → Sort
+sort_of_operands kind.Negation = Boolean
+sort_of_operands kind.Conjunction = Boolean
+sort_of_operands kind.Disjunction = Boolean
+sort_of_operands kind.Equivalence = Boolean
+sort_of_operands _ = Number
+
+abbrev pub operator_named : Kind → Operator
+operator_named kind.Conjunction = Conjunction
+operator_named kind.Disjunction = Disjunction
+operator_named kind.Equality = Equality
+operator_named kind.Less = Less
+operator_named kind.LessOrEqual = LessOrEqual
+operator_named kind.Sum = Sum
+operator_named kind.Difference = Difference
+operator_named kind.Product = Product
+operator_named kind.Quotient = Quotient
+operator_named kind.Remainder = Remainder
+operator_named _ = Equivalence

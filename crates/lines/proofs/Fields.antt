@@ -1,16 +1,13 @@
--- Fields stored one after the other, each after a space: the invariant of the loops over values and over marks.
+-- Fields stored one after the other, each after a space: the invariant of the loop over them.
 use mathlib.Core.Path.{◌≡◌}
 use mathlib.Core.List.{List, ◌∷◌, map}
-use Prim.Native.Nat.{ℕ, suc, ◌+◌, ◌*◌, ◌≤◌, ◌<◌, ◌^◌}
+use Prim.Native.Nat.{ℕ, suc, ◌+◌, ◌*◌, ◌≤◌, ◌<◌}
 use native.Mathlib.Nat.{mul-le-mul_left}
 use native.Mathlib.Numerals.{add-one}
 use native.Mathlib.Omega.{arith}
-use lib.IntN.{ℤ}
 use lib.ListN.{length, get_or, drop, drop_of_length-le}
 use lib.Seq.{drop-cons}
-use lib.Signed.{mag}
-use Rattle.evaluation.proofs.Signed.{stored, read_back}
-use Rattle.lines.specs.Lines.{signed_decimal, spaced, Put}
+use Rattle.lines.specs.Lines.{spaced, Put}
 use Rattle.lines.proofs.Placing.{Left, all_left, put, placed}
 
 module _ {A : Type 0} (text : A → List ℕ) (width : ℕ) where
@@ -31,28 +28,18 @@ module _ {A : Type 0} (text : A → List ℕ) (width : ℕ) where
         let e : i ≡ length xs = omega (arith, s.within) in
         (placed (rw (drop_of_length-le xs h) at s.left), rw (← e) s.bound)
 
-    module _ (other : A) (h : i < length xs) (small : length (text (get_or xs i other)) < width) where
-      pub field_room : at + width * length xs ≤ length old → here + suc (length (text (get_or xs i other))) ≤ length new
+    module _ (other : A) (h : i < length xs) where
+      pub field_room : at + width * length xs ≤ length old → here + width ≤ length new
       field_room r =
           let most : width * suc i ≤ width * length xs = mul-le-mul_left width h in
           omega (arith, s.bound, s.left.size)
 
-      pub one_more_stored : {after : List ℕ} {next : ℕ} → Put (32 ∷ text (get_or xs i other)) new here after next
+      pub one_more_stored : {after : List ℕ} {next : ℕ} → Put (32 ∷ text (get_or xs i other)) new here after next → next ≤ here + width
           → FieldsStored xs old at after next (i + 1)
       unfolding spaced
-      one_more_stored p =
+      one_more_stored p b =
           record {
             within = omega arith;
             left = rw (add-one i) (put (32 ∷ text (get_or xs i other)) (rw (drop-cons xs i other h) at s.left) p);
-            bound = omega (arith, s.bound, p.place);
+            bound = omega (arith, s.bound);
           }
-
--- a value as it was read
-module _ (v : ℤ) (h : mag v < 2 ^ 31) where
-  pub value_put : {old new : List ℕ} {at next : ℕ} → Put (32 ∷ signed_decimal (stored v)) old at new next
-      → Put (32 ∷ signed_decimal v) old at new next
-  value_put p = rw (read_back v h) at p
-
-  pub value_room : (here size : ℕ) → here + suc (length (signed_decimal v)) ≤ size
-      → here + suc (length (signed_decimal (stored v))) ≤ size
-  value_room here size r = rw (read_back v h) r

@@ -51,6 +51,9 @@ byte_length n h = omega (arith, decimal_length 2 n (omega arith))
 pub count_length : (n : ℕ) → n < 2 ^ 64 → length (decimal n) < 21
 count_length n h = omega (arith, decimal_length 19 n (omega arith))
 
+pub size_length : (n : ℕ) → n ≤ 2147483648 → length (decimal n) < 11
+size_length n h = omega (arith, decimal_length 9 n (omega arith))
+
 values_length : (values : List ℤ) → Numbers values → length (spaced (map signed_decimal values)) ≤ 12 * length values
 values_length values h =
     spaced_length signed_decimal (pos 0) 12 values
@@ -75,9 +78,6 @@ lines_fit =
 module _ (size width number : ℕ) where
   pub short_of_header : size < 24 → true ≡ ltb size (room width number)
   short_of_header h = sym (lt-ltb size (room width number) (omega arith))
-
-  pub enough_for_none : 24 ≤ size → width ≡ 0 → false ≡ ltb size (room width number)
-  enough_for_none h w = sym (le-ltb size (room width number) (rw w (omega arith)))
 
   pub short_of_numbers : 24 ≤ size → 0 < width → ltb ((size - 24) / width) number ≡ ltb size (room width number)
   short_of_numbers h w = by (ltb ((size - 24) / width) number) refl

@@ -1,11 +1,9 @@
 -- 01: "It prints a line for the start, then one per command: `ok`, round count, values; `back`, values; `m`, marks; or `no`,
 -- number." The bytes of these lines, and what the functions that write them leave.
-use Rattle.std.specs.Prelude.{◌≡◌, cond, List, [], ◌∷◌, ◌++◌, map, ℕ, zero, suc, ◌+◌, ◌*◌, ◌/◌, ◌%◌, ltb, ℤ, pos, negsuc, length}
+use Rattle.std.specs.Prelude.{◌≡◌, Option, Some, None, cond, List, [], ◌∷◌, ◌++◌, map, ℕ, zero, suc, ◌+◌, ◌*◌, ◌/◌, ◌%◌, ltb, ℤ, pos, negsuc, length}
 use Rattle.std.proofs.lemmas.List.Edits.{sets}
 use Rattle.results.specs.Results.{Answered, answered, over}
 use Rattle.ascii.specs.Ascii.{space_byte, first_digit}
-use Rattle.lines.specs.declared.Written.{Written}
-use Rattle.lines.specs.declared.Written.TheVariants.{Length, TooShort}
 
 -- ---- bytes
 
@@ -95,17 +93,17 @@ room width number = base_width + width * number
 
 -- ---- what is written
 
--- an answer with the cells as they are left
+-- how many bytes were written, or none, with the cells as they are left
 abbrev pub Output : Type 0
-Output = Answered Written (List ℕ)
+Output = Answered (Option ℕ) (List ℕ)
 
-abbrev pub written_into : Written → List ℕ → Output
+abbrev pub written_into : Option ℕ → List ℕ → Output
 written_into r cells = answered r cells
 
 -- too short, with nothing changed; or the text, the cells from there on staying
 unfoldable pub line_into : ℕ → List ℕ → List ℕ → Output
 line_into asked text old =
-    cond (ltb (length old) asked) (written_into TooShort old) (written_into (Length (length text)) (over text old))
+    cond (ltb (length old) asked) (written_into None old) (written_into (Some (length text)) (over text old))
 
 -- of the functions that write a part of a line: this text is stored from place `at` on, and `next` is the place after it
 pub record Put (text old : List ℕ) (at : ℕ) (new : List ℕ) (next : ℕ) : Type 0 where

@@ -2,28 +2,67 @@
 
 #![tactic(auto)]
 
-ghost use Rattle.std.specs.Prelude.{◌≡◌, ◌∷◌, map, ◌+◌, ◌*◌, ◌≤◌, ◌<◌, ltb, nat_abs, length, set};
+ghost use Rattle.std.specs.Prelude.{◌≡◌, None, [], ◌∷◌, ◌++◌, map, ◌+◌, ◌*◌, ◌≤◌, ◌<◌, ltb, length, ℕ, List, option_to_list};
+ghost use Rattle.std.proofs.Common.{rules};
 ghost use Rattle.ascii.specs.Ascii.{space_byte};
-ghost use Rattle.lines.specs.Lines.{feed_byte, decimal, signed_decimal, spaced, ok_text, back_text, marks_text, refusal_text};
-ghost use Rattle.lines.specs.Lines.{room, value_width, mark_width, written_into, line_into, Put};
+ghost use Rattle.lines.specs.Lines.{decimal, signed_decimal, spaced, line, ok_text, back_text, marks_text, refusal_text};
+ghost use Rattle.lines.specs.Lines.{base_width, room, value_width, mark_width, written_into, line_into, Put};
 
-// The answer of a function that writes a line: how many bytes it has, or that the slice is too short.
-#[derive(Clone, Copy)]
-pub enum Written {
-    Length(usize),
-    TooShort,
+// `ok`, a space, 20 digits and the line feed.
+const BASE_WIDTH: usize = 24;
+
+// A number that stands in a line after a space.
+pub trait Field: Copy {
+    // The most bytes of the space and the number.
+    const WIDTH: usize;
+
+    ghost WIDTH: { ℕ };
+
+    ghost text: { Self → List ℕ };
+
+    // Stores a space and the number from place `at` on; the place after them.
+    fn put(self, out: &mut [u8], at: usize) -> usize
+        requires { at + WIDTH ≤ length out.old }
+        ensures put { Put (space_byte ∷ text self) out.old at out.new result }
+        ensures upper_bound { result ≤ at + WIDTH };
+
+    ghost is_some_width: { 0 < WIDTH };
 }
 
-// What the room for a line is made of.
-impl Written {
-    // `ok`, a space, 20 digits and the line feed.
-    pub const BASE_WIDTH: usize = 24;
+// A value: a sign and at most 10 digits.
+impl Field for i32 {
+    const WIDTH: usize = 12;
 
-    // A space, a sign and 10 digits.
-    pub const VALUE_WIDTH: usize = 12;
+    ghost WIDTH = { value_width };
 
-    // A space and 3 digits.
-    pub const MARK_WIDTH: usize = 4;
+    ghost text = { signed_decimal };
+
+    ghost is_some_width = { Prim.search rules };
+
+    fn put(self, out: &mut [u8], at: usize) -> usize {
+        let size = self.unsigned_abs() as usize;
+        if self < 0 {
+            out[at] = b' ';
+            out[at + 1] = b'-';
+            return put_decimal(size, out, at + 2);
+        }
+        put_number(size, out, at)
+    }
+}
+
+// A mark: at most 3 digits.
+impl Field for u8 {
+    const WIDTH: usize = 4;
+
+    ghost WIDTH = { mark_width };
+
+    ghost text = { decimal };
+
+    ghost is_some_width = { Prim.search rules };
+
+    fn put(self, out: &mut [u8], at: usize) -> usize {
+        put_number(usize::from(self), out, at)
+    }
 }
 
 // Stores the digits of n from place `at` on; the place after them.
@@ -49,132 +88,88 @@ fn put_number(n: usize, out: &mut [u8], at: usize) -> usize
     put_decimal(n, out, at + 1)
 }
 
-fn magnitude(v: i32) -> usize
-    ensures { result ≡ nat_abs v }
+// Stores the number, if there is one, after a space.
+fn put_some(number: Option<usize>, out: &mut [u8], at: usize) -> usize
+    requires { at + length (spaced (map decimal (option_to_list number))) ≤ length out.old }
+    ensures { Put (spaced (map decimal (option_to_list number))) out.old at out.new result }
 {
-    if v < 0 {
-        (0 - (v as i64)) as usize
-    } else {
-        v as usize
+    match number {
+        Some(n) => put_number(n, out, at),
+        None => at,
     }
 }
 
-// Stores a space and a signed number.
-fn put_value(v: i32, out: &mut [u8], at: usize) -> usize
-    requires { at + length (space_byte ∷ signed_decimal v) ≤ length out.old }
-    ensures { Put (space_byte ∷ signed_decimal v) out.old at out.new result }
+// Stores each field after a space.
+fn put_fields<T: Field>(fields: &[T], out: &mut [u8], at: usize) -> usize
+    requires { at + T.WIDTH * length fields.now ≤ length out.old }
+    ensures put { Put (spaced (map T.text fields.now)) out.old at out.new result }
+    ensures upper_bound { result ≤ at + T.WIDTH * length fields.now }
 {
-    let size = magnitude(v);
-    if v < 0 {
-        out[at] = b' ';
-        out[at + 1] = b'-';
-        return put_decimal(size, out, at + 2);
+    let mut end = at;
+    for &field in fields {
+        end = field.put(out, end);
     }
-    put_number(size, out, at)
+    end
 }
 
-// Stores each value after a space.
-fn put_values(values: &[i32], out: &mut [u8], at: usize) -> usize
-    requires { at + value_width * length values.now ≤ length out.old }
-    ensures put { Put (spaced (map signed_decimal values.now)) out.old at out.new result }
-    ensures upper_bound { result ≤ at + value_width * length values.now }
+// Is a slice of this length too short for a line with so many fields?
+pub fn is_short<T: Field>(length: usize, number: usize) -> bool
+    ensures { result ≡ ltb length (room T.WIDTH number) }
 {
-    let mut here = at;
-    let mut i = 0;
-    while i < values.len() {
-        here = put_value(values[i], out, here);
-        i += 1;
-    }
-    here
-}
-
-// Stores each mark after a space.
-fn put_marks(marks: &[u8], out: &mut [u8], at: usize) -> usize
-    requires { at + mark_width * length marks.now ≤ length out.old }
-    ensures put { Put (spaced (map decimal marks.now)) out.old at out.new result }
-    ensures upper_bound { result ≤ at + mark_width * length marks.now }
-{
-    let mut here = at;
-    let mut i = 0;
-    while i < marks.len() {
-        here = put_number(marks[i] as usize, out, here);
-        i += 1;
-    }
-    here
-}
-
-// Stores the line feed at place `end`.
-fn finish(out: &mut [u8], end: usize) -> Written
-    requires { end < length out.old }
-    ensures { written_into result out.new ≡ written_into (Written.Length (end + 1)) (set out.old end feed_byte) }
-{
-    out[end] = b'\n';
-    Written::Length(end + 1)
-}
-
-// Is a slice of this length too short for a line with so many numbers of this width?
-pub fn is_short(length: usize, width: usize, number: usize) -> bool
-    ensures { result ≡ ltb length (room width number) }
-{
-    if length < Written::BASE_WIDTH {
+    if length < BASE_WIDTH {
         return true;
     }
-    if width == 0 {
-        return false;
+    (length - BASE_WIDTH) / T::WIDTH < number
+}
+
+// A word, a number, if there is one, and fields: how many bytes the line has; none, with nothing stored, if the slice is too
+// short.
+fn write_line<T: Field>(
+    word: &[u8],
+    number: Option<usize>,
+    fields: &[T],
+    out: &mut [u8],
+) -> Option<usize>
+    requires { length word.now + length (spaced (map decimal (option_to_list number))) < base_width }
+    ensures { written_into result out.new ≡ line_into (room T.WIDTH (length fields.now))
+        (line word.now (map decimal (option_to_list number) ++ map T.text fields.now)) out.old }
+{
+    if is_short::<T>(out.len(), fields.len()) {
+        return None;
     }
-    (length - Written::BASE_WIDTH) / width < number
+    let start = word.len();
+    out[..start].copy_from_slice(word);
+    let after = put_some(number, out, start);
+    let end = put_fields(fields, out, after);
+    out[end] = b'\n';
+    Some(end + 1)
 }
 
 // `ok`, the round count, the values.
-pub fn ok_line(count: usize, values: &[i32], out: &mut [u8]) -> Written
+pub fn ok_line(count: usize, values: &[i32], out: &mut [u8]) -> Option<usize>
     ensures { written_into result out.new ≡ line_into (room value_width (length values.now)) (ok_text count values.now) out.old }
 {
-    if is_short(out.len(), Written::VALUE_WIDTH, values.len()) {
-        return Written::TooShort;
-    }
-    out[0] = b'o';
-    out[1] = b'k';
-    let after = put_number(count, out, 2);
-    let end = put_values(values, out, after);
-    finish(out, end)
+    write_line(b"ok", Some(count), values, out)
 }
 
 // `back`, the values.
-pub fn back_line(values: &[i32], out: &mut [u8]) -> Written
+pub fn back_line(values: &[i32], out: &mut [u8]) -> Option<usize>
     ensures { written_into result out.new ≡ line_into (room value_width (length values.now)) (back_text values.now) out.old }
 {
-    if is_short(out.len(), Written::VALUE_WIDTH, values.len()) {
-        return Written::TooShort;
-    }
-    out[0] = b'b';
-    out[1] = b'a';
-    out[2] = b'c';
-    out[3] = b'k';
-    let end = put_values(values, out, 4);
-    finish(out, end)
+    write_line(b"back", None, values, out)
 }
 
 // `m`, the marks.
-pub fn marks_line(marks: &[u8], out: &mut [u8]) -> Written
+pub fn marks_line(marks: &[u8], out: &mut [u8]) -> Option<usize>
     ensures { written_into result out.new ≡ line_into (room mark_width (length marks.now)) (marks_text marks.now) out.old }
 {
-    if is_short(out.len(), Written::MARK_WIDTH, marks.len()) {
-        return Written::TooShort;
-    }
-    out[0] = b'm';
-    let end = put_marks(marks, out, 1);
-    finish(out, end)
+    write_line(b"m", None, marks, out)
 }
 
 // `no`, the number.
-pub fn refusal_line(number: u8, out: &mut [u8]) -> Written
+pub fn refusal_line(number: u8, out: &mut [u8]) -> Option<usize>
     ensures { written_into result out.new ≡ line_into (room mark_width 0) (refusal_text number) out.old }
 {
-    if is_short(out.len(), Written::MARK_WIDTH, 0) {
-        return Written::TooShort;
-    }
-    out[0] = b'n';
-    out[1] = b'o';
-    let end = put_number(number as usize, out, 2);
-    finish(out, end)
+    let no_marks: &[u8] = &[];
+    write_line(b"no", Some(usize::from(number)), no_marks, out)
 }

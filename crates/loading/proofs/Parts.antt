@@ -7,7 +7,7 @@ use lib.IntN.{ℤ, pos}
 use lib.ListN.{length, length-map, replicate}
 use Rattle.scratch.specs.Blank.{BlankFiring}
 use Rattle.model.specs.declared.Sizes.{Sizes}
-use Rattle.model.specs.declared.Checked.TheVariants as checked
+use Rattle.std.proofs.Common.{Ok}
 use Rattle.model.specs.Trees.{System, variables}
 use Rattle.model.specs.Sizes.{byte_layout}
 use Rattle.model.specs.Check.{verdict, answer_of, kinds_in, parameters_in}
@@ -37,7 +37,7 @@ pub record Exact (s : Sizes) (a : Arrays) : Type 0 where
   pub nexts : length a.nexts ≡ s.nodes
   pub guards : length a.guards ≡ s.transitions
 
-module _ (m : List ℕ) (bytes : Bytes m) (s : Sizes) (e : answer_of (verdict m) ≡ checked.Accepted s) (old new : Arrays) (exact : Exact s old) (place : ℕ)
+module _ (m : List ℕ) (bytes : Bytes m) (s : Sizes) (e : answer_of (verdict m) ≡ Ok s) (old new : Arrays) (exact : Exact s old) (place : ℕ)
     (decodes : (t : System) → verdict m ≡ accepted s t → (place ≡ assertion_place t) × (new ≡ decoded_over m s t old))
     (kinds : List ℕ) (k : kinds ≡ kinds_in byte_layout s.nodes m) where
   abbrev pub system : System

@@ -2,9 +2,8 @@
 
 #![tactic(auto)]
 
-ghost use Rattle.std.specs.Prelude.{◌≡◌, ◌+◌, pos, length, replicate};
+ghost use Rattle.std.specs.Prelude.{Ok, ◌≡◌, ◌+◌, pos, length, replicate};
 ghost use Rattle.scratch.specs.Blank.{BlankFiring};
-ghost use Rattle.model.specs.declared.Checked.TheVariants.{Accepted};
 ghost use Rattle.model.specs.Trees.{System};
 ghost use Rattle.model.specs.Sizes.{byte_layout};
 ghost use Rattle.model.specs.Check.{verdict, answer_of, kinds_in};
@@ -43,7 +42,7 @@ pub fn advance_in(
     n: usize,
     step: Move,
 ) -> Answer
-    requires { (answer_of (verdict model.now) ≡ Accepted sizes)
+    requires { (answer_of (verdict model.now) ≡ Ok sizes)
         × Lent sizes (length parameters.old) (length variables.old) (length nexts.old) (length guards.old) (length heads.old) (length links.old)
         × BlankFiring (sizes.states + sizes.flows) sizes.nodes states.old cells.old given.old queue.old waits.old
         × (copy.old ≡ replicate (sizes.states + sizes.flows) (pos 0)) }

@@ -28,7 +28,7 @@ mark_below (Value v) = go (eq_z v (boolean true))
     go false = omega arith
 
 marks_below : (m : Meaning) (values : List ℤ) (t n : ℕ) → all_below 3 (marks_from m values t n) ≡ true
-unfolding marks_from all_below
+unfolding marks_from
 marks_below m values t zero = refl
 marks_below m values t (suc n) = rw (lt-ltb (mark_of (m.guard t values)) 3 (mark_below (m.guard t values))) (marks_below m values (suc t) n)
 

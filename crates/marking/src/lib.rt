@@ -42,13 +42,11 @@ pub fn refresh(
 {
     let count = variables.len();
     propagation::overwrite(&values[..count], cells);
-    let mut i = 0;
-    while i < guards.len() {
+    for i in 0..guards.len() {
         let guard = transitions::guard(
             loaded, kinds, parameters, variables, nexts, guards, cells, i,
         );
         marks[i] = mark_of(guard);
-        i += 1;
     }
     scratch::forget(cells);
 }

@@ -9,9 +9,10 @@ use lib.Dec.{T, ltb}
 use lib.IntN.{ℤ}
 use lib.ListN.{length, length-take, length-drop, drop}
 use Rattle.evaluation.specs.Numbers.{representable}
+use Rattle.std.specs.Prelude.{Result, Ok, Err}
+use Rattle.results.specs.declared.refusal.Refusal.{Refusal}
+use Rattle.results.specs.declared.refusal.Refusal.TheVariants.{NodesLeftOver}
 use Rattle.model.specs.declared.Sizes.{Sizes}
-use Rattle.model.specs.declared.Sized.{Sized}
-use Rattle.model.specs.declared.Sized.TheVariants.{Refused, Read}
 use Rattle.model.specs.Trees.{System, variables}
 use Rattle.model.specs.Nodes.{nodes_of_system}
 use Rattle.model.specs.Sizes.{byte_layout, sized, sizes_in}
@@ -83,7 +84,7 @@ module _ (m : List ℕ) (b : AllBytes m) (s : Sizes) (h : SizedAs m s) where
         },
       )
 
-  completed : (t : System) (next : ℕ) (c : Bool) → ltb next s.nodes ≡ c → SystemFound ks ps s t next → Holds (λ t next. Exact m s t) (cond c (refused 8) (found t next))
+  completed : (t : System) (next : ℕ) (c : Bool) → ltb next s.nodes ≡ c → SystemFound ks ps s t next → Holds (λ t next. Exact m s t) (cond c (refused NodesLeftOver) (found t next))
   unfolding Holds
   completed t next true e f = tt
   completed t next false e f = exact t next f (ltb-false next s.nodes e)
@@ -107,9 +108,9 @@ verdict_exact : (m : List ℕ) → AllBytes m → VerdictHolds (Exact m) (verdic
 unfolding verdict verdict_in VerdictHolds
 verdict_exact m b = by (sized byte_layout m) refl
   where
-    by : (r : Sized) → sized byte_layout m ≡ r → VerdictHolds (Exact m) (verdict_in byte_layout m r)
-    by (Refused n) e = tt
-    by (Read s) e = walk_verdict (Exact m) s (walked_in byte_layout m s) (walk_exact m b s (sized_read m s e))
+    by : (r : Result Sizes Refusal) → sized byte_layout m ≡ r → VerdictHolds (Exact m) (verdict_in byte_layout m r)
+    by (Err n) e = tt
+    by (Ok s) e = walk_verdict (Exact m) s (walked_in byte_layout m s) (walk_exact m b s (sized_read m s e))
 
 -- ---- and the file of a well-formed tree is accepted
 

@@ -6,11 +6,15 @@ use Prim.Native.Nat.{ℕ, zero, suc, ◌+◌, ◌*◌, ◌≤◌}
 use native.Mathlib.Omega.{arith}
 use lib.Dec.{eqb, ltb, leb}
 use lib.IntN.{ℤ, nat_abs}
-use lib.ListN.{length, get_or}
+use lib.ListN.{length}
+use Rattle.std.specs.Prelude.{slice_get, Option, Some, None, Ok, Err}
+use Rattle.results.specs.declared.refusal.Refusal.{Refusal}
+use Rattle.results.specs.declared.refusal.Refusal.TheVariants.{ShortFile, TooManyNodes, WrongLength, MissingNode, TooDeep, KindNotAllowed, ParameterNotAllowed, NodesLeftOver}
+use Rattle.results.specs.Refusals.{number_of}
+use Rattle.kinds.specs.declared.Sort.{Sort}
 use Rattle.kinds.specs.Kinds.{children_of}
 use Rattle.syntax.specs.Readings.{refusal_at, kind_at, parameter_at, expression_refusal, instruction_refusal, variable_refusal, end_refusal, transition_refusal}
 use Rattle.model.specs.declared.Sizes.{Sizes}
-use Rattle.model.specs.declared.Sized.TheVariants as sized
 use Rattle.model.specs.Trees.{Expression, Instruction, System}
 use Rattle.model.specs.Trees.Instruction.{block}
 use Rattle.model.specs.Sizes.{byte_layout, header_of, node_width, sizes_in, sized as sized_in}
@@ -22,9 +26,13 @@ use Rattle.model.specs.Theorems.{CheckRefusals}
 
 -- ---- walks
 
--- whatever number refuses this walk is one of 1 to 8
+-- a refusal with one of the numbers 1 to 8
+abbrev Low : Refusal → Type 0
+Low r = (1 ≤ number_of r) × (number_of r ≤ 8)
+
+-- whatever refuses this walk has one of these numbers
 unfoldable Refusing : {A : Type 0} → Walk A → Type 0
-Refusing (refused n) = (1 ≤ n) × (n ≤ 8)
+Refusing (refused r) = Low r
 Refusing (found a next) = Unit {0}
 
 then_refusing : {A B : Type 0} (w : Walk A) (k : A → ℕ → Walk B) → Refusing w → ((a : A) (next : ℕ) → Refusing (k a next)) → Refusing (and_then w k)
@@ -36,10 +44,15 @@ found_refusing : {A B : Type 0} (w : Walk A) (f : A → B) → Refusing w → Re
 unfolding Refusing
 found_refusing w f h = then_refusing w _ h (λ a next. tt)
 
-unless_refusing : {A : Type 0} (n : ℕ) (w : Walk A) → n ≤ 8 → Refusing w → Refusing (unless_refused n w)
-unfolding Refusing unless_refused
-unless_refusing zero w l h = h
-unless_refusing (suc n) w l h = (omega arith, l)
+-- nothing, or a refusal with one of these numbers
+unfoldable LowIfAny : Option Refusal → Type 0
+LowIfAny None = Unit {0}
+LowIfAny (Some r) = Low r
+
+unless_refusing : {A : Type 0} (o : Option Refusal) (w : Walk A) → LowIfAny o → Refusing w → Refusing (unless_refused o w)
+unfolding Refusing LowIfAny unless_refused
+unless_refusing None w l h = h
+unless_refusing (Some r) w l h = l
 
 choice_refusing : {A : Type 0} (t : Bool) (w v : Walk A) → Refusing w → Refusing v → Refusing (cond t w v)
 choice_refusing true w v h l = h
@@ -47,29 +60,25 @@ choice_refusing false w v h l = l
 
 -- ---- the node that is due
 
-refusal_most : (ks : List ℕ) (ps : List ℤ) (allowed : ℕ → Bool) (fits : ℕ → ℤ → Bool) (left at : ℕ) → refusal_at ks ps allowed fits left at ≤ 8
-unfolding refusal_at
-refusal_most ks ps allowed fits left at = by (leb (length ks) at) (eqb left 0) (not (allowed (kind_at ks ps at))) (not (fits (kind_at ks ps at) (parameter_at ks ps at)))
+refusal_low : (ks : List ℕ) (ps : List ℤ) (allowed : ℕ → Bool) (fits : ℕ → ℤ → Bool) (left at : ℕ) → LowIfAny (refusal_at ks ps allowed fits left at)
+unfolding refusal_at LowIfAny number_of
+refusal_low ks ps allowed fits left at = by (leb (length ks) at) (eqb left 0) (not (allowed (kind_at ks ps at))) (not (fits (kind_at ks ps at) (parameter_at ks ps at)))
   where
-    by : (a b c d : Bool) → cond a 4 (cond b 5 (cond c 6 (cond d 7 0))) ≤ 8
-    by true b c d = omega arith
-    by false true c d = omega arith
-    by false false true d = omega arith
-    by false false false true = omega arith
-    by false false false false = omega arith
+    by : (a b c d : Bool) → LowIfAny (cond a (Some MissingNode) (cond b (Some TooDeep) (cond c (Some KindNotAllowed) (cond d (Some ParameterNotAllowed) None))))
+    by true b c d = (omega arith, omega arith)
+    by false true c d = (omega arith, omega arith)
+    by false false true d = (omega arith, omega arith)
+    by false false false true = (omega arith, omega arith)
+    by false false false false = tt
 
-refusal_least : (ks : List ℕ) (ps : List ℤ) (allowed : ℕ → Bool) (fits : ℕ → ℤ → Bool) (at : ℕ) → 1 ≤ refusal_at ks ps allowed fits zero at
-unfolding refusal_at
-refusal_least ks ps allowed fits at = by (leb (length ks) at)
-  where
-    by : (a : Bool) → 1 ≤ cond a 4 5
-    by true = omega arith
-    by false = omega arith
+too_deep : Low TooDeep
+unfolding number_of
+too_deep = (omega arith, omega arith)
 
 -- ---- expressions, instructions, variables, transitions
 
 module _ (ks : List ℕ) (ps : List ℤ) where
-  operands_refusing : (child : ℕ → ℕ → Walk Expression) → ((w at : ℕ) → Refusing (child w at)) → (wanted k : ℕ) (p : ℤ) (at n : ℕ)
+  operands_refusing : (child : Option Sort → ℕ → Walk Expression) → ((w : Option Sort) (at : ℕ) → Refusing (child w at)) → (wanted : Option Sort) (k : ℕ) (p : ℤ) (at n : ℕ)
       → Refusing (operands_at ks ps child wanted k p at n)
   unfolding Refusing operands_at
   operands_refusing child h wanted k p at zero = tt
@@ -78,19 +87,19 @@ module _ (ks : List ℕ) (ps : List ℤ) where
   operands_refusing child h wanted k p at (suc (suc (suc n))) =
       then_refusing _ _ (h _ at) (λ c second. then_refusing _ _ (h _ second) (λ a third. found_refusing _ _ (h _ third)))
 
-  expression_refusing : (sorts : List ℕ) (left wanted at : ℕ) → Refusing (expression_at ks ps sorts left wanted at)
+  expression_refusing : (sorts : List Sort) (left : ℕ) (wanted : Option Sort) (at : ℕ) → Refusing (expression_at ks ps sorts left wanted at)
   unfolding Refusing expression_at expression_refusal
-  expression_refusing sorts zero wanted at = (refusal_least ks ps _ _ at, refusal_most ks ps _ _ zero at)
+  expression_refusing sorts zero wanted at = unless_refusing _ _ (refusal_low ks ps _ _ zero at) too_deep
   expression_refusing sorts (suc left) wanted at =
-      unless_refusing _ _ (refusal_most ks ps _ _ (suc left) at) (operands_refusing _ (expression_refusing sorts left) _ _ _ _ _)
+      unless_refusing _ _ (refusal_low ks ps _ _ (suc left) at) (operands_refusing _ (expression_refusing sorts left) _ _ _ _ _)
 
   branches_refusing : (child : ℕ → Walk Instruction) → ((at : ℕ) → Refusing (child at)) → (n at : ℕ) → Refusing (branches_at ks ps child n at)
   unfolding Refusing branches_at
   branches_refusing child h zero at = tt
   branches_refusing child h (suc n) at = then_refusing _ _ (h at) (λ i next. found_refusing _ _ (branches_refusing child h n next))
 
-  parts_refusing : (expression : ℕ → ℕ → Walk Expression) (child : ℕ → Walk Instruction) → ((w at : ℕ) → Refusing (expression w at)) → ((at : ℕ) → Refusing (child at))
-      → (sort : ℕ) (p : ℤ) (at n : ℕ) → Refusing (parts_at ks ps expression child sort p at n)
+  parts_refusing : (expression : Option Sort → ℕ → Walk Expression) (child : ℕ → Walk Instruction) → ((w : Option Sort) (at : ℕ) → Refusing (expression w at)) → ((at : ℕ) → Refusing (child at))
+      → (sort : Option Sort) (p : ℤ) (at n : ℕ) → Refusing (parts_at ks ps expression child sort p at n)
   unfolding Refusing parts_at
   parts_refusing expression child h l sort p at zero = tt
   parts_refusing expression child h l sort p at (suc zero) = found_refusing _ _ (h sort at)
@@ -98,14 +107,14 @@ module _ (ks : List ℕ) (ps : List ℤ) where
 
   instruction_refusing : (s : Scope) (left at : ℕ) → Refusing (instruction_at ks ps s left at)
   unfolding Refusing instruction_at instruction_refusal
-  instruction_refusing s zero at = (refusal_least ks ps _ _ at, refusal_most ks ps _ _ zero at)
+  instruction_refusing s zero at = unless_refusing _ _ (refusal_low ks ps _ _ zero at) too_deep
   instruction_refusing s (suc left) at =
       let k = kind_at ks ps at in
       let p = parameter_at ks ps at in
       let blocks : Walk Instruction = and_then (branches_at ks ps (λ next. instruction_at ks ps s left next) (nat_abs p) (at + 1)) (λ is next. found (block is) next) in
       let others : Walk Instruction =
-      parts_at ks ps (λ w next. expression_at ks ps s.sorts left w next) (λ next. instruction_at ks ps s left next) (get_or s.sorts (nat_abs p) 0) p (at + 1) (children_of k) in
-      unless_refusing _ (cond (eqb k 19) blocks others) (refusal_most ks ps _ _ (suc left) at)
+      parts_at ks ps (λ w next. expression_at ks ps s.sorts left w next) (λ next. instruction_at ks ps s left next) (slice_get s.sorts (nat_abs p)) p (at + 1) (children_of k) in
+      unless_refusing _ (cond (eqb k 19) blocks others) (refusal_low ks ps _ _ (suc left) at)
       (choice_refusing (eqb k 19) blocks others
       (found_refusing _ block (branches_refusing _ (instruction_refusing s left) _ _))
       (parts_refusing _ _ (expression_refusing s.sorts left) (instruction_refusing s left) _ _ _ _))
@@ -113,18 +122,18 @@ module _ (ks : List ℕ) (ps : List ℤ) where
   range_refusing : (low : ℤ) (at : ℕ) → Refusing (range_at ks ps low at)
   unfolding Refusing range_at end_refusal
   range_refusing low at =
-      unless_refusing _ _ (refusal_most ks ps _ _ 1 _) (unless_refusing _ _ (refusal_most ks ps _ _ 1 _) tt)
+      unless_refusing _ _ (refusal_low ks ps _ _ 1 _) (unless_refusing _ _ (refusal_low ks ps _ _ 1 _) tt)
 
   variable_refusing : (at : ℕ) → Refusing (variable_at ks ps at)
   unfolding Refusing variable_at variable_refusal
   variable_refusing at =
-      unless_refusing _ _ (refusal_most ks ps _ _ 1 at)
+      unless_refusing _ _ (refusal_low ks ps _ _ 1 at)
       (choice_refusing (eqb (kind_at ks ps at) 1) (found _ (at + 1)) (range_at ks ps (parameter_at ks ps at) (at + 1)) tt (range_refusing _ _))
 
   transition_refusing : (events : ℕ) (s : Scope) (depth at : ℕ) → Refusing (transition_at ks ps events s depth at)
   unfolding transition_at transition_refusal
   transition_refusing events s depth at =
-      unless_refusing _ _ (refusal_most ks ps _ _ 1 at)
+      unless_refusing _ _ (refusal_low ks ps _ _ 1 at)
       (then_refusing _ _ (expression_refusing s.sorts depth _ _) (λ g second. found_refusing _ _ (instruction_refusing s depth second)))
 
 row_refusing : {A : Type 0} (item : ℕ → Walk A) → ((at : ℕ) → Refusing (item at)) → (n at : ℕ) → Refusing (row_at item n at)
@@ -135,8 +144,8 @@ row_refusing item h (suc n) at = then_refusing _ _ (h at) (λ a next. found_refu
 -- ---- the whole
 
 complete_refusing : {A : Type 0} (n : ℕ) (w : Walk A) → Refusing w → Refusing (complete n w)
-unfolding Refusing complete
-complete_refusing n w h = then_refusing w _ h (λ a next. choice_refusing (ltb next n) (refused 8) (found a next) (omega arith, omega arith) tt)
+unfolding Refusing complete number_of
+complete_refusing n w h = then_refusing w _ h (λ a next. choice_refusing (ltb next n) (refused NodesLeftOver) (found a next) (omega arith, omega arith) tt)
 
 system_refusing : (ks : List ℕ) (ps : List ℤ) (s : Sizes) → Refusing (system_at ks ps s)
 unfolding system_at rest_at
@@ -148,7 +157,7 @@ system_refusing ks ps s =
     (λ ts third. found_refusing _ _ (instruction_refusing ks ps _ _ third))))
 
 unfoldable Refused : Verdict → Type 0
-Refused (refusal n) = (1 ≤ n) × (n ≤ 8)
+Refused (refusal r) = Low r
 Refused (accepted s t) = Unit {0}
 
 of_walk : (s : Sizes) (w : Walk System) → Refusing w → Refused (verdict_of s w)
@@ -157,12 +166,12 @@ of_walk s (refused n) h = h
 of_walk s (found t next) h = tt
 
 of_sizes : (m : List ℕ) → Refused (verdict m)
-unfolding Refused verdict verdict_in sized_in
+unfolding Refused verdict verdict_in sized_in number_of
 of_sizes m =
     by (ltb (length m) (header_of byte_layout)) (ltb byte_layout.max_nodes (sizes_in byte_layout m).nodes)
     (not (eqb (length m) (header_of byte_layout + node_width * (sizes_in byte_layout m).nodes)))
   where
-    by : (a b c : Bool) → Refused (verdict_in byte_layout m (cond a (sized.Refused 1) (cond b (sized.Refused 2) (cond c (sized.Refused 3) (sized.Read (sizes_in byte_layout m))))))
+    by : (a b c : Bool) → Refused (verdict_in byte_layout m (cond a (Err ShortFile) (cond b (Err TooManyNodes) (cond c (Err WrongLength) (Ok (sizes_in byte_layout m))))))
     by true b c = (omega arith, omega arith)
     by false true c = (omega arith, omega arith)
     by false false true = (omega arith, omega arith)
@@ -170,4 +179,4 @@ of_sizes m =
 
 pub check_refusals : CheckRefusals
 unfolding Refused
-check_refusals m n e = subst Refused e (of_sizes m)
+check_refusals m r e = subst Refused e (of_sizes m)

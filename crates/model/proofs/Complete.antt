@@ -1,15 +1,20 @@
 -- A tree with the right sorts and depth that stands among the nodes is what the walk finds there.
-use mathlib.Core.Path.{◌≡◌, refl, sym, ap, ◌∙◌}
+use mathlib.Core.Path.{◌≡◌, refl, ap, ◌∙◌}
 use mathlib.Core.Bool.{Bool, true, false, cond, ◌&&◌, ◌||◌}
 use mathlib.Core.List.{List}
 use Prim.Native.Nat.{ℕ, zero, suc, ◌+◌, ◌≤◌, ◌<◌}
 use native.Mathlib.Omega.{arith}
-use borrow.Author.Tests.{eq-eqb, lt-ltb, le-leb}
+use borrow.Author.Tests.{lt-ltb, le-leb}
 use lib.Dec.{T, eqb}
 use lib.IntN.{ℤ, pos, nat_abs}
-use lib.ListN.{length, get_or}
+use lib.ListN.{length}
 use Rattle.evaluation.specs.Numbers.{eq_z}
 use Rattle.kinds.specs.Kinds.{row_of, place_of, children_of, result_of, operand_sort, kind_of, operator_of}
+use Rattle.std.specs.Prelude.{slice_get, Option, Some, None}
+use Rattle.kinds.specs.declared.Sort.{Sort}
+use Rattle.kinds.specs.declared.Place.TheVariants.{Instruction as InstructionPlace, Expression as ExpressionPlace}
+use Rattle.kinds.proofs.Equality.{wanted_itself}
+use Rattle.kinds.specs.Kinds.{boolean_sort, same_sort}
 use Rattle.model.specs.Trees.{Expression, Instruction, Instructions, count, depth_of_expression, depth_of, depth_of_all}
 use Rattle.model.specs.Trees.Expression.{numeral, truth, variable, negation, binary, if_then_else}
 use Rattle.model.specs.Trees.Instruction.{skip, assign, if_then, block}
@@ -35,63 +40,63 @@ last_true a false true d p q = rw p
 last_true a false false d p q = rw (p, q)
 
 -- a kind of the wanted sort is allowed
-pub sort_allowed : (wanted k : ℕ) → place_of k ≡ 6 → wanted ≡ result_of k → expression_allowed row_of wanted k ≡ true
+pub sort_allowed : (wanted : Option Sort) (k : ℕ) → place_of k ≡ ExpressionPlace → wanted ≡ result_of k → expression_allowed wanted k ≡ true
 unfolding expression_allowed row_of
 sort_allowed wanted k p e =
-    last_true (stands_at row_of 6 k) (eqb k 34) (eqb k 46) (eqb (result_of k) wanted) (stands 6 k p)
-    (eq-eqb (result_of k) wanted (sym e))
+    last_true (stands_at ExpressionPlace k) (eqb k 34) (eqb k 46) (same_sort (result_of k) wanted) (stands ExpressionPlace k p)
+    (rw e (wanted_itself (result_of k)))
 
 -- a variable and an if-then-else are, whatever the wanted sort
-variable_allowed : (wanted : ℕ) → expression_allowed row_of wanted 34 ≡ true
+variable_allowed : (wanted : Option Sort) → expression_allowed wanted 34 ≡ true
 unfolding expression_allowed place_of
-variable_allowed wanted = rw (stands 6 34 refl)
+variable_allowed wanted = rw (stands ExpressionPlace 34 refl)
 
-choice_allowed : (wanted : ℕ) → expression_allowed row_of wanted 46 ≡ true
+choice_allowed : (wanted : Option Sort) → expression_allowed wanted 46 ≡ true
 unfolding expression_allowed place_of
-choice_allowed wanted = rw (stands 6 46 refl)
+choice_allowed wanted = rw (stands ExpressionPlace 46 refl)
 
-pub zero_fits : (sorts : List ℕ) (wanted k : ℕ) → eqb k 32 ≡ false → eqb k 33 ≡ false → eqb k 34 ≡ false → expression_fits sorts wanted k (pos 0) ≡ true
+pub zero_fits : (sorts : List Sort) (wanted : Option Sort) (k : ℕ) → eqb k 32 ≡ false → eqb k 33 ≡ false → eqb k 34 ≡ false → expression_fits sorts wanted k (pos 0) ≡ true
 unfolding expression_fits eq_z
 zero_fits sorts wanted k a b c = rw (a, b, c)
 
-sort_fits : (sorts : List ℕ) (wanted x : ℕ) → x < length sorts → get_or sorts x 0 ≡ wanted → is_of_sort sorts wanted (pos x) ≡ true
-sort_fits sorts wanted x h e = rw (lt-ltb x (length sorts) h, eq-eqb (get_or sorts x 0) wanted e)
+sort_fits : (sorts : List Sort) (wanted : Option Sort) (x : ℕ) → x < length sorts → slice_get sorts x ≡ wanted → is_of_sort sorts wanted (pos x) ≡ true
+sort_fits sorts wanted x h e = rw (lt-ltb x (length sorts) h, e) (wanted_itself wanted)
 
 pub target_fits : (from past x : ℕ) → from ≤ x → x < past → is_target from past (pos x) ≡ true
 target_fits from past x h l = rw (le-leb from x h, lt-ltb x past l)
 
 -- ---- expressions
 
-module _ (ks : List ℕ) (ps : List ℤ) (sorts : List ℕ) where
+module _ (ks : List ℕ) (ps : List ℤ) (sorts : List Sort) where
   -- one node, and what follows it
-  expression_step : (left wanted at k : ℕ) (p : ℤ) (e : Expression) (next : ℕ) → NodeAt ks ps at k p
-      → expression_allowed row_of wanted k ≡ true → expression_fits sorts wanted k p ≡ true
+  expression_step : (left : ℕ) (wanted : Option Sort) (at k : ℕ) (p : ℤ) (e : Expression) (next : ℕ) → NodeAt ks ps at k p
+      → expression_allowed wanted k ≡ true → expression_fits sorts wanted k p ≡ true
       → operands_at ks ps (λ w next. expression_at ks ps sorts left w next) wanted k p (at + 1) (children_of k) ≡ found e next
       → expression_at ks ps sorts (suc left) wanted at ≡ found e next
   unfolding expression_at expression_refusal unless_refused
   expression_step left wanted at k p e next n a f h =
-      let z : expression_refusal row_of ks ps sorts (suc left) wanted at ≡ 0 =
-      node_refusal ks ps (expression_allowed row_of wanted) (expression_fits sorts wanted) (suc left) at k p n (omega arith) a f in
+      let z : expression_refusal ks ps sorts (suc left) wanted at ≡ None =
+      node_refusal ks ps (expression_allowed wanted) (expression_fits sorts wanted) (suc left) at k p n (omega arith) a f in
       ap (λ r. unless_refused r (operands_at ks ps (λ w next. expression_at ks ps sorts left w next) wanted (kind_at ks ps at) (parameter_at ks ps at) (at + 1) (children_of (kind_at ks ps at)))) z
       ∙ rw (n.kind, n.parameter) h
 
-  module _ (child : ℕ → ℕ → Walk Expression) (wanted k : ℕ) (p : ℤ) (at : ℕ) where
-    one_operand : (a : Expression) (next : ℕ) → child (operand_sort k) at ≡ found a next
+  module _ (child : Option Sort → ℕ → Walk Expression) (wanted : Option Sort) (k : ℕ) (p : ℤ) (at : ℕ) where
+    one_operand : (a : Expression) (next : ℕ) → child (Some (operand_sort k)) at ≡ found a next
         → operands_at ks ps child wanted k p at 1 ≡ found (negation a) next
     unfolding operands_at and_then
     one_operand a next h = rw h
 
-    two_operands : (a b : Expression) (second next : ℕ) → child (operand_sort k) at ≡ found a second → child (operand_sort k) second ≡ found b next
+    two_operands : (a b : Expression) (second next : ℕ) → child (Some (operand_sort k)) at ≡ found a second → child (Some (operand_sort k)) second ≡ found b next
         → operands_at ks ps child wanted k p at 2 ≡ found (binary (operator_of k) a b) next
     unfolding operands_at and_then
     two_operands a b second next h l = rw (h, l)
 
-    three_operands : (c a b : Expression) (second third next : ℕ) → child 1 at ≡ found c second → child wanted second ≡ found a third → child wanted third ≡ found b next
+    three_operands : (c a b : Expression) (second third next : ℕ) → child boolean_sort at ≡ found c second → child wanted second ≡ found a third → child wanted third ≡ found b next
         → operands_at ks ps child wanted k p at 3 ≡ found (if_then_else c a b) next
     unfolding operands_at and_then
     three_operands c a b second third next h l m = rw (h, l, m)
 
-  pub complete_expression : (e : Expression) (left wanted at : ℕ) → ExpressionAt ks ps e at → Sorted sorts wanted e → depth_of_expression e ≤ left
+  pub complete_expression : (e : Expression) (left : ℕ) (wanted : Option Sort) (at : ℕ) → ExpressionAt ks ps e at → Sorted sorts wanted e → depth_of_expression e ≤ left
       → expression_at ks ps sorts left wanted at ≡ found e (at + size_of_expression e)
   unfolding ExpressionAt Sorted depth_of_expression size_of_expression operands_at leaf children_of place_of result_of operand_sort expression_allowed expression_fits
   complete_expression (numeral v) zero wanted at n s d = absurd (omega arith)
@@ -107,11 +112,11 @@ module _ (ks : List ℕ) (ps : List ℤ) (sorts : List ℕ) where
   complete_expression (negation a) (suc left) wanted at n s d =
       expression_step left wanted at 35 (pos 0) (negation a) (at + suc (size_of_expression a)) n.0 (sort_allowed wanted 35 refl s.0) (zero_fits sorts wanted 35 refl refl refl)
       (one_operand (λ w next. expression_at ks ps sorts left w next) wanted 35 (pos 0) (at + 1) a (at + suc (size_of_expression a))
-      (complete_expression a left 1 (at + 1) n.1 s.1 (omega arith) ∙ ap (found a) (omega arith)))
+      (complete_expression a left boolean_sort (at + 1) n.1 s.1 (omega arith) ∙ ap (found a) (omega arith)))
   complete_expression (binary op a b) zero wanted at n s d = absurd (omega arith)
   complete_expression (binary op a b) (suc left) wanted at n s d =
       let row = operator_row op in
-      let w = operand_sort (kind_of op) in
+      let w = Some (operand_sort (kind_of op)) in
       let next = at + suc (size_of_expression a + size_of_expression b) in
       expression_step left wanted at (kind_of op) (pos 0) (binary op a b) next n.0 (sort_allowed wanted (kind_of op) row.place s.0)
       (zero_fits sorts wanted (kind_of op) row.no_numeral row.no_truth row.no_variable)
@@ -127,7 +132,7 @@ module _ (ks : List ℕ) (ps : List ℤ) (sorts : List ℕ) where
       let next = at + suc (size_of_expression c + (size_of_expression a + size_of_expression b)) in
       expression_step left wanted at 46 (pos 0) (if_then_else c a b) next n.0 (choice_allowed wanted) (zero_fits sorts wanted 46 refl refl refl)
       (three_operands (λ w next. expression_at ks ps sorts left w next) wanted 46 (pos 0) (at + 1) c a b second third next
-      (complete_expression c left 1 (at + 1) n.1 s.0 (omega arith))
+      (complete_expression c left boolean_sort (at + 1) n.1 s.0 (omega arith))
       (complete_expression a left wanted second n.2 s.1 (omega arith))
       (complete_expression b left wanted third n.3 s.2 (omega arith) ∙ ap (found b) (omega arith)))
 
@@ -135,31 +140,31 @@ module _ (ks : List ℕ) (ps : List ℤ) (sorts : List ℕ) where
 
 module _ (ks : List ℕ) (ps : List ℤ) where
   instruction_step : (s : Scope) (left at k : ℕ) (p : ℤ) (i : Instruction) (next : ℕ) → NodeAt ks ps at k p
-      → place_of k ≡ 5 → instruction_fits s.from s.past k p ≡ true
+      → place_of k ≡ InstructionPlace → instruction_fits s.from s.past k p ≡ true
       → cond (eqb k 19)
       (and_then (branches_at ks ps (λ next. instruction_at ks ps s left next) (nat_abs p) (at + 1)) (λ is next. found (block is) next))
       (parts_at ks ps (λ w next. expression_at ks ps s.sorts left w next) (λ next. instruction_at ks ps s left next)
-      (get_or s.sorts (nat_abs p) 0) p (at + 1) (children_of k))
+      (slice_get s.sorts (nat_abs p)) p (at + 1) (children_of k))
       ≡ found i next
       → instruction_at ks ps s (suc left) at ≡ found i next
   unfolding instruction_at instruction_refusal unless_refused
   instruction_step s left at k p i next n a f h =
-      let z : instruction_refusal row_of ks ps s.from s.past (suc left) at ≡ 0 =
-      node_refusal ks ps (stands_at row_of 5) (instruction_fits s.from s.past) (suc left) at k p n (omega arith) (stands 5 k a) f in
+      let z : instruction_refusal ks ps s.from s.past (suc left) at ≡ None =
+      node_refusal ks ps (stands_at InstructionPlace) (instruction_fits s.from s.past) (suc left) at k p n (omega arith) (stands InstructionPlace k a) f in
       ap (λ r. unless_refused r
       (cond (eqb (kind_at ks ps at) 19)
       (and_then (branches_at ks ps (λ next. instruction_at ks ps s left next) (nat_abs (parameter_at ks ps at)) (at + 1)) (λ is next. found (block is) next))
       (parts_at ks ps (λ w next. expression_at ks ps s.sorts left w next) (λ next. instruction_at ks ps s left next)
-      (get_or s.sorts (nat_abs (parameter_at ks ps at)) 0) (parameter_at ks ps at) (at + 1) (children_of (kind_at ks ps at))))) z
+      (slice_get s.sorts (nat_abs (parameter_at ks ps at))) (parameter_at ks ps at) (at + 1) (children_of (kind_at ks ps at))))) z
       ∙ rw (n.kind, n.parameter) h
 
-  module _ (expression : ℕ → ℕ → Walk Expression) (child : ℕ → Walk Instruction) where
-    one_part : (sort x at : ℕ) (e : Expression) (next : ℕ) → expression sort at ≡ found e next
+  module _ (expression : Option Sort → ℕ → Walk Expression) (child : ℕ → Walk Instruction) where
+    one_part : (sort : Option Sort) (x at : ℕ) (e : Expression) (next : ℕ) → expression sort at ≡ found e next
         → parts_at ks ps expression child sort (pos x) at 1 ≡ found (assign x e) next
     unfolding parts_at and_then
     one_part sort x at e next h = rw h
 
-    two_parts : (sort : ℕ) (p : ℤ) (at : ℕ) (c : Expression) (i : Instruction) (second next : ℕ) → expression 1 at ≡ found c second → child second ≡ found i next
+    two_parts : (sort : Option Sort) (p : ℤ) (at : ℕ) (c : Expression) (i : Instruction) (second next : ℕ) → expression boolean_sort at ≡ found c second → child second ≡ found i next
         → parts_at ks ps expression child sort p at 2 ≡ found (if_then c i) next
     unfolding parts_at and_then
     two_parts sort p at c i second next h l = rw (h, l)
@@ -183,15 +188,15 @@ module _ (ks : List ℕ) (ps : List ℤ) where
     complete_instruction (assign x e) s (suc left) at n c d =
         let next = at + suc (size_of_expression e) in
         instruction_step s left at 17 (pos x) (assign x e) next n.0 refl (target_fits s.from s.past x c.0 c.1)
-        (one_part (λ w next. expression_at ks ps s.sorts left w next) (λ next. instruction_at ks ps s left next) (get_or s.sorts x 0) x (at + 1) e next
-        (complete_expression ks ps s.sorts e left (get_or s.sorts x 0) (at + 1) n.1 c.2 (omega arith) ∙ ap (found e) (omega arith)))
+        (one_part (λ w next. expression_at ks ps s.sorts left w next) (λ next. instruction_at ks ps s left next) (slice_get s.sorts x) x (at + 1) e next
+        (complete_expression ks ps s.sorts e left (slice_get s.sorts x) (at + 1) n.1 c.2 (omega arith) ∙ ap (found e) (omega arith)))
     complete_instruction (if_then t i) s zero at n c d = absurd (omega arith)
     complete_instruction (if_then t i) s (suc left) at n c d =
         let second = at + 1 + size_of_expression t in
         let next = at + suc (size_of_expression t + size_of i) in
         instruction_step s left at 18 (pos 0) (if_then t i) next n.0 refl refl
-        (two_parts (λ w next. expression_at ks ps s.sorts left w next) (λ next. instruction_at ks ps s left next) (get_or s.sorts 0 0) (pos 0) (at + 1) t i second next
-        (complete_expression ks ps s.sorts t left 1 (at + 1) n.1 c.0 (omega arith))
+        (two_parts (λ w next. expression_at ks ps s.sorts left w next) (λ next. instruction_at ks ps s left next) (slice_get s.sorts 0) (pos 0) (at + 1) t i second next
+        (complete_expression ks ps s.sorts t left boolean_sort (at + 1) n.1 c.0 (omega arith))
         (complete_instruction i s left second n.2 c.1 (omega arith) ∙ ap (found i) (omega arith)))
     complete_instruction (block is) s zero at n c d = absurd (omega arith)
     complete_instruction (block is) s (suc left) at n c d =

@@ -1,21 +1,25 @@
 -- Variables and transitions that stand among the nodes are what the walk finds there.
 use mathlib.Core.Path.{◌≡◌, refl, sym, ap, ◌∙◌, subst}
 use mathlib.Core.Logic.{◌⊎◌, inl, inr}
-use mathlib.Core.Bool.{Bool, true, false, ◌&&◌, ◌||◌}
+use mathlib.Core.Bool.{Bool, true, false, ◌&&◌}
 use mathlib.Core.List.{List, [], ◌∷◌, ◌++◌, flat_map}
 use Prim.Native.Nat.{ℕ, suc, ◌+◌}
 use native.Mathlib.Nat.{le_trans}
 use native.Mathlib.Omega.{arith}
-use lib.Dec.{T, eqb, leb→le, le→leb}
+use lib.Dec.{T, leb→le, le→leb}
 use lib.IntN.{ℤ, pos, negsuc}
 use lib.Signed.{le_z}
 use lib.ListN.{length, length-append}
 use Rattle.evaluation.specs.Numbers.{representable, least, greatest}
-use Rattle.kinds.specs.Kinds.{row_of, place_of}
+use Rattle.kinds.specs.Kinds.{place_of}
+use Rattle.std.specs.Prelude.{None}
+use Rattle.kinds.specs.declared.Sort.TheVariants.{Boolean, Number}
+use Rattle.kinds.specs.declared.Place.TheVariants.{Variable as VariablePlace, HighEnd, FirstValue, Transition as TransitionPlace}
+use Rattle.kinds.specs.Kinds.{boolean_sort}
 use Rattle.model.specs.Trees.{Variable, Transition}
 use Rattle.model.specs.Nodes.{nodes_of_variable}
 use Rattle.model.specs.Walk.{Walk, Scope, and_then, unless_refused, variable_at, range_at, transition_at, row_at}
-use Rattle.syntax.specs.Readings.{stands_at, is_truth, is_target, variable_refusal, end_refusal, transition_refusal}
+use Rattle.syntax.specs.Readings.{variable_fits, stands_at, is_truth, is_target, variable_refusal, end_refusal, transition_refusal}
 use Rattle.model.specs.Walk.Walk.{found}
 use Rattle.model.specs.Check.{max_depth}
 use Rattle.model.specs.WellFormed.{Declared, GuardedBy, All}
@@ -49,26 +53,26 @@ module _ (ks : List ℕ) (ps : List ℤ) where
   abbrev VariableIsFound : ℕ → Variable → Type 0
   VariableIsFound at v = NodesAt ks ps (nodes_of_variable v) at → variable_at ks ps at ≡ found v (at + length (nodes_of_variable v))
 
-  complete_boolean : (first : ℤ) (at : ℕ) → T (is_truth first) → VariableIsFound at (record { sort = 1; low = pos 0; high = pos 1; first = first })
+  complete_boolean : (first : ℤ) (at : ℕ) → T (is_truth first) → VariableIsFound at (record { sort = Boolean; low = pos 0; high = pos 1; first = first })
   unfolding NodesAt nodes_of_variable variable_at variable_refusal unless_refused place_of
   complete_boolean first at t n =
-      let z : variable_refusal row_of ks ps at ≡ 0 =
-      node_refusal ks ps (stands_at row_of 1) (λ k p. eqb k 2 || is_truth p) 1 at 1 first n.0 (omega arith) (stands 1 1 refl) (T_true (is_truth first) t) in
+      let z : variable_refusal ks ps at ≡ None =
+      node_refusal ks ps (stands_at VariablePlace) variable_fits 1 at 1 first n.0 (omega arith) (stands VariablePlace 1 refl) (T_true (is_truth first) t) in
       rw (z, n.0.kind, n.0.parameter)
 
   complete_number : (low high first : ℤ) (at : ℕ) → T (representable high) → T (le_z low first) → T (le_z first high)
-      → VariableIsFound at (record { sort = 2; low = low; high = high; first = first })
+      → VariableIsFound at (record { sort = Number; low = low; high = high; first = first })
   unfolding NodesAt nodes_of_variable variable_at variable_refusal range_at end_refusal unless_refused place_of
   complete_number low high first at r h l n =
-      let z : variable_refusal row_of ks ps at ≡ 0 =
-      node_refusal ks ps (stands_at row_of 1) (λ k p. eqb k 2 || is_truth p) 1 at 2 low n.0 (omega arith) (stands 1 2 refl) refl in
-      let y : end_refusal row_of ks ps 2 low greatest (at + 1) ≡ 0 =
-      node_refusal ks ps (stands_at row_of 2) (λ k p. le_z low p && le_z p greatest) 1 (at + 1) 3 high n.1.0 (omega arith) (stands 2 3 refl)
+      let z : variable_refusal ks ps at ≡ None =
+      node_refusal ks ps (stands_at VariablePlace) variable_fits 1 at 2 low n.0 (omega arith) (stands VariablePlace 2 refl) refl in
+      let y : end_refusal ks ps HighEnd low greatest (at + 1) ≡ None =
+      node_refusal ks ps (stands_at HighEnd) (λ k p. le_z low p && le_z p greatest) 1 (at + 1) 3 high n.1.0 (omega arith) (stands HighEnd 3 refl)
       (all_true (le_z low high) (le_z high greatest) (le_z_trans low first high h l) (representable_high high r)) in
-      let x : end_refusal row_of ks ps 3 low high (at + 1 + 1) ≡ 0 =
-      node_refusal ks ps (stands_at row_of 3) (λ k p. le_z low p && le_z p high) 1 (at + 1 + 1) 4 first n.1.1.0 (omega arith) (stands 3 4 refl)
+      let x : end_refusal ks ps FirstValue low high (at + 1 + 1) ≡ None =
+      node_refusal ks ps (stands_at FirstValue) (λ k p. le_z low p && le_z p high) 1 (at + 1 + 1) 4 first n.1.1.0 (omega arith) (stands FirstValue 4 refl)
       (all_true (le_z low first) (le_z first high) h l) in
-      rw (z, n.0.kind, n.0.parameter, y, n.1.0.parameter, x, n.1.1.0.parameter) (ap (found (record { sort = 2; low = low; high = high; first = first })) (omega arith))
+      rw (z, n.0.kind, n.0.parameter, y, n.1.0.parameter, x, n.1.1.0.parameter) (ap (found (record { sort = Number; low = low; high = high; first = first })) (omega arith))
     where
       representable_high : (v : ℤ) → T (representable v) → T (le_z v greatest)
       representable_high v t = subst T (sym (both (le_z least v) (le_z v greatest) (T_true (representable v) t)).1) tt
@@ -77,14 +81,14 @@ module _ (ks : List ℕ) (ps : List ℤ) where
   unfolding Declared
   complete_variable v at d = by d
     where
-      by : ((v.sort ≡ 1) × (v.low ≡ pos 0) × (v.high ≡ pos 1) × T (is_truth v.first))
-          ⊎ ((v.sort ≡ 2) × T (representable v.low) × T (representable v.high) × T (le_z v.low v.first) × T (le_z v.first v.high))
+      by : ((v.sort ≡ Boolean) × (v.low ≡ pos 0) × (v.high ≡ pos 1) × T (is_truth v.first))
+          ⊎ ((v.sort ≡ Number) × T (representable v.low) × T (representable v.high) × T (le_z v.low v.first) × T (le_z v.first v.high))
           → VariableIsFound at v
       by (inl h) =
-          subst (VariableIsFound at) (sym (variable_path v (record { sort = 1; low = pos 0; high = pos 1; first = v.first }) h.0 h.1 h.2 refl))
+          subst (VariableIsFound at) (sym (variable_path v (record { sort = Boolean; low = pos 0; high = pos 1; first = v.first }) h.0 h.1 h.2 refl))
           (complete_boolean v.first at h.3)
       by (inr h) =
-          subst (VariableIsFound at) (sym (variable_path v (record { sort = 2; low = v.low; high = v.high; first = v.first }) h.0 refl refl refl))
+          subst (VariableIsFound at) (sym (variable_path v (record { sort = Number; low = v.low; high = v.high; first = v.first }) h.0 refl refl refl))
           (complete_number v.low v.high v.first at h.2 h.3 h.4)
 
 -- a row of n + 1 is one and a row of n
@@ -115,11 +119,11 @@ module _ (ks : List ℕ) (ps : List ℤ) where
       → transition_at ks ps events s max_depth at ≡ found t (at + 1 + size_of_expression t.guard + size_of t.action)
   unfolding transition_at transition_refusal unless_refused and_then place_of
   complete_transition events s t at n g a h =
-      let z : transition_refusal row_of ks ps events at ≡ 0 =
-      node_refusal ks ps (stands_at row_of 4) (λ k p. is_target 0 events p) 1 at 5 (pos t.event) n (omega arith) (stands 4 5 refl) (target_fits 0 events t.event (omega arith) h.event) in
+      let z : transition_refusal ks ps events at ≡ None =
+      node_refusal ks ps (stands_at TransitionPlace) (λ k p. is_target 0 events p) 1 at 5 (pos t.event) n (omega arith) (stands TransitionPlace 5 refl) (target_fits 0 events t.event (omega arith) h.event) in
       rw (
         z,
-        complete_expression ks ps s.sorts t.guard 32 1 (at + 1) g h.guard h.guard_depth,
+        complete_expression ks ps s.sorts t.guard 32 boolean_sort (at + 1) g h.guard h.guard_depth,
         complete_instruction ks ps t.action s 32 (at + 1 + size_of_expression t.guard) a h.action h.action_depth,
         n.parameter,
       )

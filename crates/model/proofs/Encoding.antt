@@ -9,9 +9,10 @@ use lib.Dec.{T, eqb, ltb}
 use lib.ListN.{length, take, drop, length-append, length-map, take-append-drop}
 use lib.Seq.{drop-drop, take_at, drop_at}
 use Rattle.evaluation.specs.Numbers.{representable}
+use Rattle.std.specs.Prelude.{Result, Ok, Err}
+use Rattle.results.specs.declared.refusal.Refusal.{Refusal}
+use Rattle.results.specs.declared.refusal.Refusal.TheVariants.{ShortFile, TooManyNodes, WrongLength}
 use Rattle.model.specs.declared.Sizes.{Sizes}
-use Rattle.model.specs.declared.Sized.{Sized}
-use Rattle.model.specs.declared.Sized.TheVariants.{Refused, Read}
 use Rattle.model.specs.Nodes.{Node, little_bytes, twos_complement, parameter_bytes}
 use Rattle.model.specs.Sizes.{byte_layout, little_at, sizes_in, sized, header_bytes}
 use Rattle.model.specs.Check.{kinds_in, parameters_in, parameters_at}
@@ -70,12 +71,12 @@ pub record SizedAs (m : List ℕ) (s : Sizes) : Type 0 where
   pub long : length m ≡ 6 + 5 * s.nodes
   pub sizes : sizes_in byte_layout m ≡ s
 
-unfoldable SizedHolds : (Sizes → Type 0) → Sized → Type 0
-SizedHolds P (Refused n) = Unit {0}
-SizedHolds P (Read s) = P s
+unfoldable SizedHolds : (Sizes → Type 0) → Result Sizes Refusal → Type 0
+SizedHolds P (Err n) = Unit {0}
+SizedHolds P (Ok s) = P s
 
 sized_by : (m : List ℕ) (a b c : Bool) → ltb (length m) 6 ≡ a → ltb 4000 (sizes_in byte_layout m).nodes ≡ b → eqb (length m) (6 + 5 * (sizes_in byte_layout m).nodes) ≡ c
-    → SizedHolds (SizedAs m) (cond a (Refused 1) (cond b (Refused 2) (cond (not c) (Refused 3) (Read (sizes_in byte_layout m)))))
+    → SizedHolds (SizedAs m) (cond a (Err ShortFile) (cond b (Err TooManyNodes) (cond (not c) (Err WrongLength) (Ok (sizes_in byte_layout m)))))
 unfolding SizedHolds
 sized_by m true b c p q r = tt
 sized_by m false true c p q r = tt
@@ -83,13 +84,13 @@ sized_by m false false false p q r = tt
 sized_by m false false true p q r =
     record { header = ltb-false (length m) 6 p; few = ltb-false 4000 (sizes_in byte_layout m).nodes q; long = eqb-true (length m) (6 + 5 * (sizes_in byte_layout m).nodes) r; sizes = refl }
 
-pub sized_read : (m : List ℕ) (s : Sizes) → sized byte_layout m ≡ Read s → SizedAs m s
+pub sized_read : (m : List ℕ) (s : Sizes) → sized byte_layout m ≡ Ok s → SizedAs m s
 unfolding sized SizedHolds
 sized_read m s e =
     subst (SizedHolds (SizedAs m)) e
     (sized_by m (ltb (length m) 6) (ltb 4000 (sizes_in byte_layout m).nodes) (eqb (length m) (6 + 5 * (sizes_in byte_layout m).nodes)) refl refl refl)
 
-pub read_sized : (m : List ℕ) (s : Sizes) → SizedAs m s → sized byte_layout m ≡ Read s
+pub read_sized : (m : List ℕ) (s : Sizes) → SizedAs m s → sized byte_layout m ≡ Ok s
 unfolding sized
 read_sized m s h =
     rw (h.sizes, le-ltb (length m) 6 h.header, le-ltb 4000 s.nodes h.few, eq-eqb (length m) (6 + 5 * s.nodes) h.long)

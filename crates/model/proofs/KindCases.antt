@@ -3,10 +3,13 @@ use mathlib.Core.Path.{◌≡◌, refl, subst}
 use mathlib.Core.Bool.{Bool, true, false, false≢true, cond, ◌&&◌, ◌||◌}
 use Prim.Native.Nat.{ℕ, zero, suc, ◌+◌, ◌-◌, ◌≤◌, ◌<◌}
 use native.Mathlib.Omega.{arith}
-use borrow.Author.Tests.{eq-eqb, eqb-true, leb-true}
+use borrow.Author.Tests.{eqb-true, leb-true}
 use lib.Dec.{eqb, leb}
 use Rattle.evaluation.specs.declared.Operator.{Operator}
 use Rattle.evaluation.specs.declared.Operator.TheVariants.{Conjunction, Disjunction, Equality, Less, LessOrEqual, Sum, Difference, Product, Quotient, Remainder, Equivalence}
+use Rattle.kinds.specs.declared.Place.{Place}
+use Rattle.kinds.specs.declared.Place.TheVariants.{Nowhere, Variable, HighEnd, FirstValue, Transition, Instruction, Expression}
+use Rattle.kinds.proofs.Equality.{place_itself, one_place}
 use Rattle.kinds.specs.Kinds.{between, place_of, children_of, row_of, kind_of, operator_of}
 use Rattle.syntax.specs.Readings.{stands_at}
 
@@ -18,21 +21,28 @@ both false b e = absurd (false≢true e)
 
 -- ---- the rows of 01's list
 
-pub stands : (place k : ℕ) → place_of k ≡ place → stands_at row_of place k ≡ true
+pub stands : (place : Place) (k : ℕ) → place_of k ≡ place → stands_at place k ≡ true
 unfolding row_of
-stands place k e = eq-eqb (place_of k) place e
+stands place k e = rw e (place_itself place)
 
-pub standing_place : (place k : ℕ) → stands_at row_of place k ≡ true → place_of k ≡ place
+pub standing_place : (place : Place) (k : ℕ) → stands_at place k ≡ true → place_of k ≡ place
 unfolding row_of
-standing_place place k e = eqb-true (place_of k) place e
+standing_place place k e = one_place (place_of k) place e
 
 -- ---- the place tells which test held
 
-abbrev place_by : Bool → Bool → Bool → Bool → Bool → Bool → ℕ
-place_by a b c d e f = cond a 1 (cond b 2 (cond c 3 (cond d 4 (cond e 5 (cond f 6 0)))))
+abbrev place_by : Bool → Bool → Bool → Bool → Bool → Bool → Place
+place_by a b c d e f =
+    cond a Variable (cond b HighEnd (cond c FirstValue (cond d Transition (cond e Instruction (cond f Expression Nowhere)))))
 
-abbrev test_at : Bool → Bool → Bool → Bool → Bool → Bool → ℕ → Bool
-test_at a b c d e f p = cond (eqb p 1) a (cond (eqb p 2) b (cond (eqb p 3) c (cond (eqb p 4) d (cond (eqb p 5) e (cond (eqb p 6) f true)))))
+abbrev test_at : Bool → Bool → Bool → Bool → Bool → Bool → Place → Bool
+test_at a b c d e f Nowhere = true
+test_at a b c d e f Variable = a
+test_at a b c d e f HighEnd = b
+test_at a b c d e f FirstValue = c
+test_at a b c d e f Transition = d
+test_at a b c d e f Instruction = e
+test_at a b c d e f Expression = f
 
 tested : (a b c d e f : Bool) → test_at a b c d e f (place_by a b c d e f) ≡ true
 tested true b c d e f = refl
@@ -43,20 +53,20 @@ tested false false false false true f = refl
 tested false false false false false true = refl
 tested false false false false false false = refl
 
-place_test : (k p : ℕ) → place_of k ≡ p → test_at (eqb k 1 || eqb k 2) (eqb k 3) (eqb k 4) (eqb k 5) (between 16 19 k) (between 32 47 k) p ≡ true
+place_test : (k : ℕ) (p : Place) → place_of k ≡ p → test_at (eqb k 1 || eqb k 2) (eqb k 3) (eqb k 4) (eqb k 5) (between 16 19 k) (between 32 47 k) p ≡ true
 unfolding place_of
 place_test k p e =
     subst (λ p. test_at (eqb k 1 || eqb k 2) (eqb k 3) (eqb k 4) (eqb k 5) (between 16 19 k) (between 32 47 k) p ≡ true) e
     (tested (eqb k 1 || eqb k 2) (eqb k 3) (eqb k 4) (eqb k 5) (between 16 19 k) (between 32 47 k))
 
-pub high_kind : (k : ℕ) → place_of k ≡ 2 → k ≡ 3
-high_kind k e = eqb-true k 3 (place_test k 2 e)
+pub high_kind : (k : ℕ) → place_of k ≡ HighEnd → k ≡ 3
+high_kind k e = eqb-true k 3 (place_test k HighEnd e)
 
-pub first_kind : (k : ℕ) → place_of k ≡ 3 → k ≡ 4
-first_kind k e = eqb-true k 4 (place_test k 3 e)
+pub first_kind : (k : ℕ) → place_of k ≡ FirstValue → k ≡ 4
+first_kind k e = eqb-true k 4 (place_test k FirstValue e)
 
-pub transition_kind : (k : ℕ) → place_of k ≡ 4 → k ≡ 5
-transition_kind k e = eqb-true k 5 (place_test k 4 e)
+pub transition_kind : (k : ℕ) → place_of k ≡ Transition → k ≡ 5
+transition_kind k e = eqb-true k 5 (place_test k Transition e)
 
 pub data VariableKind (k : ℕ) : Type 0 where
   is_boolean : k ≡ 1 → VariableKind k
@@ -67,8 +77,8 @@ either k true b e h t = is_boolean (eqb-true k 1 e)
 either k false true e h t = is_number (eqb-true k 2 h)
 either k false false e h t = absurd (false≢true t)
 
-pub variable_kind : (k : ℕ) → place_of k ≡ 1 → VariableKind k
-variable_kind k e = either k (eqb k 1) (eqb k 2) refl refl (place_test k 1 e)
+pub variable_kind : (k : ℕ) → place_of k ≡ Variable → VariableKind k
+variable_kind k e = either k (eqb k 1) (eqb k 2) refl refl (place_test k Variable e)
 
 pub data InstructionKind (k : ℕ) : Type 0 where
   is_skip : k ≡ 16 → InstructionKind k
@@ -90,9 +100,9 @@ ends low high k e =
     let l : k ≤ high = leb-true k high (both (leb low k) (leb k high) e).1 in
     (omega arith, omega arith)
 
-pub instruction_kind : (k : ℕ) → place_of k ≡ 5 → InstructionKind k
+pub instruction_kind : (k : ℕ) → place_of k ≡ Instruction → InstructionKind k
 instruction_kind k e =
-    let h = ends 16 19 k (place_test k 5 e) in instruction_listed k (k - 16) h.0 h.1
+    let h = ends 16 19 k (place_test k Instruction e) in instruction_listed k (k - 16) h.0 h.1
 
 pub data ExpressionKind (k : ℕ) : Type 0 where
   is_numeral : k ≡ 32 → ExpressionKind k
@@ -122,14 +132,14 @@ expression_listed k (suc (suc (suc (suc (suc (suc (suc (suc (suc (suc (suc (suc 
 expression_listed k (suc (suc (suc (suc (suc (suc (suc (suc (suc (suc (suc (suc (suc (suc (suc zero))))))))))))))) e h = is_binary Equivalence e
 expression_listed k (suc (suc (suc (suc (suc (suc (suc (suc (suc (suc (suc (suc (suc (suc (suc (suc j)))))))))))))))) e h = absurd (omega arith)
 
-pub expression_kind : (k : ℕ) → place_of k ≡ 6 → ExpressionKind k
+pub expression_kind : (k : ℕ) → place_of k ≡ Expression → ExpressionKind k
 expression_kind k e =
-    let h = ends 32 47 k (place_test k 6 e) in expression_listed k (k - 32) h.0 h.1
+    let h = ends 32 47 k (place_test k Expression e) in expression_listed k (k - 32) h.0 h.1
 
 -- ---- the row of an operator's kind
 
 pub record OperatorRow (op : Operator) : Type 0 where
-  pub place : place_of (kind_of op) ≡ 6
+  pub place : place_of (kind_of op) ≡ Expression
   pub children : children_of (kind_of op) ≡ 2
   pub operator : operator_of (kind_of op) ≡ op
   -- it is no leaf, and no conditional

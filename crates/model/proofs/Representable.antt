@@ -5,12 +5,16 @@ use mathlib.Core.Bool.{Bool, true, false, false≢true, ◌||◌}
 use mathlib.Core.List.{List, [], ◌∷◌, ◌++◌, map, flat_map}
 use Prim.Native.Nat.{ℕ, ◌≤◌, ◌<◌}
 use native.Mathlib.Omega.{arith}
-use borrow.Author.Tests.{eqb-true, eq-eqb}
+use borrow.Author.Tests.{eqb-true}
 use lib.Dec.{T, eqb}
 use lib.IntN.{ℤ, pos, negsuc}
 use lib.Signed.{le_z}
 use lib.ListN.{length, length-append, length-map}
 use Rattle.evaluation.specs.Numbers.{eq_z, representable, least, greatest}
+use Rattle.std.specs.Prelude.{Option}
+use Rattle.kinds.specs.declared.Sort.{Sort}
+use Rattle.kinds.specs.declared.Sort.TheVariants.{Boolean, Number}
+use Rattle.kinds.specs.Kinds.{boolean_sort}
 use Rattle.model.specs.Trees.{Expression, Instruction, Instructions, Variable, Transition, System, variables, sorts_of, count}
 use Rattle.model.specs.Trees.Expression.{numeral, truth, variable, negation, binary, if_then_else}
 use Rattle.model.specs.Trees.Instruction.{skip, assign, if_then, block}
@@ -61,17 +65,17 @@ between_representable low v high l h p q =
     let b = (both (le_z least high) (le_z high greatest) (T_true (representable high) h)).1 in
     holds_T (all_true (le_z least v) (le_z v greatest) (le_z_trans least low v (holds_T a) p) (le_z_trans v high greatest q (holds_T b)))
 
-pub expression_parameters : (sorts : List ℕ) → length sorts ≤ 510 → (e : Expression) (wanted : ℕ) → Sorted sorts wanted e → All Representable (nodes_of_expression e)
+pub expression_parameters : (sorts : List Sort) → length sorts ≤ 510 → (e : Expression) (wanted : Option Sort) → Sorted sorts wanted e → All Representable (nodes_of_expression e)
 unfolding Sorted nodes_of_expression All
 expression_parameters sorts few (numeral v) wanted h = (h.1, tt)
 expression_parameters sorts few (truth v) wanted h = (truth_representable v h.1, tt)
 expression_parameters sorts few (variable x) wanted h = (representable_pos x (omega (arith, h.0)), tt)
-expression_parameters sorts few (negation a) wanted h = (tt, expression_parameters sorts few a 1 h.1)
+expression_parameters sorts few (negation a) wanted h = (tt, expression_parameters sorts few a boolean_sort h.1)
 expression_parameters sorts few (binary op a b) wanted h =
     (tt, all_append Representable (nodes_of_expression a) (nodes_of_expression b) (expression_parameters sorts few a _ h.1) (expression_parameters sorts few b _ h.2))
 expression_parameters sorts few (if_then_else c a b) wanted h = (
   tt,
-  all_append Representable (nodes_of_expression c) (nodes_of_expression a ++ nodes_of_expression b) (expression_parameters sorts few c 1 h.0)
+  all_append Representable (nodes_of_expression c) (nodes_of_expression a ++ nodes_of_expression b) (expression_parameters sorts few c boolean_sort h.0)
       (all_append Representable (nodes_of_expression a) (nodes_of_expression b) (expression_parameters sorts few a wanted h.1) (expression_parameters sorts few b wanted h.2)),
 )
 
@@ -95,7 +99,7 @@ module _ (s : Scope) (few : length s.sorts ≤ 510) (narrow : s.past ≤ 510) wh
     instruction_parameters skip h z = (tt, tt)
     instruction_parameters (assign x e) h z = (representable_pos x (omega (arith, h.1)), expression_parameters s.sorts few e _ h.2)
     instruction_parameters (if_then c i) h z =
-        (tt, all_append Representable (nodes_of_expression c) (nodes_of i) (expression_parameters s.sorts few c 1 h.0) (instruction_parameters i h.1 (omega arith)))
+        (tt, all_append Representable (nodes_of_expression c) (nodes_of i) (expression_parameters s.sorts few c boolean_sort h.0) (instruction_parameters i h.1 (omega arith)))
     instruction_parameters (block is) h z = (representable_pos (count is) (omega (arith, count_size is)), branches_parameters is h (omega arith))
 
     branches_parameters : (is : Instructions) → AllScoped is s → size_of_all is ≤ 4000 → All Representable (nodes_of_all is)
@@ -110,7 +114,7 @@ module _ (s : Scope) (few : length s.sorts ≤ 510) (narrow : s.past ≤ 510) wh
   transitions_parameters events l (t ∷ ts) h z =
       all_append Representable (nodes_of_transition t) (flat_map nodes_of_transition ts) (
         representable_pos t.event (omega (arith, h.0.event)),
-        all_append Representable (nodes_of_expression t.guard) (nodes_of t.action) (expression_parameters s.sorts few t.guard 1 h.0.guard)
+        all_append Representable (nodes_of_expression t.guard) (nodes_of t.action) (expression_parameters s.sorts few t.guard boolean_sort h.0.guard)
             (instruction_parameters t.action h.0.action (omega arith)),
       )
       (transitions_parameters events l ts h.1 (omega arith))
@@ -119,10 +123,10 @@ variable_parameters : (v : Variable) → Declared v → All Representable (nodes
 unfolding Declared All nodes_of_variable
 variable_parameters v d = by d
   where
-    by : ((v.sort ≡ 1) × (v.low ≡ pos 0) × (v.high ≡ pos 1) × T (is_truth v.first))
-        ⊎ ((v.sort ≡ 2) × T (representable v.low) × T (representable v.high) × T (le_z v.low v.first) × T (le_z v.first v.high))
+    by : ((v.sort ≡ Boolean) × (v.low ≡ pos 0) × (v.high ≡ pos 1) × T (is_truth v.first))
+        ⊎ ((v.sort ≡ Number) × T (representable v.low) × T (representable v.high) × T (le_z v.low v.first) × T (le_z v.first v.high))
         → All Representable (nodes_of_variable v)
-    by (inl h) = rw (eq-eqb v.sort 1 h.0) (truth_representable v.first h.3, tt)
+    by (inl h) = rw h.0 (truth_representable v.first h.3, tt)
     by (inr h) = rw h.0 (h.1, (h.2, (between_representable v.low v.first v.high h.1 h.2 h.3 h.4, tt)))
 
 variables_parameters : (vs : List Variable) → All Declared vs → All Representable (flat_map nodes_of_variable vs)

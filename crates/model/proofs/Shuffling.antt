@@ -4,6 +4,9 @@ use mathlib.Core.List.{List}
 use Prim.Native.Nat.{ℕ, suc, ◌+◌, max}
 use native.Mathlib.Omega.{arith}
 use lib.ListN.{length}
+use Rattle.std.specs.Prelude.{Option}
+use Rattle.kinds.specs.declared.Sort.{Sort}
+use Rattle.kinds.specs.Kinds.{boolean_sort}
 use Rattle.model.specs.Trees.{Expression, Instruction, Instructions, Transition, System, depth_of_expression, depth_of, depth_of_all}
 use Rattle.model.specs.Nodes.{nodes_of_system}
 use Rattle.model.specs.Walk.{Scope}
@@ -47,13 +50,13 @@ operands_depth (in_condition x) = omega (arith, operands_depth x)
 operands_depth (in_then x) = omega (arith, operands_depth x)
 operands_depth (in_else x) = omega (arith, operands_depth x)
 
-operands_sorted : (sorts : List ℕ) {e e' : Expression} → OperandsExchanged e e' → (wanted : ℕ) → Sorted sorts wanted e → Sorted sorts wanted e'
+operands_sorted : (sorts : List Sort) {e e' : Expression} → OperandsExchanged e e' → (wanted : Option Sort) → Sorted sorts wanted e → Sorted sorts wanted e'
 unfolding Sorted
 operands_sorted sorts (here q) wanted h = (h.0, h.2, h.1)
-operands_sorted sorts (in_negation x) wanted h = (h.0, operands_sorted sorts x 1 h.1)
+operands_sorted sorts (in_negation x) wanted h = (h.0, operands_sorted sorts x boolean_sort h.1)
 operands_sorted sorts (in_left x) wanted h = (h.0, operands_sorted sorts x _ h.1, h.2)
 operands_sorted sorts (in_right x) wanted h = (h.0, h.1, operands_sorted sorts x _ h.2)
-operands_sorted sorts (in_condition x) wanted h = (operands_sorted sorts x 1 h.0, h.1, h.2)
+operands_sorted sorts (in_condition x) wanted h = (operands_sorted sorts x boolean_sort h.0, h.1, h.2)
 operands_sorted sorts (in_then x) wanted h = (h.0, operands_sorted sorts x wanted h.1, h.2)
 operands_sorted sorts (in_else x) wanted h = (h.0, h.1, operands_sorted sorts x wanted h.2)
 
@@ -110,7 +113,7 @@ mutual
 
   exchanged_scoped : {i i' : Instruction} → Exchanged i i' → (s : Scope) → Scoped i s → Scoped i' s
   exchanged_scoped (in_assigned x) s h = (h.0, h.1, operands_sorted s.sorts x _ h.2)
-  exchanged_scoped (in_test x) s h = (operands_sorted s.sorts x 1 h.0, h.1)
+  exchanged_scoped (in_test x) s h = (operands_sorted s.sorts x boolean_sort h.0, h.1)
   exchanged_scoped (in_body x) s h = (h.0, exchanged_scoped x s h.1)
   exchanged_scoped (in_block x) s h = branches_scoped x s h
 
@@ -130,7 +133,7 @@ transition_guarded : {t t' : Transition} → TransitionExchanged t t' → (event
 transition_guarded (in_guard x) events s h =
     record {
       event = h.event;
-      guard = operands_sorted s.sorts x 1 h.guard;
+      guard = operands_sorted s.sorts x boolean_sort h.guard;
       guard_depth = omega (arith, h.guard_depth, operands_depth x);
       action = h.action;
       action_depth = h.action_depth;

@@ -4,7 +4,7 @@ use mathlib.Core.Bool.{Bool, true, false, false≢true, cond, ◌&&◌, ◌||◌
 use mathlib.Core.List.{List}
 use Prim.Native.Nat.{ℕ, zero, suc, ◌+◌, ◌≤◌, ◌<◌}
 use native.Mathlib.Omega.{arith}
-use borrow.Author.Tests.{eqb-true, ltb-true, leb-true}
+use borrow.Author.Tests.{ltb-true, leb-true}
 use lib.Dec.{T, eqb, leb, ltb}
 use lib.IntN.{ℤ, pos, negsuc, nat_abs}
 use lib.Signed.{non_neg}
@@ -13,6 +13,11 @@ use Rattle.evaluation.specs.declared.Operator.{Operator}
 use Rattle.evaluation.specs.Numbers.{eq_z, representable}
 use Rattle.evaluation.proofs.Laws.{eq_z_true}
 use Rattle.kinds.specs.Kinds.{row_of, place_of, children_of, result_of, operand_sort, kind_of}
+use Rattle.std.specs.Prelude.{slice_get, Option, Some}
+use Rattle.kinds.specs.declared.Sort.{Sort}
+use Rattle.kinds.specs.declared.Place.TheVariants.{Instruction as InstructionPlace, Expression as ExpressionPlace}
+use Rattle.kinds.proofs.Equality.{one_wanted}
+use Rattle.kinds.specs.Kinds.{boolean_sort, same_sort}
 use Rattle.model.specs.Trees.{Expression, Instruction, Instructions, count, depth_of_expression, depth_of, depth_of_all}
 use Rattle.model.specs.Trees.Instruction.{block}
 use Rattle.model.specs.Walk.{Walk, Scope, branches_at, parts_at, instruction_at, and_then, leaf, operands_at, expression_at}
@@ -30,7 +35,7 @@ abbrev pub AllRepresentable : List ℤ → Type 0
 AllRepresentable ps = (i : ℕ) → T (representable (get_or ps i (pos 0)))
 
 -- what a walk for an expression of the wanted sort tells of the expression that it finds
-pub record ExpressionFound (ks : List ℕ) (ps : List ℤ) (sorts : List ℕ) (left wanted at : ℕ) (e : Expression) (next : ℕ) : Type 0 where
+pub record ExpressionFound (ks : List ℕ) (ps : List ℤ) (sorts : List Sort) (left : ℕ) (wanted : Option Sort) (at : ℕ) (e : Expression) (next : ℕ) : Type 0 where
   pub stands : ExpressionAt ks ps e at
   pub after : next ≡ at + size_of_expression e
   pub depth : depth_of_expression e ≤ left
@@ -41,23 +46,23 @@ pub record ExpressionFound (ks : List ℕ) (ps : List ℤ) (sorts : List ℕ) (l
 pub holds_T : {b : Bool} → b ≡ true → T b
 holds_T e = subst T (sym e) tt
 
-result : (wanted k : ℕ) (place a b : Bool) → a ≡ false → b ≡ false → (place && (a || b || eqb (result_of k) wanted)) ≡ true → wanted ≡ result_of k
-result wanted k true false false p q e = sym (eqb-true (result_of k) wanted e)
+result : (wanted : Option Sort) (k : ℕ) (place a b : Bool) → a ≡ false → b ≡ false → (place && (a || b || same_sort (result_of k) wanted)) ≡ true → wanted ≡ result_of k
+result wanted k true false false p q e = sym (one_wanted (result_of k) wanted e)
 result wanted k true false true p q e = absurd (false≢true (sym q))
 result wanted k true true b p q e = absurd (false≢true (sym p))
 result wanted k false a b p q e = absurd (false≢true e)
 
 -- a kind with a sort of its own has the wanted one
-pub allowed_sort : (wanted k : ℕ) → eqb k 34 ≡ false → eqb k 46 ≡ false → expression_allowed row_of wanted k ≡ true → wanted ≡ result_of k
+pub allowed_sort : (wanted : Option Sort) (k : ℕ) → eqb k 34 ≡ false → eqb k 46 ≡ false → expression_allowed wanted k ≡ true → wanted ≡ result_of k
 unfolding expression_allowed row_of
-allowed_sort wanted k p q e = result wanted k (stands_at row_of 6 k) (eqb k 34) (eqb k 46) p q e
+allowed_sort wanted k p q e = result wanted k (stands_at ExpressionPlace k) (eqb k 34) (eqb k 46) p q e
 
-pub allowed_place : (wanted k : ℕ) → expression_allowed row_of wanted k ≡ true → place_of k ≡ 6
+pub allowed_place : (wanted : Option Sort) (k : ℕ) → expression_allowed wanted k ≡ true → place_of k ≡ ExpressionPlace
 unfolding expression_allowed
-allowed_place wanted k e = standing_place 6 k (both (stands_at row_of 6 k) (eqb k 34 || eqb k 46 || eqb (row_of k).result wanted) e).0
+allowed_place wanted k e = standing_place ExpressionPlace k (both (stands_at ExpressionPlace k) (eqb k 34 || eqb k 46 || same_sort (row_of k).result wanted) e).0
 
 -- a kind other than 32, 33 and 34 has parameter 0
-pub fits_zero : (sorts : List ℕ) (wanted k : ℕ) (p : ℤ) → eqb k 32 ≡ false → eqb k 33 ≡ false → eqb k 34 ≡ false
+pub fits_zero : (sorts : List Sort) (wanted : Option Sort) (k : ℕ) (p : ℤ) → eqb k 32 ≡ false → eqb k 33 ≡ false → eqb k 34 ≡ false
     → expression_fits sorts wanted k p ≡ true → p ≡ pos 0
 unfolding expression_fits
 fits_zero sorts wanted k p a b c e =
@@ -68,34 +73,34 @@ natural (pos n) e = refl
 natural (negsuc n) e = absurd (false≢true e)
 
 -- the number of a variable of the wanted sort
-pub record OfSort (sorts : List ℕ) (wanted : ℕ) (p : ℤ) : Type 0 where
+pub record OfSort (sorts : List Sort) (wanted : Option Sort) (p : ℤ) : Type 0 where
   pub number : p ≡ pos (nat_abs p)
   pub within : nat_abs p < length sorts
-  pub sort : get_or sorts (nat_abs p) 0 ≡ wanted
+  pub sort : slice_get sorts (nat_abs p) ≡ wanted
 
-pub of_sort : (sorts : List ℕ) (wanted : ℕ) (p : ℤ) → is_of_sort sorts wanted p ≡ true → OfSort sorts wanted p
+pub of_sort : (sorts : List Sort) (wanted : Option Sort) (p : ℤ) → is_of_sort sorts wanted p ≡ true → OfSort sorts wanted p
 of_sort sorts wanted p e =
-    let h = both (non_neg p) (ltb (nat_abs p) (length sorts) && eqb (get_or sorts (nat_abs p) 0) wanted) e in
-    let l = both (ltb (nat_abs p) (length sorts)) (eqb (get_or sorts (nat_abs p) 0) wanted) h.1 in
-    record { number = natural p h.0; within = ltb-true (nat_abs p) (length sorts) l.0; sort = eqb-true (get_or sorts (nat_abs p) 0) wanted l.1 }
+    let h = both (non_neg p) (ltb (nat_abs p) (length sorts) && same_sort (slice_get sorts (nat_abs p)) wanted) e in
+    let l = both (ltb (nat_abs p) (length sorts)) (same_sort (slice_get sorts (nat_abs p)) wanted) h.1 in
+    record { number = natural p h.0; within = ltb-true (nat_abs p) (length sorts) l.0; sort = one_wanted (slice_get sorts (nat_abs p)) wanted l.1 }
 
 -- ---- expressions
 
-module _ (ks : List ℕ) (ps : List ℤ) (sorts : List ℕ) where
+module _ (ks : List ℕ) (ps : List ℤ) (sorts : List Sort) where
   node_zero : (at k : ℕ) (p : ℤ) → p ≡ pos 0 → NodeAt ks ps at k p → NodeAt ks ps at k (pos 0)
   node_zero at k p e n = subst (NodeAt ks ps at k) e n
 
-  module _ (child : ℕ → ℕ → Walk Expression) (left : ℕ)
-      (finds : (wanted at : ℕ) → Holds (ExpressionFound ks ps sorts left wanted at) (child wanted at))
-      (wanted at : ℕ) (p : ℤ) (fits32 : AllRepresentable ps → T (representable p)) where
+  module _ (child : Option Sort → ℕ → Walk Expression) (left : ℕ)
+      (finds : (wanted : Option Sort) (at : ℕ) → Holds (ExpressionFound ks ps sorts left wanted at) (child wanted at))
+      (wanted : Option Sort) (at : ℕ) (p : ℤ) (fits32 : AllRepresentable ps → T (representable p)) where
     -- whatever is found after a node of this kind
     abbrev Claim : ℕ → Type 0
     Claim k =
-        NodeAt ks ps at k p → expression_allowed row_of wanted k ≡ true → expression_fits sorts wanted k p ≡ true
+        NodeAt ks ps at k p → expression_allowed wanted k ≡ true → expression_fits sorts wanted k p ≡ true
         → Holds (ExpressionFound ks ps sorts (suc left) wanted at) (operands_at ks ps child wanted k p (at + 1) (children_of k))
 
     -- an operand, and what follows it
-    operand_then : (w next : ℕ) (rest : Expression → ℕ → Walk Expression)
+    operand_then : (w : Option Sort) (next : ℕ) (rest : Expression → ℕ → Walk Expression)
         → ((e : Expression) (last : ℕ) → ExpressionFound ks ps sorts left w next e last → Holds (ExpressionFound ks ps sorts (suc left) wanted at) (rest e last))
         → Holds (ExpressionFound ks ps sorts (suc left) wanted at) (and_then (child w next) rest)
     operand_then w next rest f =
@@ -120,7 +125,7 @@ module _ (ks : List ℕ) (ps : List ℤ) (sorts : List ℕ) where
     negation_found : Claim 35
     unfolding Holds operands_at children_of ExpressionAt size_of_expression depth_of_expression Sorted result_of operand_sort
     negation_found n a f =
-        operand_then 1 (at + 1) _
+        operand_then boolean_sort (at + 1) _
         (λ x next g.
         record {
           stands = (node_zero at 35 p (fits_zero sorts wanted 35 p refl refl refl f) n, g.stands);
@@ -134,9 +139,9 @@ module _ (ks : List ℕ) (ps : List ℤ) (sorts : List ℕ) where
     binary_found op n a f =
         let row = operator_row op in
         rw (row.children, row.operator)
-        (operand_then (operand_sort (kind_of op)) (at + 1) _
+        (operand_then (Some (operand_sort (kind_of op))) (at + 1) _
         (λ x second g.
-        operand_then (operand_sort (kind_of op)) second _
+        operand_then (Some (operand_sort (kind_of op))) second _
         (λ y next l.
         record {
           stands = (
@@ -152,7 +157,7 @@ module _ (ks : List ℕ) (ps : List ℤ) (sorts : List ℕ) where
     conditional_found : Claim 46
     unfolding Holds operands_at children_of ExpressionAt size_of_expression depth_of_expression Sorted
     conditional_found n a f =
-        operand_then 1 (at + 1) _
+        operand_then boolean_sort (at + 1) _
         (λ c second g.
         operand_then wanted second _
         (λ x third l.
@@ -183,18 +188,18 @@ module _ (ks : List ℕ) (ps : List ℤ) (long : length ps ≡ length ks) where
   pub due_node : {allowed : ℕ → Bool} {fits : ℕ → ℤ → Bool} {left at : ℕ} → Due ks ps allowed fits left at → NodeAt ks ps at (kind_at ks ps at) (parameter_at ks ps at)
   due_node d = record { within = d.within; within_parameters = omega (arith, d.within); kind = refl; parameter = refl }
 
-  pub expression_found : (sorts : List ℕ) (left wanted at : ℕ) → Holds (ExpressionFound ks ps sorts left wanted at) (expression_at ks ps sorts left wanted at)
+  pub expression_found : (sorts : List Sort) (left : ℕ) (wanted : Option Sort) (at : ℕ) → Holds (ExpressionFound ks ps sorts left wanted at) (expression_at ks ps sorts left wanted at)
   unfolding Holds expression_at expression_refusal
-  expression_found sorts zero wanted at = tt
+  expression_found sorts zero wanted at = holds_unless (ExpressionFound ks ps sorts zero wanted at) (expression_refusal ks ps sorts zero wanted at) _ (λ e. tt)
   expression_found sorts (suc left) wanted at =
-      holds_unless (ExpressionFound ks ps sorts (suc left) wanted at) (expression_refusal row_of ks ps sorts (suc left) wanted at) _
+      holds_unless (ExpressionFound ks ps sorts (suc left) wanted at) (expression_refusal ks ps sorts (suc left) wanted at) _
       (λ e.
-      let d = no_refusal ks ps (expression_allowed row_of wanted) (expression_fits sorts wanted) (suc left) at e in
+      let d = no_refusal ks ps (expression_allowed wanted) (expression_fits sorts wanted) (suc left) at e in
       operands_found ks ps sorts (λ w next. expression_at ks ps sorts left w next) left (λ w next. expression_found sorts left w next)
       wanted at (parameter_at ks ps at) (λ r. r at) (kind_at ks ps at) (expression_kind (kind_at ks ps at) (allowed_place wanted (kind_at ks ps at) d.allows))
       (due_node d) d.allows d.suits)
 
-  pub standing_expression : (sorts : List ℕ) (left wanted at : ℕ) {e : Expression} {next : ℕ}
+  pub standing_expression : (sorts : List Sort) (left : ℕ) (wanted : Option Sort) (at : ℕ) {e : Expression} {next : ℕ}
       → expression_at ks ps sorts left wanted at ≡ found e next → ExpressionAt ks ps e at × (next ≡ at + size_of_expression e)
   standing_expression sorts left wanted at h =
       let f = holds_found (ExpressionFound ks ps sorts left wanted at) (expression_found sorts left wanted at) h in (f.stands, f.after)
@@ -244,18 +249,18 @@ module _ (ks : List ℕ) (ps : List ℤ) (s : Scope) (left : ℕ) (child : ℕ �
         scoped = λ h. (g.scoped h, l.scoped h);
       }))
 
-  module _ (expression : ℕ → ℕ → Walk Expression)
-      (yields : (wanted at : ℕ) → Holds (ExpressionFound ks ps s.sorts left wanted at) (expression wanted at)) (at : ℕ) (p : ℤ) where
+  module _ (expression : Option Sort → ℕ → Walk Expression)
+      (yields : (wanted : Option Sort) (at : ℕ) → Holds (ExpressionFound ks ps s.sorts left wanted at) (expression wanted at)) (at : ℕ) (p : ℤ) where
     abbrev Part : ℕ → Type 0
     Part k =
         NodeAt ks ps at k p → instruction_fits s.from s.past k p ≡ true
         → Holds (InstructionFound ks ps s (suc left) at)
         (cond (eqb k 19)
         (and_then (branches_at ks ps child (nat_abs p) (at + 1)) (λ is next. found (block is) next))
-        (parts_at ks ps expression child (get_or s.sorts (nat_abs p) 0) p (at + 1) (children_of k)))
+        (parts_at ks ps expression child (slice_get s.sorts (nat_abs p)) p (at + 1) (children_of k)))
 
     -- an expression, and what follows it
-    expression_then : (w next : ℕ) (rest : Expression → ℕ → Walk Instruction)
+    expression_then : (w : Option Sort) (next : ℕ) (rest : Expression → ℕ → Walk Instruction)
         → ((e : Expression) (last : ℕ) → ExpressionFound ks ps s.sorts left w next e last → Holds (InstructionFound ks ps s (suc left) at) (rest e last))
         → Holds (InstructionFound ks ps s (suc left) at) (and_then (expression w next) rest)
     expression_then w next rest f =
@@ -269,7 +274,7 @@ module _ (ks : List ℕ) (ps : List ℤ) (s : Scope) (left : ℕ) (child : ℕ �
     assign_found : Part 17
     unfolding Holds parts_at children_of InstructionAt size_of depth_of Scoped instruction_fits
     assign_found n f =
-        expression_then (get_or s.sorts (nat_abs p) 0) (at + 1) _
+        expression_then (slice_get s.sorts (nat_abs p)) (at + 1) _
         (λ e next g.
         let t = target s.from s.past p f in
         record {
@@ -282,7 +287,7 @@ module _ (ks : List ℕ) (ps : List ℤ) (s : Scope) (left : ℕ) (child : ℕ �
     if_found : Part 18
     unfolding Holds parts_at children_of InstructionAt size_of depth_of Scoped instruction_fits
     if_found n f =
-        expression_then 1 (at + 1) _
+        expression_then boolean_sort (at + 1) _
         (λ c second g.
         holds_then (InstructionFound ks ps s left second) (InstructionFound ks ps s (suc left) at) (child second) _ (finds second)
         (λ i next l.
@@ -315,14 +320,14 @@ module _ (ks : List ℕ) (ps : List ℤ) (s : Scope) (left : ℕ) (child : ℕ �
 module _ (ks : List ℕ) (ps : List ℤ) (long : length ps ≡ length ks) where
   pub instruction_found : (s : Scope) (left at : ℕ) → Holds (InstructionFound ks ps s left at) (instruction_at ks ps s left at)
   unfolding Holds instruction_at instruction_refusal
-  instruction_found s zero at = tt
+  instruction_found s zero at = holds_unless (InstructionFound ks ps s zero at) (instruction_refusal ks ps s.from s.past zero at) _ (λ e. tt)
   instruction_found s (suc left) at =
-      holds_unless (InstructionFound ks ps s (suc left) at) (instruction_refusal row_of ks ps s.from s.past (suc left) at) _
+      holds_unless (InstructionFound ks ps s (suc left) at) (instruction_refusal ks ps s.from s.past (suc left) at) _
       (λ e.
-      let d = no_refusal ks ps (stands_at row_of 5) (instruction_fits s.from s.past) (suc left) at e in
+      let d = no_refusal ks ps (stands_at InstructionPlace) (instruction_fits s.from s.past) (suc left) at e in
       part_found ks ps s left (λ next. instruction_at ks ps s left next) (λ next. instruction_found s left next)
       (λ w next. expression_at ks ps s.sorts left w next) (λ w next. expression_found ks ps long s.sorts left w next)
-      at (parameter_at ks ps at) (kind_at ks ps at) (instruction_kind (kind_at ks ps at) (standing_place 5 (kind_at ks ps at) d.allows))
+      at (parameter_at ks ps at) (kind_at ks ps at) (instruction_kind (kind_at ks ps at) (standing_place InstructionPlace (kind_at ks ps at) d.allows))
       (due_node ks ps long d) d.suits)
 
   pub standing_instruction : (s : Scope) (left at : ℕ) {i : Instruction} {next : ℕ}

@@ -10,11 +10,13 @@ use lib.IntN.{ℤ, pos}
 use lib.Signed.{le_z}
 use lib.ListN.{length, length-append}
 use Rattle.evaluation.specs.Numbers.{greatest}
-use Rattle.kinds.specs.Kinds.{row_of}
+use Rattle.kinds.specs.declared.Sort.TheVariants.{Boolean}
+use Rattle.kinds.specs.declared.Place.TheVariants.{Variable as VariablePlace, HighEnd, FirstValue, Transition as TransitionPlace}
+use Rattle.kinds.specs.Kinds.{boolean_sort}
 use Rattle.model.specs.Trees.{Variable, Transition}
 use Rattle.model.specs.Nodes.{nodes_of_variable}
 use Rattle.model.specs.Walk.{Walk, Scope, expression_at, instruction_at, variable_at, range_at, transition_at, row_at}
-use Rattle.syntax.specs.Readings.{stands_at, is_truth, is_target, variable_refusal, end_refusal, transition_refusal, kind_at, parameter_at}
+use Rattle.syntax.specs.Readings.{variable_fits, stands_at, is_truth, is_target, variable_refusal, end_refusal, transition_refusal, kind_at, parameter_at}
 use Rattle.model.specs.Walk.Walk.{found}
 use Rattle.model.specs.Check.{max_depth}
 use Rattle.model.specs.WellFormed.{Declared, GuardedBy, All}
@@ -64,7 +66,7 @@ module _ (ks : List ℕ) (ps : List ℤ) (long : length ps ≡ length ks) where
       NodeAt ks ps at k (parameter_at ks ps at) → (eqb k 2 || is_truth (parameter_at ks ps at)) ≡ true
       → Holds (VariableFound ks ps at)
       (cond (eqb k 1)
-      (found (record { sort = 1; low = pos 0; high = pos 1; first = parameter_at ks ps at }) (at + 1))
+      (found (record { sort = Boolean; low = pos 0; high = pos 1; first = parameter_at ks ps at }) (at + 1))
       (range_at ks ps (parameter_at ks ps at) (at + 1)))
 
   boolean_found : (at : ℕ) → VariableClaim at 1
@@ -74,20 +76,20 @@ module _ (ks : List ℕ) (ps : List ℤ) (long : length ps ≡ length ks) where
   number_found : (at : ℕ) → VariableClaim at 2
   unfolding Holds range_at NodesAt nodes_of_variable Declared end_refusal
   number_found at n f =
-      holds_unless (VariableFound ks ps at) (end_refusal row_of ks ps 2 (parameter_at ks ps at) greatest (at + 1)) _
+      holds_unless (VariableFound ks ps at) (end_refusal ks ps HighEnd (parameter_at ks ps at) greatest (at + 1)) _
       (λ e.
-      holds_unless (VariableFound ks ps at) (end_refusal row_of ks ps 3 (parameter_at ks ps at) (parameter_at ks ps (at + 1)) (at + 1 + 1)) _
+      holds_unless (VariableFound ks ps at) (end_refusal ks ps FirstValue (parameter_at ks ps at) (parameter_at ks ps (at + 1)) (at + 1 + 1)) _
       (λ l.
-      let d = no_refusal ks ps (stands_at row_of 2) (λ k p. le_z (parameter_at ks ps at) p && le_z p greatest) 1 (at + 1) e in
-      let g = no_refusal ks ps (stands_at row_of 3) (λ k p. le_z (parameter_at ks ps at) p && le_z p (parameter_at ks ps (at + 1))) 1 (at + 1 + 1) l in
+      let d = no_refusal ks ps (stands_at HighEnd) (λ k p. le_z (parameter_at ks ps at) p && le_z p greatest) 1 (at + 1) e in
+      let g = no_refusal ks ps (stands_at FirstValue) (λ k p. le_z (parameter_at ks ps at) p && le_z p (parameter_at ks ps (at + 1))) 1 (at + 1 + 1) l in
       let b = both (le_z (parameter_at ks ps at) (parameter_at ks ps (at + 1 + 1))) (le_z (parameter_at ks ps (at + 1 + 1)) (parameter_at ks ps (at + 1))) g.suits in
       record {
         nodes = (
           n,
           (
-            due_kind 3 (high_kind (kind_at ks ps (at + 1)) (standing_place 2 (kind_at ks ps (at + 1)) d.allows)) d,
+            due_kind 3 (high_kind (kind_at ks ps (at + 1)) (standing_place HighEnd (kind_at ks ps (at + 1)) d.allows)) d,
             (
-              due_kind 4 (first_kind (kind_at ks ps (at + 1 + 1)) (standing_place 3 (kind_at ks ps (at + 1 + 1)) g.allows)) g,
+              due_kind 4 (first_kind (kind_at ks ps (at + 1 + 1)) (standing_place FirstValue (kind_at ks ps (at + 1 + 1)) g.allows)) g,
               tt,
             ),
           ),
@@ -103,10 +105,10 @@ module _ (ks : List ℕ) (ps : List ℤ) (long : length ps ≡ length ks) where
   pub variable_found : (at : ℕ) → Holds (VariableFound ks ps at) (variable_at ks ps at)
   unfolding Holds variable_at variable_refusal
   variable_found at =
-      holds_unless (VariableFound ks ps at) (variable_refusal row_of ks ps at) _
+      holds_unless (VariableFound ks ps at) (variable_refusal ks ps at) _
       (λ e.
-      let d = no_refusal ks ps (stands_at row_of 1) (λ k p. eqb k 2 || is_truth p) 1 at e in
-      kind_found at (kind_at ks ps at) (variable_kind (kind_at ks ps at) (standing_place 1 (kind_at ks ps at) d.allows)) (due_node ks ps long d) d.suits)
+      let d = no_refusal ks ps (stands_at VariablePlace) variable_fits 1 at e in
+      kind_found at (kind_at ks ps at) (variable_kind (kind_at ks ps at) (standing_place VariablePlace (kind_at ks ps at) d.allows)) (due_node ks ps long d) d.suits)
 
 -- what a row of variables comes to
 pub record VariablesFound (ks : List ℕ) (ps : List ℤ) (n at : ℕ) (vs : List Variable) (next : ℕ) : Type 0 where
@@ -155,16 +157,16 @@ pub transition_found : (ks : List ℕ) (ps : List ℤ) → length ps ≡ length 
     → Holds (TransitionFound ks ps events s at) (transition_at ks ps events s max_depth at)
 unfolding Holds transition_at transition_refusal
 transition_found ks ps long events s at =
-    holds_unless (TransitionFound ks ps events s at) (transition_refusal row_of ks ps events at) _
+    holds_unless (TransitionFound ks ps events s at) (transition_refusal ks ps events at) _
     (λ e.
-    holds_then (ExpressionFound ks ps s.sorts max_depth 1 (at + 1)) (TransitionFound ks ps events s at) (expression_at ks ps s.sorts max_depth 1 (at + 1)) _ (expression_found ks ps long s.sorts max_depth 1 (at + 1))
+    holds_then (ExpressionFound ks ps s.sorts max_depth boolean_sort (at + 1)) (TransitionFound ks ps events s at) (expression_at ks ps s.sorts max_depth boolean_sort (at + 1)) _ (expression_found ks ps long s.sorts max_depth boolean_sort (at + 1))
     (λ g second f.
     holds_then (InstructionFound ks ps s max_depth second) (TransitionFound ks ps events s at) (instruction_at ks ps s max_depth second) _ (instruction_found ks ps long s max_depth second)
     (λ a next l.
-    let d = no_refusal ks ps (stands_at row_of 4) (λ k p. is_target 0 events p) 1 at e in
+    let d = no_refusal ks ps (stands_at TransitionPlace) (λ k p. is_target 0 events p) 1 at e in
     let t = target 0 events (parameter_at ks ps at) d.suits in
     record {
-      node = subst (NodeAt ks ps at 5) t.number (due_kind ks ps long 5 (transition_kind (kind_at ks ps at) (standing_place 4 (kind_at ks ps at) d.allows)) d);
+      node = subst (NodeAt ks ps at 5) t.number (due_kind ks ps long 5 (transition_kind (kind_at ks ps at) (standing_place TransitionPlace (kind_at ks ps at) d.allows)) d);
       guard = f.stands;
       action = subst (InstructionAt ks ps a) f.after l.stands;
       after = omega (arith, f.after, l.after);

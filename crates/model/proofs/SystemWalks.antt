@@ -6,6 +6,7 @@ use native.Mathlib.Omega.{arith}
 use lib.IntN.{ℤ}
 use lib.ListN.{length, take, drop, length-append, length-take, length-drop, take-append-drop}
 use lib.Seq.{take-append_seam, drop-append_seam}
+use Rattle.kinds.specs.declared.Sort.{Sort}
 use Rattle.model.specs.declared.Sizes.{Sizes}
 use Rattle.model.specs.Trees.{Variable, Transition, Instruction, System, variables, sorts_of, depth_of}
 use Rattle.model.specs.Nodes.{nodes_of_variable, nodes_of_transition, nodes_of, nodes_of_system}
@@ -23,7 +24,7 @@ use Rattle.model.proofs.Complete.{complete_instruction}
 use Rattle.model.proofs.CompleteRows.{complete_variables, complete_transitions}
 
 -- the transitions and the assertion after them
-pub record RestFound (ks : List ℕ) (ps : List ℤ) (sorts : List ℕ) (s : Sizes) (at : ℕ) (r : List Transition × Instruction) (next : ℕ) : Type 0 where
+pub record RestFound (ks : List ℕ) (ps : List ℤ) (sorts : List Sort) (s : Sizes) (at : ℕ) (r : List Transition × Instruction) (next : ℕ) : Type 0 where
   pub second : ℕ
   pub transitions : TransitionsFound ks ps s.events (scope_of sorts 0 s.states) s.transitions at r.0 second
   pub assertion : InstructionFound ks ps (scope_of sorts s.states (s.states + s.flows)) max_depth second r.1 next
@@ -41,7 +42,7 @@ pub record SystemFound (ks : List ℕ) (ps : List ℤ) (s : Sizes) (t : System) 
   pub assertion_depth : depth_of t.assertion ≤ max_depth
 
 module _ (ks : List ℕ) (ps : List ℤ) (s : Sizes) where
-  rest_found : length ps ≡ length ks → (sorts : List ℕ) (at : ℕ) → Holds (RestFound ks ps sorts s at) (rest_at ks ps sorts s at)
+  rest_found : length ps ≡ length ks → (sorts : List Sort) (at : ℕ) → Holds (RestFound ks ps sorts s at) (rest_at ks ps sorts s at)
   unfolding Holds rest_at
   rest_found long sorts at =
       holds_then (TransitionsFound ks ps s.events (scope_of sorts 0 s.states) s.transitions at) (RestFound ks ps sorts s at)

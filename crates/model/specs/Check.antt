@@ -1,17 +1,11 @@
 -- The check of a model file, and of an expression handed outside a model.
 -- 01: "Orders: 1, 2, 3, then the walk, where the first offending node ends it and 4 to 7 are tried in that order; 8 last."
-use Rattle.std.specs.Prelude.{cond, not, List, [], ◌∷◌, ℕ, zero, suc, ◌+◌, ◌-◌, eqb, ltb, ℤ, pos, neg_ℤ, length, take, drop}
+use Rattle.std.specs.Prelude.{cond, not, List, [], ◌∷◌, ℕ, zero, suc, ◌+◌, ◌-◌, eqb, ltb, ℤ, pos, neg_ℤ, length, take, drop, Option, Result, Ok, Err}
 use Rattle.model.specs.declared.Layout.{Layout}
 use Rattle.model.specs.declared.Sizes.{Sizes}
-use Rattle.model.specs.declared.Sized.{Sized}
-use Rattle.model.specs.declared.Sized.TheVariants.{Refused, Read}
-use Rattle.model.specs.declared.Checked.{Checked}
-use Rattle.model.specs.declared.Checked.TheVariants as checked
-use Rattle.model.specs.declared.Sort.{Sort}
-use Rattle.model.specs.declared.Sort.TheVariants.{Boolean, Number}
-use Rattle.model.specs.declared.Given.{Given}
-use Rattle.model.specs.declared.Given.TheVariants as given
-use Rattle.kinds.specs.Kinds.{boolean_sort, number_sort}
+use Rattle.results.specs.declared.refusal.Refusal.{Refusal}
+use Rattle.results.specs.declared.refusal.Refusal.TheVariants.{WrongLength, NodesLeftOver}
+use Rattle.kinds.specs.declared.Sort.{Sort}
 use Rattle.model.specs.Trees.{Expression, Variable, Transition, Instruction, System, sorts_of}
 use Rattle.model.specs.Nodes.{parameter_width}
 use Rattle.model.specs.Sizes.{byte_layout, header_of, little_at, sized}
@@ -47,10 +41,10 @@ assertion_scope s vs = scope_of (sorts_of vs) s.states (s.states + s.flows)
 
 -- 8 "nodes left over"
 unfoldable pub complete : {A : Type 0} → ℕ → Walk A → Walk A
-complete n w = and_then w (λ a next. cond (ltb next n) (refused 8) (found a next))
+complete n w = and_then w (λ a next. cond (ltb next n) (refused NodesLeftOver) (found a next))
 
 -- the transitions and the assertion, over variables of these sorts
-unfoldable pub rest_at : List ℕ → List ℤ → List ℕ → Sizes → ℕ → Walk (List Transition × Instruction)
+unfoldable pub rest_at : List ℕ → List ℤ → List Sort → Sizes → ℕ → Walk (List Transition × Instruction)
 rest_at ks ps vs s at =
     and_then (row_at (transition_at ks ps s.events (scope_of vs 0 s.states) max_depth) s.transitions at) (λ ts second.
     and_then (instruction_at ks ps (scope_of vs s.states (s.states + s.flows)) max_depth second) (λ a next.
@@ -67,39 +61,35 @@ system_at ks ps s =
 abbrev pub walked_in : Layout → List ℕ → Sizes → Walk System
 walked_in l m s = complete s.nodes (system_at (kinds_in l s.nodes m) (parameters_in l s.nodes m) s)
 
--- 01: "A model is accepted if its check refuses nothing." The number of the refusal, or the model.
+-- 01: "A model is accepted if its check refuses nothing." The refusal, or the model.
 pub data Verdict : Type 0 where
-  refusal : ℕ → Verdict
+  refusal : Refusal → Verdict
   accepted : Sizes → System → Verdict
 
 unfoldable pub verdict_of : Sizes → Walk System → Verdict
-verdict_of s (refused n) = refusal n
+verdict_of s (refused r) = refusal r
 verdict_of s (found t next) = accepted s t
 
-unfoldable pub verdict_in : Layout → List ℕ → Sized → Verdict
-verdict_in l m (Refused n) = refusal n
-verdict_in l m (Read s) = verdict_of s (walked_in l m s)
+unfoldable pub verdict_in : Layout → List ℕ → Result Sizes Refusal → Verdict
+verdict_in l m (Err r) = refusal r
+verdict_in l m (Ok s) = verdict_of s (walked_in l m s)
 
 unfoldable pub verdict : List ℕ → Verdict
 verdict m = verdict_in byte_layout m (sized byte_layout m)
 
 -- 01: "Check of a model: its five sizes." What the call answers.
-unfoldable pub answer_of : Verdict → Checked
-answer_of (refusal n) = checked.Refused n
-answer_of (accepted s t) = checked.Accepted s
+unfoldable pub answer_of : Verdict → Result Sizes Refusal
+answer_of (refusal r) = Err r
+answer_of (accepted s t) = Ok s
 
 -- 01: "An expression handed outside a model stands in two slices, kinds and parameters, its top at depth 1, and is refused
 -- right after the model by 3 (lengths differ) and 4 to 8."
-unfoldable pub expression_given : List ℕ → List ℤ → List ℕ → ℕ → Walk Expression
+unfoldable pub expression_given : List ℕ → List ℤ → List Sort → Option Sort → Walk Expression
 expression_given ks ps sorts wanted =
-    cond (not (eqb (length ks) (length ps))) (refused 3)
+    cond (not (eqb (length ks) (length ps))) (refused WrongLength)
     (complete (length ks) (expression_at ks ps sorts max_depth wanted 0))
 
-unfoldable pub sort_of : Sort → ℕ
-sort_of Boolean = boolean_sort
-sort_of Number = number_sort
-
--- what the call answers: the number, or that it is accepted
-unfoldable pub given_answer : Walk Expression → Given
-given_answer (refused n) = given.Refused n
-given_answer (found e next) = given.Accepted
+-- what the call answers: the refusal, or that it is accepted
+unfoldable pub given_answer : Walk Expression → Result (Unit {0}) Refusal
+given_answer (refused r) = Err r
+given_answer (found e next) = Ok tt

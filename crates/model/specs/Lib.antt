@@ -9,5 +9,6 @@ pub mod WellFormed
 pub mod Shuffle
 -- how the code goes about it:
 pub mod Standing
+pub mod Walkers
 -- statements:
 pub mod Theorems

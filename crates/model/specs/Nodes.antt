@@ -1,7 +1,8 @@
 -- The nodes of a tree in prefix order, and the bytes of a model file.
 use mathlib.Core.List.{List, [], ◌∷◌, ◌++◌, flat_map}
-use Rattle.std.specs.Prelude.{cond, ℕ, zero, suc, ◌-◌, ◌/◌, ◌%◌, eqb, ℤ, pos, negsuc}
-use Rattle.kinds.specs.Kinds.{kind_of, boolean_sort}
+use Rattle.std.specs.Prelude.{cond, ℕ, zero, suc, ◌-◌, ◌/◌, ◌%◌, ℤ, pos, negsuc}
+use Rattle.kinds.specs.Kinds.{kind_of, is_sort}
+use Rattle.kinds.specs.declared.Sort.TheVariants.{Boolean}
 use Rattle.model.specs.Trees.{Expression, Instruction, Instructions, Variable, Transition, System, count, variables}
 use Rattle.model.specs.Trees.Expression.{numeral, truth, variable, negation, binary, if_then_else}
 use Rattle.model.specs.Trees.Instruction.{skip, assign, if_then, block}
@@ -37,7 +38,7 @@ unfoldable mutual
 -- 01: "kind 1, Boolean, P its first value, 0 or 1; or three nodes: 2 (P low end), 3 (P high end [..]), 4 (P first value [..])"
 unfoldable pub nodes_of_variable : Variable → List Node
 nodes_of_variable v =
-    cond (eqb v.sort boolean_sort) (node 1 v.first ∷ [])
+    cond (is_sort v.sort Boolean) (node 1 v.first ∷ [])
     (node 2 v.low ∷ node 3 v.high ∷ node 4 v.first ∷ [])
 
 unfoldable pub nodes_of_transition : Transition → List Node

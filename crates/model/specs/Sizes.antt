@@ -1,10 +1,10 @@
 -- 01: "Sizes first: S (state variables), F (flow variables), E (events), T (transitions), one byte each, then N (nodes),
 -- two bytes, low byte first." Refusals 1, 2, 3 over a layout, so that the header is read in one place.
-use Rattle.std.specs.Prelude.{cond, not, List, ◌++◌, ℕ, zero, suc, ◌+◌, ◌*◌, eqb, ltb, length, get_or}
+use Rattle.std.specs.Prelude.{cond, not, List, ◌++◌, ℕ, zero, suc, ◌+◌, ◌*◌, eqb, ltb, length, get_or, Result, Ok, Err}
 use Rattle.model.specs.declared.Layout.{Layout}
 use Rattle.model.specs.declared.Sizes.{Sizes}
-use Rattle.model.specs.declared.Sized.{Sized}
-use Rattle.model.specs.declared.Sized.TheVariants.{Refused, Read}
+use Rattle.results.specs.declared.refusal.Refusal.{Refusal}
+use Rattle.results.specs.declared.refusal.Refusal.TheVariants.{ShortFile, TooManyNodes, WrongLength}
 use Rattle.model.specs.Nodes.{little_bytes}
 
 -- 01: "N at most 4,000"
@@ -59,12 +59,12 @@ sizes_in l m =
     }
 
 -- 01: 1 "under 6 bytes", 2 "N above 4,000", 3 "length not 6 + 5N", in this order
-unfoldable pub sized : Layout → List ℕ → Sized
+unfoldable pub sized : Layout → List ℕ → Result Sizes Refusal
 sized l m =
-    cond (ltb (length m) (header_of l)) (Refused 1)
-    (cond (ltb l.max_nodes (sizes_in l m).nodes) (Refused 2)
-    (cond (not (eqb (length m) (header_of l + node_width * (sizes_in l m).nodes))) (Refused 3)
-    (Read (sizes_in l m))))
+    cond (ltb (length m) (header_of l)) (Err ShortFile)
+    (cond (ltb l.max_nodes (sizes_in l m).nodes) (Err TooManyNodes)
+    (cond (not (eqb (length m) (header_of l + node_width * (sizes_in l m).nodes))) (Err WrongLength)
+    (Ok (sizes_in l m))))
 
 -- the header's bytes
 unfoldable pub header_bytes : Layout → Sizes → List ℕ

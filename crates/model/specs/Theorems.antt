@@ -1,5 +1,7 @@
 -- The statements on model files. Proved in proofs/.
 use Rattle.std.specs.Prelude.{◌≡◌, ◌↔◌, List, ℕ, ◌<◌, ◌≤◌, length, get_or}
+use Rattle.results.specs.declared.refusal.Refusal.{Refusal}
+use Rattle.results.specs.Refusals.{number_of}
 use Rattle.model.specs.declared.Sizes.{Sizes}
 use Rattle.model.specs.Trees.{System}
 use Rattle.model.specs.Check.{verdict}
@@ -23,7 +25,7 @@ CheckExact =
 
 -- 01, "Refused because of the input": the check refuses by 1 to 8 alone
 abbrev pub CheckRefusals : Type 0
-CheckRefusals = (m : List ℕ) (n : ℕ) → verdict m ≡ refusal n → (1 ≤ n) × (n ≤ 8)
+CheckRefusals = (m : List ℕ) (r : Refusal) → verdict m ≡ refusal r → (1 ≤ number_of r) × (number_of r ≤ 8)
 
 -- the bytes m' are those of a shuffle of the model that the bytes m are
 pub record ShuffledFile (m m' : List ℕ) : Type 0 where

@@ -1,6 +1,7 @@
 -- Models as trees. A variable is its number, states first. No bound is asked here: WellFormed.antt has those.
 use Rattle.std.specs.Prelude.{List, ◌++◌, map, ℕ, suc, max, ℤ}
 use Rattle.evaluation.specs.declared.Operator.{Operator}
+use Rattle.kinds.specs.declared.Sort.{Sort}
 
 -- 01: "Expression"
 pub data Expression : Type 0 where
@@ -25,7 +26,7 @@ mutual
 
 -- 01: "Variable". Its sort, its ends and its first value; a Boolean's ends are 0 and 1.
 pub record Variable : Type 0 where
-  pub sort : ℕ
+  pub sort : Sort
   pub low : ℤ
   pub high : ℤ
   pub first : ℤ
@@ -47,7 +48,7 @@ pub record System : Type 0 where
 abbrev pub variables : System → List Variable
 variables t = t.states ++ t.flows
 
-abbrev pub sorts_of : List Variable → List ℕ
+abbrev pub sorts_of : List Variable → List Sort
 sorts_of = map (λ v. v.sort)
 
 unfoldable pub count : Instructions → ℕ

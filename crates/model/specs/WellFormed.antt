@@ -1,8 +1,10 @@
 -- What 01's list asks of a model, said of its tree: sorts, parameters, depths, sizes.
-use Rattle.std.specs.Prelude.{◌≡◌, ◌⊎◌, ℕ, ◌<◌, ◌≤◌, T, pos, length, get_or}
+use Rattle.std.specs.Prelude.{◌≡◌, ◌⊎◌, ℕ, ◌<◌, ◌≤◌, T, pos, length, slice_get, Option, Some}
 use mathlib.Core.List.{List, [], ◌∷◌, ◌++◌, map, flat_map}
 use Rattle.std.specs.Int.Signed.{le_z}
 use Rattle.evaluation.specs.Numbers.{representable}
+use Rattle.kinds.specs.declared.Sort.{Sort}
+use Rattle.kinds.specs.declared.Sort.TheVariants.{Boolean, Number}
 use Rattle.model.specs.declared.Sizes.{Sizes}
 use Rattle.kinds.specs.Kinds.{boolean_sort, number_sort, kind_of, result_of, operand_sort}
 use Rattle.model.specs.Trees.{Expression, Instruction, Instructions, Variable, Transition, System, variables, depth_of, depth_of_expression}
@@ -16,20 +18,20 @@ use Rattle.syntax.specs.Readings.{is_truth}
 use Rattle.model.specs.Check.{action_scope, assertion_scope, max_depth}
 
 -- the expression has the wanted sort over variables of these sorts
-unfoldable pub Sorted : List ℕ → ℕ → Expression → Type 0
+unfoldable pub Sorted : List Sort → Option Sort → Expression → Type 0
 Sorted vs wanted (numeral v) = (wanted ≡ number_sort) × T (representable v)
 Sorted vs wanted (truth v) = (wanted ≡ boolean_sort) × T (is_truth v)
-Sorted vs wanted (variable x) = (x < length vs) × (get_or vs x 0 ≡ wanted)
+Sorted vs wanted (variable x) = (x < length vs) × (slice_get vs x ≡ wanted)
 Sorted vs wanted (negation a) = (wanted ≡ boolean_sort) × Sorted vs boolean_sort a
 Sorted vs wanted (binary op a b) =
-    (wanted ≡ result_of (kind_of op)) × Sorted vs (operand_sort (kind_of op)) a × Sorted vs (operand_sort (kind_of op)) b
+    (wanted ≡ result_of (kind_of op)) × Sorted vs (Some (operand_sort (kind_of op))) a × Sorted vs (Some (operand_sort (kind_of op))) b
 Sorted vs wanted (if_then_else c a b) = Sorted vs boolean_sort c × Sorted vs wanted a × Sorted vs wanted b
 
 unfoldable mutual
   -- targets are in scope, and expressions have their sorts
   pub Scoped : Instruction → Scope → Type 0
   Scoped skip s = Unit {0}
-  Scoped (assign x e) s = (s.from ≤ x) × (x < s.past) × Sorted s.sorts (get_or s.sorts x 0) e
+  Scoped (assign x e) s = (s.from ≤ x) × (x < s.past) × Sorted s.sorts (slice_get s.sorts x) e
   Scoped (if_then c i) s = Sorted s.sorts boolean_sort c × Scoped i s
   Scoped (block is) s = AllScoped is s
 
@@ -40,8 +42,8 @@ unfoldable mutual
 -- a Boolean with ends 0 and 1, or a number with 32-bit ends in order, and the first value within them
 unfoldable pub Declared : Variable → Type 0
 Declared v =
-    ((v.sort ≡ boolean_sort) × (v.low ≡ pos 0) × (v.high ≡ pos 1) × T (is_truth v.first))
-    ⊎ ((v.sort ≡ number_sort) × T (representable v.low) × T (representable v.high) × T (le_z v.low v.first) × T (le_z v.first v.high))
+    ((v.sort ≡ Boolean) × (v.low ≡ pos 0) × (v.high ≡ pos 1) × T (is_truth v.first))
+    ⊎ ((v.sort ≡ Number) × T (representable v.low) × T (representable v.high) × T (le_z v.low v.first) × T (le_z v.first v.high))
 
 pub record GuardedBy (events : ℕ) (s : Scope) (t : Transition) : Type 0 where
   pub event : t.event < events

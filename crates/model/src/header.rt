@@ -5,25 +5,18 @@ ghost use Rattle.model.specs.Check.{signed, parameters_at};
 ghost use Rattle.model.specs.Nodes.{parameter_width};
 ghost use Rattle.model.specs.Sizes.{little_at, sized, sizes_in, header_of};
 
-use super::{Layout, Sized, Sizes};
-
-// A byte widened, so that sums and products of bytes fit.
-fn wide(byte: u8) -> usize
-    ensures { result ≡ byte }
-{
-    byte as usize
-}
+use super::{Layout, Sizes};
+use results::Refusal;
 
 // The number in one or two bytes from place `at` on, low byte first.
 fn little(model: &[u8], at: usize, width: usize) -> usize
     requires { (1 ≤ width) × (width ≤ 2) × (at + width ≤ length model.now) }
     ensures { result ≡ little_at model.now at width }
 {
-    let low = wide(model[at]);
     if width < 2 {
-        return low;
+        return usize::from(model[at]);
     }
-    low + 256 * wide(model[at + 1])
+    usize::from(u16::from_le_bytes([model[at], model[at + 1]]))
 }
 
 // The five sizes.
@@ -42,24 +35,24 @@ fn sizes_in(layout: Layout, model: &[u8]) -> Sizes
 }
 
 // Refusals 1, 2, 3, or the five sizes.
-pub fn read_sizes(layout: Layout, model: &[u8]) -> Sized
+pub fn read_sizes(layout: Layout, model: &[u8]) -> Result<Sizes, Refusal>
     requires { (1 ≤ layout.width) × (layout.width ≤ 2) }
     ensures { result ≡ sized layout model.now }
 {
     // S, F, E, T, then N.
     let header = 4 * layout.width + Layout::NODES_WIDTH;
     if model.len() < header {
-        return Sized::Refused(1);
+        return Err(Refusal::ShortFile);
     }
     let sizes = sizes_in(layout, model);
     let nodes = sizes.nodes;
     if layout.max_nodes < nodes {
-        return Sized::Refused(2);
+        return Err(Refusal::TooManyNodes);
     }
     if model.len() != header + Layout::NODE_WIDTH * nodes {
-        return Sized::Refused(3);
+        return Err(Refusal::WrongLength);
     }
-    Sized::Read(sizes)
+    Ok(sizes)
 }
 
 // The parameter in the four bytes from place `at` on.
@@ -67,12 +60,7 @@ fn parameter_in(model: &[u8], at: usize) -> i32
     requires { at + parameter_width ≤ length model.now }
     ensures { result ≡ signed (little_at model.now at parameter_width) }
 {
-    let number = little(model, at, 2) + 65536 * little(model, at + 2, 2);
-    if number < 2147483648 {
-        number as i32
-    } else {
-        ((number as i64) - 4294967296) as i32
-    }
+    i32::from_le_bytes([model[at], model[at + 1], model[at + 2], model[at + 3]])
 }
 
 // So many parameters from place `from` on, into the first cells.
@@ -80,9 +68,7 @@ pub fn parameters_in(model: &[u8], from: usize, count: usize, parameters: &mut [
     requires { (count ≤ length parameters.old) × (from + parameter_width * count ≤ length model.now) }
     ensures { parameters.new ≡ parameters_at model.now from count ++ drop count parameters.old }
 {
-    let mut i = 0;
-    while i < count {
+    for i in 0..count {
         parameters[i] = parameter_in(model, from + Layout::PARAMETER_WIDTH * i);
-        i += 1;
     }
 }

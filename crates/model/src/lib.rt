@@ -8,8 +8,11 @@ mod walk; // walk.rt: expressions, instructions, variables, transitions
 
 use syntax::Cursor;
 
+// What an expression handed outside a model must yield.
+pub use kinds::Sort;
+
 // How a file's header is laid out: the bytes of each of S, F, E, T, and the most nodes.
-#[derive(Clone, Copy)]
+#[derive(Clone, Copy, PartialEq, Eq, Debug)]
 pub struct Layout {
     pub width: usize,
     pub max_nodes: usize,
@@ -28,7 +31,7 @@ impl Layout {
 }
 
 // The five sizes S, F, E, T, N.
-#[derive(Clone, Copy)]
+#[derive(Clone, Copy, PartialEq, Eq, Debug)]
 pub struct Sizes {
     pub states: usize,
     pub flows: usize,
@@ -38,7 +41,7 @@ pub struct Sizes {
 }
 
 // A decoded model: its sizes and the place of its assertion.
-#[derive(Clone, Copy)]
+#[derive(Clone, Copy, PartialEq, Eq, Debug)]
 pub struct Model {
     pub sizes: Sizes,
     pub assertion: usize,
@@ -75,44 +78,12 @@ impl Model {
     pub const HEADER: usize = 6;
 }
 
-// What reading the sizes comes to: the refusal's number, or the five sizes.
-#[derive(Clone, Copy)]
-pub enum Sized {
-    Refused(u8),
-    Read(Sizes),
-}
-
-// What a walk over a subtree comes to: the refusal's number, or the place of the next node.
-#[derive(Clone, Copy)]
-pub enum Walked {
-    Refused(u8),
-    Next(Cursor),
-}
-
-// What a walk over a variable comes to: its sort, ends and first value, and the place of the next node.
-#[derive(Clone, Copy)]
-pub enum Declaration {
-    Refused(u8),
-    Variable(u8, i32, i32, i32, Cursor),
-}
-
-// The answer of the check of a file.
-#[derive(Clone, Copy)]
-pub enum Checked {
-    Refused(u8),
-    Accepted(Sizes),
-}
-
-// What an expression handed outside a model must yield.
-#[derive(Clone, Copy)]
-pub enum Sort {
-    Boolean,
-    Number,
-}
-
-// The answer of the check of an expression.
-#[derive(Clone, Copy)]
-pub enum Given {
-    Refused(u8),
-    Accepted,
+// What a walk over a variable tells: its sort, ends and first value, and the place of the next node.
+#[derive(Clone, Copy, PartialEq, Eq, Debug)]
+pub struct Declaration {
+    pub sort: Sort,
+    pub low: i32,
+    pub high: i32,
+    pub first: i32,
+    pub next: Cursor,
 }

@@ -17,7 +17,8 @@ ghost use Rattle.steps.specs.Answers.{seen};
 use model::Model;
 use replaying::Move;
 use semantics::Firing;
-use steps::{Answer, Test, moves};
+use standing::Run;
+use steps::{Answer, moves};
 
 // If the move was fired to its end, the values become the new ones, and the marks those of the new values.
 fn conclude(
@@ -40,7 +41,7 @@ fn conclude(
         marks.new ≡ cond (is_fired firing) (marks_over m (over new.now values.old) marks.old) marks.old)
         × (cells.new ≡ cells.old) }
 {
-    if !replaying::is_fired(firing) {
+    if firing.is_err() {
         return;
     }
     propagation::store(new, values);
@@ -80,9 +81,14 @@ pub fn dispatch(
         × BlankFiring (length variables.now) (length kinds.now) states.new cells.new given.new queue.new waits.new
         × (copy.new ≡ copy.old) }
 {
-    match moves::test(guards.len(), variables, values, marks, history, n, step) {
-        Test::Refused(number) => return Answer::Refused(number),
-        Test::Passed => {}
+    let lent = Run {
+        values,
+        marks,
+        history,
+        count: n,
+    };
+    if let Err(refusal) = moves::test(guards.len(), variables, &lent, step) {
+        return Answer::Refused(refusal.number());
     }
     let count = variables.len();
     propagation::store(&values[..count], copy);
@@ -93,6 +99,6 @@ pub fn dispatch(
     conclude(
         firing, loaded, kinds, parameters, variables, nexts, guards, copy, cells, values, marks,
     );
-    scratch::clear(copy);
+    copy.fill(0);
     moves::answer_to(step, firing)
 }

@@ -2,17 +2,48 @@
 use mathlib.Core.Path.{◌≡◌, refl, ◌∙◌}
 use mathlib.Core.Bool.{Bool, true, false, cond, ◌||◌, or-false}
 use Prim.Native.Nat.{◌<◌, ◌^◌}
-use lib.IntN.{ℤ}
+use lib.IntN.{ℤ, pos}
 use lib.Signed.{mag}
 use mir.Syntax.{w32}
 use mir.Val.{of_z, SFits}
 use Rattle.evaluation.specs.declared.Evaluation.{Evaluation}
 use Rattle.evaluation.specs.declared.Evaluation.TheVariants.{Unknown, Failed, Value}
 use Rattle.evaluation.specs.declared.Operator.{Operator}
+use Rattle.evaluation.specs.declared.Operator.TheVariants.{Conjunction, Disjunction, Equality, Less, LessOrEqual, Sum, Difference, Product, Quotient, Remainder, Equivalence}
 use Rattle.evaluation.specs.Numbers.{boolean}
 use Rattle.evaluation.specs.Meaning.{operated, decides, decisive, decision, is_unknown, is_failed, number, calculated, agree, chosen}
 use Rattle.evaluation.proofs.Laws.{cond_keeps}
 use Rattle.evaluation.proofs.Signed.{stored, read_back, read_both, read_test, equal_bits, other_bits, one_fits}
+
+-- no other operator has a deciding operand
+pub no_other_decides : (op : Operator) (v : ℤ) → (op ≡ Conjunction → ⊥) → (op ≡ Disjunction → ⊥) → false ≡ decisive op v
+unfolding decisive
+no_other_decides Conjunction v n m = absurd (n refl)
+no_other_decides Disjunction v n m = absurd (m refl)
+no_other_decides Equality v n m = refl
+no_other_decides Less v n m = refl
+no_other_decides LessOrEqual v n m = refl
+no_other_decides Sum v n m = refl
+no_other_decides Difference v n m = refl
+no_other_decides Product v n m = refl
+no_other_decides Quotient v n m = refl
+no_other_decides Remainder v n m = refl
+no_other_decides Equivalence v n m = refl
+
+-- the decision of any other operator than or
+pub no_other_decision : (op : Operator) → (op ≡ Disjunction → ⊥) → Value (pos 0) ≡ Value (decision op)
+unfolding decision
+no_other_decision Conjunction n = refl
+no_other_decision Disjunction n = absurd (n refl)
+no_other_decision Equality n = refl
+no_other_decision Less n = refl
+no_other_decision LessOrEqual n = refl
+no_other_decision Sum n = refl
+no_other_decision Difference n = refl
+no_other_decision Product n = refl
+no_other_decision Quotient n = refl
+no_other_decision Remainder n = refl
+no_other_decision Equivalence n = refl
 
 -- one operand is a value
 module _ (op : Operator) (other : Evaluation) {v : ℤ} (f : SFits w32 v) {t : Bool} (test : t ≡ decisive op (stored v)) where
@@ -41,13 +72,11 @@ module _ (op : Operator) {x y : ℤ} (f : SFits w32 x) (g : SFits w32 y) {r : Ev
 
 -- any two evaluations
 module _ (op : Operator) {a b : Evaluation} where
-  pub unknown_unknown : a ≡ Unknown → b ≡ Unknown → Unknown ≡ operated op a b
+  pub unknown_other : (e : Evaluation) → a ≡ Unknown → ((v : ℤ) → e ≡ Value v → ⊥) → b ≡ e → Unknown ≡ operated op a b
   unfolding operated decides is_unknown
-  unknown_unknown p q = rw (p, q)
-
-  pub unknown_failed : a ≡ Unknown → b ≡ Failed → Unknown ≡ operated op a b
-  unfolding operated decides is_unknown
-  unknown_failed p q = rw (p, q)
+  unknown_other Unknown p n q = rw (p, q)
+  unknown_other Failed p n q = rw (p, q)
+  unknown_other (Value v) p n q = absurd (n v refl)
 
   pub failed_unknown : a ≡ Failed → b ≡ Unknown → Unknown ≡ operated op a b
   unfolding operated decides is_unknown
@@ -87,6 +116,13 @@ module _ (op : Operator) {a b : Evaluation} where
 -- what `undecided` tells
 abbrev pub Undecided : Evaluation → Evaluation → Evaluation → Evaluation → Type 0
 Undecided a b otherwise r = r ≡ cond (agree a b) a (cond (is_unknown a || is_unknown b) Unknown otherwise)
+
+-- the first branch failed
+pub failed_undecided : (otherwise : Evaluation) {a : Evaluation} (b : Evaluation) → a ≡ Failed → (b ≡ Unknown → ⊥) → Undecided a b otherwise otherwise
+unfolding agree is_unknown
+failed_undecided otherwise Unknown p n = absurd (n refl)
+failed_undecided otherwise Failed p n = rw p
+failed_undecided otherwise (Value v) p n = rw p
 
 -- both branches are values
 module _ (otherwise : Evaluation) {a b : Evaluation} {x y : ℤ} (f : mag x < 2 ^ 31) (g : mag y < 2 ^ 31) (p : a ≡ Value x) (q : b ≡ Value y) where

@@ -14,7 +14,7 @@ fn calculate(op: Operator, x: i32, y: i32) -> Evaluation
     match op {
         Operator::Conjunction => Evaluation::Value(1),
         Operator::Disjunction => Evaluation::Value(0),
-        Operator::Equality => evaluation::equal(x, y),
+        Operator::Equality | Operator::Equivalence => evaluation::equal(x, y),
         Operator::Less => evaluation::less(x, y),
         Operator::LessOrEqual => evaluation::less_or_equal(x, y),
         Operator::Sum => evaluation::sum(x, y),
@@ -22,7 +22,6 @@ fn calculate(op: Operator, x: i32, y: i32) -> Evaluation
         Operator::Product => evaluation::product(x, y),
         Operator::Quotient => evaluation::quotient(x, y),
         Operator::Remainder => evaluation::remainder(x, y),
-        Operator::Equivalence => evaluation::equal(x, y),
     }
 }
 
@@ -33,15 +32,7 @@ fn is_decisive(op: Operator, v: i32) -> bool
     match op {
         Operator::Conjunction => v == 0,
         Operator::Disjunction => v == 1,
-        Operator::Equality => false,
-        Operator::Less => false,
-        Operator::LessOrEqual => false,
-        Operator::Sum => false,
-        Operator::Difference => false,
-        Operator::Product => false,
-        Operator::Quotient => false,
-        Operator::Remainder => false,
-        Operator::Equivalence => false,
+        _ => false,
     }
 }
 
@@ -50,17 +41,8 @@ fn decide(op: Operator) -> Evaluation
     ensures { result ≡ Evaluation.Value (decision op) }
 {
     match op {
-        Operator::Conjunction => Evaluation::Value(0),
         Operator::Disjunction => Evaluation::Value(1),
-        Operator::Equality => Evaluation::Value(0),
-        Operator::Less => Evaluation::Value(0),
-        Operator::LessOrEqual => Evaluation::Value(0),
-        Operator::Sum => Evaluation::Value(0),
-        Operator::Difference => Evaluation::Value(0),
-        Operator::Product => Evaluation::Value(0),
-        Operator::Quotient => Evaluation::Value(0),
-        Operator::Remainder => Evaluation::Value(0),
-        Operator::Equivalence => Evaluation::Value(0),
+        _ => Evaluation::Value(0),
     }
 }
 
@@ -79,10 +61,7 @@ fn beside(op: Operator, v: i32, other: Evaluation) -> Evaluation
 fn at_values(op: Operator, x: i32, y: i32) -> Evaluation
     ensures { result ≡ operated op (Evaluation.Value x) (Evaluation.Value y) }
 {
-    if is_decisive(op, x) {
-        return decide(op);
-    }
-    if is_decisive(op, y) {
+    if is_decisive(op, x) || is_decisive(op, y) {
         return decide(op);
     }
     calculate(op, x, y)
@@ -92,22 +71,14 @@ fn at_values(op: Operator, x: i32, y: i32) -> Evaluation
 pub fn operate(op: Operator, a: Evaluation, b: Evaluation) -> Evaluation
     ensures { result ≡ operated op a b }
 {
-    match a {
-        Evaluation::Unknown => match b {
-            Evaluation::Unknown => Evaluation::Unknown,
-            Evaluation::Failed => Evaluation::Unknown,
-            Evaluation::Value(y) => beside(op, y, Evaluation::Unknown),
-        },
-        Evaluation::Failed => match b {
-            Evaluation::Unknown => Evaluation::Unknown,
-            Evaluation::Failed => Evaluation::Failed,
-            Evaluation::Value(y) => beside(op, y, Evaluation::Failed),
-        },
-        Evaluation::Value(x) => match b {
-            Evaluation::Unknown => beside(op, x, Evaluation::Unknown),
-            Evaluation::Failed => beside(op, x, Evaluation::Failed),
-            Evaluation::Value(y) => at_values(op, x, y),
-        },
+    match (a, b) {
+        (Evaluation::Value(x), Evaluation::Value(y)) => at_values(op, x, y),
+        (Evaluation::Value(v), Evaluation::Failed) => beside(op, v, Evaluation::Failed),
+        (Evaluation::Failed, Evaluation::Value(v)) => beside(op, v, Evaluation::Failed),
+        (Evaluation::Value(v), Evaluation::Unknown) => beside(op, v, Evaluation::Unknown),
+        (Evaluation::Unknown, Evaluation::Value(v)) => beside(op, v, Evaluation::Unknown),
+        (Evaluation::Failed, Evaluation::Failed) => Evaluation::Failed,
+        _ => Evaluation::Unknown,
     }
 }
 
@@ -116,9 +87,9 @@ pub fn negate(a: Evaluation) -> Evaluation
     ensures { result ≡ negated a }
 {
     match a {
-        Evaluation::Unknown => Evaluation::Unknown,
-        Evaluation::Failed => Evaluation::Failed,
         Evaluation::Value(v) => evaluation::equal(v, 0),
+        Evaluation::Failed => Evaluation::Failed,
+        Evaluation::Unknown => Evaluation::Unknown,
     }
 }
 
@@ -126,23 +97,16 @@ pub fn negate(a: Evaluation) -> Evaluation
 fn undecided(a: Evaluation, b: Evaluation, otherwise: Evaluation) -> Evaluation
     ensures { result ≡ cond (agree a b) a (cond (is_unknown a || is_unknown b) Evaluation.Unknown otherwise) }
 {
-    match a {
-        Evaluation::Unknown => Evaluation::Unknown,
-        Evaluation::Failed => match b {
-            Evaluation::Unknown => Evaluation::Unknown,
-            Evaluation::Failed => otherwise,
-            Evaluation::Value(y) => otherwise,
-        },
-        Evaluation::Value(x) => match b {
-            Evaluation::Unknown => Evaluation::Unknown,
-            Evaluation::Failed => otherwise,
-            Evaluation::Value(y) => {
-                if x == y {
-                    return Evaluation::Value(x);
-                }
+    match (a, b) {
+        (Evaluation::Unknown, _) | (_, Evaluation::Unknown) => Evaluation::Unknown,
+        (Evaluation::Value(x), Evaluation::Value(y)) => {
+            if x == y {
+                Evaluation::Value(x)
+            } else {
                 otherwise
             }
-        },
+        }
+        _ => otherwise,
     }
 }
 
@@ -153,11 +117,6 @@ pub fn choose(condition: Evaluation, a: Evaluation, b: Evaluation) -> Evaluation
     match condition {
         Evaluation::Unknown => undecided(a, b, Evaluation::Unknown),
         Evaluation::Failed => undecided(a, b, Evaluation::Failed),
-        Evaluation::Value(v) => {
-            if v == 1 {
-                return a;
-            }
-            b
-        }
+        Evaluation::Value(v) => { if v == 1 { a } else { b } }
     }
 }

@@ -1,54 +1,61 @@
 -- Operators that group from the left, word by word.
-use mathlib.Core.Path.{◌≡◌, refl, ◌∙◌}
+use mathlib.Core.Path.{◌≡◌, refl, sym, ap, ◌∙◌}
 use mathlib.Core.Bool.{true, false}
 use mathlib.Core.List.{List, [], ◌∷◌}
-use Prim.Native.Nat.{ℕ, zero, suc, ◌+◌, ◌*◌, ◌≤◌}
+use Prim.Native.Nat.{ℕ, zero, suc, ◌+◌, ◌*◌, ◌≤◌, ◌<◌}
 use native.Mathlib.Omega.{arith}
-use lib.Dec.{eqb, lit≤}
+use borrow.Author.Tests.{eqb-true}
+use lib.Dec.{lit≤}
 use lib.ListN.{length}
+use Rattle.grammar.specs.declared.Token.{Token}
+use Rattle.grammar.specs.declared.Token.TheVariants.{Number, Variable}
 use Rattle.grammar.specs.declared.Word.{Word}
-use Rattle.grammar.specs.Tokens.{Token, times_code, and_code, or_code}
-use Rattle.grammar.specs.Phrases.{Phrase, call_level, product_level, negation_level, conjunction_level, whole_level, is_sign, is_chained}
+use Rattle.grammar.specs.Tokens.{ordinal}
+use Rattle.grammar.specs.Phrases.{Phrase, call_level, product_level, negation_level, conjunction_level, whole_level, is_chained}
 use Rattle.grammar.specs.Phrases.Phrase.{operation}
 use Rattle.grammar.specs.Reading.{and_then, chain, chain_by, level_by, read_level}
 use Rattle.grammar.specs.Reading.Parse.{parsed}
-use Rattle.grammar.specs.Held.{FirstWord, Scanned}
-use Rattle.grammar.proofs.Plain.{Plain}
+use Rattle.grammar.specs.Held.{held, FirstWord}
 use Rattle.grammar.proofs.Sound.{read_sound}
 use Rattle.grammar.proofs.Fuel.{then_same, cond_same}
-use Rattle.parser.specs.Levels.{chain_from}
-use Rattle.parser.proofs.Steps.{reader, words_at, plain_words, level_at, by_word}
+use Rattle.parser.specs.declared.Level.{Level}
+use Rattle.parser.specs.declared.Level.TheVariants.{Product, Sum, Conjunction, Disjunction}
+use Rattle.parser.specs.Levels.{Next, operand_level, chain_from}
+use Rattle.parser.proofs.Steps.{reader, words_at, level_at, sign_ordinal}
 
--- the operators of each such level
-pub product_operator : (c : ℕ) → is_chained 1 c ≡ eqb c times_code
+-- an operator of a level is no number and no variable
+pub chained_ordinal : (level : Level) (t : Token) → is_chained (suc (operand_level level)) t ≡ true → 2 < ordinal t
 unfolding is_chained
-product_operator c = refl
+chained_ordinal Product t h = omega (arith, eqb-true (ordinal t) 18 h)
+chained_ordinal Sum t h = sign_ordinal t h
+chained_ordinal Conjunction t h = omega (arith, eqb-true (ordinal t) 11 h)
+chained_ordinal Disjunction t h = omega (arith, eqb-true (ordinal t) 12 h)
 
-pub sum_operator : (c : ℕ) → is_chained 2 c ≡ is_sign c
-unfolding is_chained
-sum_operator c = refl
+held_chained : (l : ℕ) (t : Token) → is_chained l (held t) ≡ is_chained l t
+unfolding held is_chained
+held_chained l (Number n) = refl
+held_chained l (Variable n) = refl
+held_chained l _ = refl
 
-pub conjunction_operator : (c : ℕ) → is_chained 6 c ≡ eqb c and_code
-unfolding is_chained
-conjunction_operator c = refl
-
-pub disjunction_operator : (c : ℕ) → is_chained 7 c ≡ eqb c or_code
-unfolding is_chained
-disjunction_operator c = refl
+pub operand_low : (level : Level) → operand_level level ≤ whole_level
+operand_low Product = omega arith
+operand_low Sum = omega arith
+operand_low Conjunction = omega arith
+operand_low Disjunction = omega arith
 
 -- any count that is enough reads the same
-enough : (below : ℕ) → below ≤ whole_level → (n m : ℕ) (p : Phrase) (ts : List Token) → Plain ts → length ts ≤ n → length ts ≤ m
+enough : (below : ℕ) → below ≤ whole_level → (n m : ℕ) (p : Phrase) (ts : List Token) → length ts ≤ n → length ts ≤ m
     → chain (reader below) (is_chained (suc below)) n p ts ≡ chain (reader below) (is_chained (suc below)) m p ts
 unfolding chain
-enough below h zero zero p ts f a b = refl
-enough below h zero (suc m) p [] f a b = refl
-enough below h zero (suc m) p (t ∷ ts) f a b = absurd (omega arith)
-enough below h (suc n) zero p [] f a b = refl
-enough below h (suc n) zero p (t ∷ ts) f a b = absurd (omega arith)
-enough below h (suc n) (suc m) p [] f a b = refl
-enough below h (suc n) (suc m) p (t ∷ ts) f a b =
-    cond_same (is_chained (suc below) t.code)
-    (then_same (read_sound (9 * length ts + suc below) below ts h f.1) refl λ q us g k. enough below h n m (operation t.code p q) us g (omega arith) (omega arith))
+enough below h zero zero p ts a b = refl
+enough below h zero (suc m) p [] a b = refl
+enough below h zero (suc m) p (t ∷ ts) a b = absurd (omega arith)
+enough below h (suc n) zero p [] a b = refl
+enough below h (suc n) zero p (t ∷ ts) a b = absurd (omega arith)
+enough below h (suc n) (suc m) p [] a b = refl
+enough below h (suc n) (suc m) p (t ∷ ts) a b =
+    cond_same (is_chained (suc below) t)
+    (then_same (read_sound (9 * length ts + suc below) below ts h) refl λ q us k. enough below h n m (operation t p q) us (omega arith) (omega arith))
     refl
 
 -- a level of such operators
@@ -70,23 +77,30 @@ module _ (text : List ℕ) (at : ℕ) where
   grouped_disjunction = level_at text 7 at (lit≤ tt)
 
   -- at the end of the operators
-  pub chain_ends : (below : ℕ) (w : Word) (p : Phrase) → Scanned text at w → is_chained (suc below) w.code ≡ false
+  pub chain_end : (below : ℕ) (p : Phrase) → words_at text at ≡ [] → chain_from below p (words_at text at) ≡ parsed p (words_at text at)
+  unfolding chain_from chain
+  chain_end below p e = rw e
+
+  pub chain_other : (below : ℕ) (p : Phrase) {w : Word} (f : FirstWord text at w) → is_chained (suc below) w.token ≡ false
       → chain_from below p (words_at text at) ≡ parsed p (words_at text at)
   unfolding chain_from chain
-  chain_ends below w p s n = by_word text at w s (λ e. rw e) (λ f. rw (f.first, n))
+  chain_other below p f e =
+      let none : is_chained (suc below) f.token ≡ false =
+      sym (held_chained (suc below) f.token) ∙ ap (λ (t : Token). is_chained (suc below) t) (sym f.is_held) ∙ e in
+      rw (f.first, none)
 
   -- one more operator
-  chain_step : (below : ℕ) (w : Word) (p : Phrase) → FirstWord text at w → is_chained (suc below) w.code ≡ true
-      → chain_from below p (words_at text at)
-      ≡ and_then (read_level below (words_at text w.next))
-      (λ q us. chain (reader below) (is_chained (suc below)) (length (words_at text w.next)) (operation w.code p q) us)
-  unfolding chain_from chain
-  chain_step below w p f e = rw (f.first, e)
+  module _ (below next : ℕ) (c : Token) (p : Phrase) (n : Next text c at next) (e : is_chained (suc below) c ≡ true) where
+    chain_step : chain_from below p (words_at text at)
+        ≡ and_then (read_level below (words_at text next))
+        (λ q us. chain (reader below) (is_chained (suc below)) (length (words_at text next)) (operation c p q) us)
+    unfolding chain_from chain
+    chain_step = rw (n.first, e)
 
-  pub chain_goes : (below : ℕ) (w : Word) (p : Phrase) → below ≤ whole_level → FirstWord text at w → is_chained (suc below) w.code ≡ true
-      → chain_from below p (words_at text at) ≡ and_then (read_level below (words_at text w.next)) (λ q us. chain_from below (operation w.code p q) us)
-  unfolding chain_from
-  chain_goes below w p h f e =
-      chain_step below w p f e
-      ∙ then_same (read_sound (9 * length (words_at text w.next) + suc below) below (words_at text w.next) h (plain_words text w.next)) refl
-      (λ q us g k. enough below h (length (words_at text w.next)) (length us) (operation w.code p q) us g (omega arith) (omega arith))
+    pub chain_goes : below ≤ whole_level
+        → chain_from below p (words_at text at) ≡ and_then (read_level below (words_at text next)) (λ q us. chain_from below (operation c p q) us)
+    unfolding chain_from
+    chain_goes h =
+        chain_step
+        ∙ then_same (read_sound (9 * length (words_at text next) + suc below) below (words_at text next) h) refl
+        (λ q us k. enough below h (length (words_at text next)) (length us) (operation c p q) us (omega arith) (omega arith))

@@ -1,40 +1,47 @@
 -- How each level goes on from the words at a place.
 use mathlib.Core.Path.{◌≡◌, refl, sym, ap, ◌∙◌}
-use mathlib.Core.Bool.{Bool, true, false, true≢false, and-false}
-use mathlib.Core.List.{List, []}
+use mathlib.Core.Bool.{true, false, true≢false}
+use mathlib.Core.List.{List, [], ◌∷◌}
 use Prim.Native.Nat.{ℕ, suc, ◌+◌, ◌*◌, ◌≤◌, ◌<◌}
 use native.Mathlib.Omega.{arith}
-use borrow.Author.Tests.{eqb-true, eqb-false, eq-eqb, ne_eqb, le-leb, lt-leb}
-use lib.Dec.{eqb, leb, lit≤}
+use lib.Dec.{T, lit≤, lit<}
 use lib.ListN.{length, drop}
+use Rattle.grammar.specs.declared.Token.{Token}
+use Rattle.grammar.specs.declared.Token.TheVariants.{Number, Variable, True, False, Div, Mod, If, Not, Open, Close, Plus, Minus, Equal, Unequal, Less, LessOrEqual, Greater, GreaterOrEqual}
 use Rattle.grammar.specs.declared.Word.{Word}
-use Rattle.grammar.specs.Words.{words_of}
-use Rattle.grammar.specs.Tokens.{Token, tokens_of, if_code, not_code, open_code, close_code, div_code, mod_code, number_code, variable_code, true_code, false_code, equal_code, greater_or_equal_code}
-use Rattle.grammar.specs.Phrases.{Phrase, call_level, sign_level, relation_level, negation_level, disjunction_level, whole_level, is_sign, is_relation, is_call}
+use Rattle.grammar.specs.Tokens.{ordinal, alike, tokens_of}
+use Rattle.grammar.specs.Phrases.{Phrase, call_level, sum_level, sign_level, relation_level, negation_level, disjunction_level, whole_level, is_sign, is_relation, is_call}
 use Rattle.grammar.specs.Phrases.Phrase.{numeral, truth, variable, enclosed, prefixed, operation}
 use Rattle.grammar.specs.Reading.{Parse, and_then, is_next, after_next, expecting, arguments_by, call_by, prefix_by, related_by, conditional_by, whole_by, level_by, read_level}
 use Rattle.grammar.specs.Reading.Parse.{failed, parsed}
-use Rattle.grammar.specs.Held.{end_code, FirstWord, Scanned}
-use Rattle.grammar.proofs.Plain.{Plain, Sound}
-use Rattle.grammar.proofs.Plain.Sound.{none, found}
+use Rattle.grammar.specs.Held.{held, capped, FirstWord}
+use Rattle.grammar.proofs.Ordinals.{same_alike, other_alike, held_ordinal, held_same, held_sign, held_relation}
+use Rattle.grammar.proofs.Found.{Sound}
+use Rattle.grammar.proofs.Found.Sound.{none, found}
 use Rattle.grammar.proofs.Sound.{read_sound}
 use Rattle.grammar.proofs.Fuel.{shorter, level_step}
-use Rattle.grammar.proofs.Readings.{plain_tokens}
+use Rattle.grammar.proofs.Complete.{call_begins}
+use Rattle.parser.specs.Levels.{Next}
 
 -- a level with fuel enough, as a reader
 abbrev pub reader : ℕ → List Token → Parse
 reader k us = read_level k us
 
--- ---- the codes of relations
+-- ---- tokens
 
-pub no_relation_below : (c : ℕ) → c < equal_code → is_relation c ≡ false
-no_relation_below c h = rw (lt-leb equal_code c h)
+pub sign_ordinal : (t : Token) → is_sign t ≡ true → 2 < ordinal t
+sign_ordinal Plus h = omega arith
+sign_ordinal Minus h = omega arith
+sign_ordinal _ h = absurd (true≢false (sym h))
 
-pub no_relation_above : (c : ℕ) → greater_or_equal_code < c → is_relation c ≡ false
-no_relation_above c h = rw (lt-leb c greater_or_equal_code h) (and-false (leb equal_code c))
-
-pub relation_between : (c : ℕ) → equal_code ≤ c → c ≤ greater_or_equal_code → is_relation c ≡ true
-relation_between c g h = rw (le-leb equal_code c g, le-leb c greater_or_equal_code h)
+pub relation_ordinal : (t : Token) → is_relation t ≡ true → 2 < ordinal t
+relation_ordinal Equal h = omega arith
+relation_ordinal Unequal h = omega arith
+relation_ordinal Less h = omega arith
+relation_ordinal LessOrEqual h = omega arith
+relation_ordinal Greater h = omega arith
+relation_ordinal GreaterOrEqual h = omega arith
+relation_ordinal _ h = absurd (true≢false (sym h))
 
 -- ---- readings one after another
 
@@ -47,10 +54,10 @@ unfolding and_then
 then_parsed x k p us e = rw e
 
 -- nothing is read where no word is left
-level_none : (l : ℕ) → l ≤ whole_level → failed ≡ read_level l []
-level_none l h = by (read_sound (9 * length {A = Token} [] + suc l) l [] h tt)
+level_none : (l : ℕ) → l ≤ whole_level → read_level l [] ≡ failed
+level_none l h = by (read_sound (9 * length {A = Token} [] + suc l) l [] h)
   where
-    by : {x : Parse} → Sound l [] x → failed ≡ x
+    by : {x : Parse} → Sound l [] x → x ≡ failed
     by none = refl
     by (found p us f) = absurd (omega (arith, shorter f))
 
@@ -59,143 +66,146 @@ module _ (text : List ℕ) where
   abbrev pub words_at : ℕ → List Token
   words_at at = tokens_of (drop at text)
 
-  pub plain_words : (at : ℕ) → Plain (words_at at)
-  plain_words at = plain_tokens (words_of (drop at text))
-
   -- ---- the word at a place
 
-  pub is_word_lem : (at c : ℕ) (w : Word) → Scanned text at w → w.code ≡ c → c < end_code → FirstWord text at w
-  is_word_lem at c w s e h = s.word (λ g. omega (arith, e, g))
+  -- it is held as it is, but for numbers and variables
+  pub next_word : {at : ℕ} {w : Word} → FirstWord text at w → 2 < ordinal w.token → Next text w.token at w.next
+  next_word {w = w} f h =
+      let low : 2 < ordinal f.token = omega (arith, held_ordinal f.token, ap ordinal f.is_held, h) in
+      let same : w.token ≡ f.token = f.is_held ∙ held_same f.token low in
+      record { first = f.first ∙ ap (λ (t : Token). t ∷ words_at w.next) (sym same); after = f.after; within = f.within }
 
-  -- a sign and a relation are words
-  pub sign_word : {at : ℕ} {w : Word} → Scanned text at w → is_sign w.code ≡ true → FirstWord text at w
-  sign_word {w = w} s e = s.word (λ g. true≢false (sym e ∙ ap (λ (c : ℕ). is_sign c) g))
+  pub next_is : {at : ℕ} {w : Word} (c : Token) → 2 < ordinal c → FirstWord text at w → w.token ≡ c → Next text c at w.next
+  next_is {w = w} c h f e =
+      let n = next_word f (omega (arith, h, ap ordinal e)) in
+      record { first = n.first ∙ ap (λ (t : Token). t ∷ words_at w.next) e; after = f.after; within = f.within }
 
-  pub relation_word : {at : ℕ} {w : Word} → Scanned text at w → w.code ≤ greater_or_equal_code → FirstWord text at w
-  relation_word s h = s.word (λ g. omega (arith, g))
+  pub next_other : {at : ℕ} {w : Word} (c : Token) → 2 < ordinal c → FirstWord text at w → (w.token ≡ c → ⊥) → is_next c (words_at at) ≡ false
+  unfolding is_next
+  next_other c h f n = rw (f.first, other_alike f.token c h (λ e. n (f.is_held ∙ ap held e ∙ held_same c h)))
 
-  -- by whether a word is left
-  pub by_word : {A : Type 0} (at : ℕ) (w : Word) → Scanned text at w → (words_at at ≡ [] → A) → (FirstWord text at w → A) → A
-  by_word {A} at w s f g = by (eqb w.code end_code) refl
-    where
-      by : (t : Bool) → eqb w.code end_code ≡ t → A
-      by true e = f (s.past (eqb-true w.code end_code e))
-      by false e = g (s.word (eqb-false w.code end_code e))
+  pub next_nothing : (at : ℕ) (c : Token) → words_at at ≡ [] → is_next c (words_at at) ≡ false
+  unfolding is_next
+  next_nothing at c e = rw e
 
-  -- the word that must follow is there
-  pub expected : (at c : ℕ) (w : Word) (k : List Token → Parse) → FirstWord text at w → w.code ≡ c → expecting c (words_at at) k ≡ k (words_at w.next)
+  -- the token that must follow is there, or not
+  pub expected : {at next : ℕ} {c : Token} (k : List Token → Parse) → Next text c at next → expecting c (words_at at) k ≡ k (words_at next)
   unfolding is_next after_next
-  expected at c w k f e = rw (f.first, eq-eqb w.code c e)
+  expected {c = c} k n = rw (n.first, same_alike c c refl)
 
-  -- another one, or none
-  pub missing : (at c : ℕ) (w : Word) (k : List Token → Parse) → Scanned text at w → (w.code ≡ c → ⊥) → expecting c (words_at at) k ≡ failed
-  unfolding is_next after_next
-  missing at c w k s n = by_word at w s (λ e. rw e) (λ f. rw (f.first, ne_eqb w.code c n))
+  pub missing : (at : ℕ) (c : Token) (k : List Token → Parse) → is_next c (words_at at) ≡ false → expecting c (words_at at) k ≡ failed
+  missing at c k e = rw e
 
   -- ---- each level from the levels that it calls
 
   pub level_at : (l at : ℕ) → l ≤ whole_level → read_level l (words_at at) ≡ level_by reader l (words_at at)
-  level_at l at h = level_step l (words_at at) h (plain_words at)
+  level_at l at h = level_step l (words_at at) h
 
-  -- parentheses, calls, single words
-  pub call_enclosed : (at : ℕ) (w : Word) → FirstWord text at w → w.code ≡ open_code
-      → read_level call_level (words_at at)
-      ≡ and_then (read_level whole_level (words_at w.next)) (λ p us. expecting close_code us (λ vs. parsed (enclosed p) vs))
-  unfolding level_by call_by
-  call_enclosed at w f e = level_at call_level at (lit≤ tt) ∙ rw (f.first, e)
+  -- no word is left
+  pub nothing_read : (l at : ℕ) → l ≤ whole_level → words_at at ≡ [] → read_level l (words_at at) ≡ failed
+  nothing_read l at h e = ap (λ ts. read_level l ts) e ∙ level_none l h
 
-  pub call_called : (at c : ℕ) (w : Word) → FirstWord text at w → w.code ≡ c → eqb c open_code ≡ false → is_call c ≡ true
-      → read_level call_level (words_at at) ≡ arguments_by reader w.code (words_at w.next)
-  unfolding level_by call_by
-  call_called at c w f e n h = level_at call_level at (lit≤ tt) ∙ rw (f.first, e, n, h)
+  module _ {at next : ℕ} where
+    -- parentheses and calls
+    pub call_enclosed : Next text Open at next → read_level call_level (words_at at)
+        ≡ and_then (read_level whole_level (words_at next)) (λ p us. expecting Close us (λ vs. parsed (enclosed p) vs))
+    unfolding level_by call_by
+    call_enclosed n = level_at call_level at (lit≤ tt) ∙ rw n.first
 
-  pub call_number : (at : ℕ) (w : Word) (f : FirstWord text at w) → w.code ≡ number_code
-      → read_level call_level (words_at at) ≡ parsed (numeral f.number) (words_at w.next)
-  unfolding level_by call_by
-  call_number at w f e = level_at call_level at (lit≤ tt) ∙ rw (f.first, e)
+    pub call_called : (c : Token) → T (is_call c) → Next text c at next → read_level call_level (words_at at) ≡ arguments_by reader c (words_at next)
+    unfolding level_by
+    call_called c h n = level_at call_level at (lit≤ tt) ∙ rw n.first (call_begins reader c (words_at next) h)
 
-  pub call_variable : (at : ℕ) (w : Word) (f : FirstWord text at w) → w.code ≡ variable_code
-      → read_level call_level (words_at at) ≡ parsed (variable f.number) (words_at w.next)
-  unfolding level_by call_by
-  call_variable at w f e = level_at call_level at (lit≤ tt) ∙ rw (f.first, e)
+    -- signs
+    pub sign_first : (c : Token) → is_sign c ≡ true → Next text c at next
+        → read_level sign_level (words_at at) ≡ and_then (read_level sign_level (words_at next)) (λ p us. parsed (prefixed c p) us)
+    unfolding level_by prefix_by
+    sign_first c h n = level_at sign_level at (lit≤ tt) ∙ rw (n.first, h)
 
-  pub call_true : (at : ℕ) (w : Word) → FirstWord text at w → w.code ≡ true_code
-      → read_level call_level (words_at at) ≡ parsed (truth 1) (words_at w.next)
-  unfolding level_by call_by
-  call_true at w f e = level_at call_level at (lit≤ tt) ∙ rw (f.first, e)
+    -- not
+    pub not_first : Next text Not at next
+        → read_level negation_level (words_at at) ≡ and_then (read_level negation_level (words_at next)) (λ p us. parsed (prefixed Not p) us)
+    unfolding level_by prefix_by
+    not_first n = level_at negation_level at (lit≤ tt) ∙ rw n.first
 
-  pub call_false : (at : ℕ) (w : Word) → FirstWord text at w → w.code ≡ false_code
-      → read_level call_level (words_at at) ≡ parsed (truth 0) (words_at w.next)
-  unfolding level_by call_by
-  call_false at w f e = level_at call_level at (lit≤ tt) ∙ rw (f.first, e)
+    -- if-then-else
+    pub if_first : Next text If at next → read_level whole_level (words_at at) ≡ conditional_by reader (words_at next)
+    unfolding level_by whole_by is_next after_next
+    if_first n = level_at whole_level at (lit≤ tt) ∙ rw n.first
 
-  -- any other word, or none
-  pub call_other : (at : ℕ) (w : Word) → Scanned text at w → (w.code ≡ open_code → ⊥) → (w.code ≡ div_code → ⊥) → (w.code ≡ mod_code → ⊥)
-      → (w.code ≡ number_code → ⊥) → (w.code ≡ variable_code → ⊥) → (w.code ≡ true_code → ⊥) → (w.code ≡ false_code → ⊥)
-      → read_level call_level (words_at at) ≡ failed
-  unfolding level_by call_by
-  call_other at w s o d m n v t f =
-      level_at call_level at (lit≤ tt)
-      ∙ by_word at w s (λ e. rw e)
-      (λ g.
-      rw (
-        g.first,
-        ne_eqb w.code open_code o,
-        ne_eqb w.code div_code d,
-        ne_eqb w.code mod_code m,
-        ne_eqb w.code number_code n,
-        ne_eqb w.code variable_code v,
-        ne_eqb w.code true_code t,
-        ne_eqb w.code false_code f,
-      ))
+    -- relations
+    pub relation_first : (c : Token) (p : Phrase) → is_relation c ≡ true → Next text c at next
+        → related_by reader p (words_at at) ≡ and_then (read_level sign_level (words_at next)) (λ q us. parsed (operation c p q) us)
+    unfolding related_by
+    relation_first c p h n = rw (n.first, h)
 
-  -- signs
-  pub sign_first : (at : ℕ) (w : Word) → FirstWord text at w → is_sign w.code ≡ true
-      → read_level sign_level (words_at at) ≡ and_then (read_level sign_level (words_at w.next)) (λ p us. parsed (prefixed w.code p) us)
-  unfolding level_by prefix_by
-  sign_first at w f e = level_at sign_level at (lit≤ tt) ∙ rw (f.first, e)
+  -- single words
+  module _ {at : ℕ} {w : Word} (f : FirstWord text at w) where
+    pub call_number : (n : ℕ) → f.token ≡ Number n → read_level call_level (words_at at) ≡ parsed (numeral n) (words_at w.next)
+    unfolding level_by call_by
+    call_number n e = level_at call_level at (lit≤ tt) ∙ rw (f.first, e)
 
-  pub sign_none : (at : ℕ) (w : Word) → Scanned text at w → is_sign w.code ≡ false → read_level sign_level (words_at at) ≡ read_level 2 (words_at at)
-  unfolding level_by prefix_by
-  sign_none at w s n =
-      level_at sign_level at (lit≤ tt)
-      ∙ by_word at w s (λ e. rw e nothing) (λ f. rw (f.first, n))
-    where
-      nothing : failed ≡ read_level 2 []
-      nothing = level_none 2 (lit≤ tt)
+    pub call_variable : (n : ℕ) → f.token ≡ Variable n → read_level call_level (words_at at) ≡ parsed (variable n) (words_at w.next)
+    unfolding level_by call_by
+    call_variable n e = level_at call_level at (lit≤ tt) ∙ rw (f.first, e)
 
-  -- not
-  pub not_first : (at : ℕ) (w : Word) → FirstWord text at w → w.code ≡ not_code
-      → read_level negation_level (words_at at) ≡ and_then (read_level negation_level (words_at w.next)) (λ p us. parsed (prefixed w.code p) us)
-  unfolding level_by prefix_by
-  not_first at w f e = level_at negation_level at (lit≤ tt) ∙ rw (f.first, eq-eqb w.code not_code e)
+    pub call_true : w.token ≡ True → read_level call_level (words_at at) ≡ parsed (truth 1) (words_at w.next)
+    unfolding level_by call_by
+    call_true e = level_at call_level at (lit≤ tt) ∙ rw (next_is True (lit< tt) f e).first
 
-  pub not_none : (at : ℕ) (w : Word) → Scanned text at w → (w.code ≡ not_code → ⊥)
+    pub call_false : w.token ≡ False → read_level call_level (words_at at) ≡ parsed (truth 0) (words_at w.next)
+    unfolding level_by call_by
+    call_false e = level_at call_level at (lit≤ tt) ∙ rw (next_is False (lit< tt) f e).first
+
+    -- any other word
+    pub call_other : (w.token ≡ Open → ⊥) → (w.token ≡ Div → ⊥) → (w.token ≡ Mod → ⊥) → ((n : ℕ) → w.token ≡ Number n → ⊥)
+        → ((n : ℕ) → w.token ≡ Variable n → ⊥) → (w.token ≡ True → ⊥) → (w.token ≡ False → ⊥) → read_level call_level (words_at at) ≡ failed
+    unfolding level_by call_by held
+    call_other o d m n v t u =
+        level_at call_level at (lit≤ tt) ∙ rw f.first
+        (by f.token (λ e. o (f.is_held ∙ e)) (λ e. d (f.is_held ∙ e)) (λ e. m (f.is_held ∙ e)) (λ k e. n k (f.is_held ∙ e)) (λ k e. v k (f.is_held ∙ e))
+        (λ e. t (f.is_held ∙ e)) (λ e. u (f.is_held ∙ e)))
+      where
+        by : (x : Token) → (held x ≡ Open → ⊥) → (held x ≡ Div → ⊥) → (held x ≡ Mod → ⊥) → ((n : ℕ) → held x ≡ Number n → ⊥)
+            → ((n : ℕ) → held x ≡ Variable n → ⊥) → (held x ≡ True → ⊥) → (held x ≡ False → ⊥) → call_by reader (x ∷ words_at w.next) ≡ failed
+        by Open o d m n v t u = absurd (o refl)
+        by Div o d m n v t u = absurd (d refl)
+        by Mod o d m n v t u = absurd (m refl)
+        by (Number k) o d m n v t u = absurd (n (capped k) refl)
+        by (Variable k) o d m n v t u = absurd (v (capped k) refl)
+        by True o d m n v t u = absurd (t refl)
+        by False o d m n v t u = absurd (u refl)
+        by _ o d m n v t u = refl
+
+    -- no sign, or no relation
+    pub sign_none : is_sign w.token ≡ false → read_level sign_level (words_at at) ≡ read_level sum_level (words_at at)
+    unfolding level_by prefix_by
+    sign_none e =
+        let none : is_sign f.token ≡ false = sym (held_sign f.token) ∙ ap (λ (t : Token). is_sign t) (sym f.is_held) ∙ e in
+        level_at sign_level at (lit≤ tt) ∙ rw (f.first, none)
+
+    pub relation_none : (p : Phrase) → is_relation w.token ≡ false → related_by reader p (words_at at) ≡ parsed p (words_at at)
+    unfolding related_by
+    relation_none p e =
+        let none : is_relation f.token ≡ false = sym (held_relation f.token) ∙ ap (λ (t : Token). is_relation t) (sym f.is_held) ∙ e in
+        rw (f.first, none)
+
+  pub relation_end : (at : ℕ) (p : Phrase) → words_at at ≡ [] → related_by reader p (words_at at) ≡ parsed p (words_at at)
+  unfolding related_by
+  relation_end at p e = rw e
+
+  -- no `not`
+  pub not_none : (at : ℕ) → is_next Not (words_at at) ≡ false
       → read_level negation_level (words_at at) ≡ and_then (read_level sign_level (words_at at)) (λ p us. related_by reader p us)
-  unfolding level_by prefix_by
-  not_none at w s n =
-      level_at negation_level at (lit≤ tt)
-      ∙ by_word at w s (λ e. rw e (level_none 4 (lit≤ tt))) (λ f. rw (f.first, ne_eqb w.code not_code n))
-      ∙ level_at relation_level at (lit≤ tt)
+  unfolding level_by prefix_by is_next
+  not_none at e = level_at negation_level at (lit≤ tt) ∙ by (words_at at) e ∙ level_at relation_level at (lit≤ tt)
+    where
+      by : (ts : List Token) → is_next Not ts ≡ false
+          → prefix_by reader (λ c. alike c Not) negation_level relation_level ts ≡ read_level relation_level ts
+      by [] h = sym (level_none relation_level (lit≤ tt))
+      by (t ∷ ts) h = rw h
 
-  -- if-then-else
-  pub if_first : (at : ℕ) (w : Word) → FirstWord text at w → w.code ≡ if_code → read_level whole_level (words_at at) ≡ conditional_by reader (words_at w.next)
-  unfolding level_by whole_by is_next after_next
-  if_first at w f e = level_at whole_level at (lit≤ tt) ∙ rw (f.first, e)
-
-  pub if_none : (at : ℕ) (w : Word) → Scanned text at w → (w.code ≡ if_code → ⊥) → read_level whole_level (words_at at) ≡ read_level disjunction_level (words_at at)
-  unfolding level_by whole_by is_next after_next
-  if_none at w s n =
-      level_at whole_level at (lit≤ tt)
-      ∙ by_word at w s (λ e. rw e) (λ f. rw (f.first, ne_eqb w.code if_code n))
-
-  -- relations
-  pub relation_first : (at : ℕ) (w : Word) (p : Phrase) → FirstWord text at w → is_relation w.code ≡ true
-      → related_by reader p (words_at at) ≡ and_then (read_level sign_level (words_at w.next)) (λ q us. parsed (operation w.code p q) us)
-  unfolding related_by
-  relation_first at w p f e = rw (f.first, e)
-
-  pub relation_none : (at : ℕ) (w : Word) (p : Phrase) → Scanned text at w → is_relation w.code ≡ false
-      → related_by reader p (words_at at) ≡ parsed p (words_at at)
-  unfolding related_by
-  relation_none at w p s n = by_word at w s (λ e. rw e) (λ f. rw (f.first, n))
+  -- no `if`
+  pub if_none : (at : ℕ) → is_next If (words_at at) ≡ false → read_level whole_level (words_at at) ≡ read_level disjunction_level (words_at at)
+  unfolding level_by whole_by
+  if_none at e = level_at whole_level at (lit≤ tt) ∙ rw e

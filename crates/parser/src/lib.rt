@@ -1,366 +1,336 @@
 // A text read as the nodes of an expression: one function for each level of the grammar, tightest first, which call each other
-// in a cycle. At each call the unread bytes of the text or the level fall.
+// in a cycle; those of the levels that group from the left share a loop. At each call the unread bytes of the text or the level
+// fall.
 //
 // Operators that group from the left, and relations, are read by functions that are handed their first operand, so that only
-// four calls stand on the stack for a parenthesis at the beginning of an expression, and at most one more for each level of
+// four calls stand on the stack for a parenthesis at the beginning of an expression, and at most three more for each level of
 // operators before it.
 //
 // `at` is a place in the text; `end` is how many nodes are written so far; `from` is where those of a first operand begin.
 
 #![tactic(auto)]
 
-ghost use Rattle.std.specs.Prelude.{◌≡◌, List, ℕ, ◌<◌, ◌≤◌, length, take, drop};
-ghost use Rattle.grammar.specs.Tokens.{tokens_of, div_code, mod_code, open_code, close_code};
-ghost use Rattle.grammar.specs.Phrases.{Phrase, call_level, product_level, sign_level, negation_level, conjunction_level, whole_level, is_sign};
-ghost use Rattle.grammar.specs.Phrases.Phrase.{enclosed};
-ghost use Rattle.grammar.specs.Reading.{read_level, expecting, related_by, arguments_by, conditional_by, phrase_of};
-ghost use Rattle.grammar.specs.Reading.Parse.{parsed};
-ghost use Rattle.grammar.specs.Held.{end_code, Scanned};
-ghost use Rattle.parser.specs.Levels.{Lent, Place, Handed, Stands, Reached, chain_from, TextRead};
+ghost use Rattle.std.specs.Prelude.{◌≡◌, ℕ, suc, List, ◌<◌, ◌≤◌, length, take, drop};
+ghost use Rattle.grammar.specs.declared.Token.TheVariants.{Open, Div, Mod};
+ghost use Rattle.grammar.specs.Tokens.{ordinal, tokens_of};
+ghost use Rattle.grammar.specs.Phrases.{Phrase, call_level, product_level, sign_level, negation_level, conjunction_level, whole_level, is_sign, is_relation, is_chained};
+ghost use Rattle.grammar.specs.Reading.{read_level, related_by, arguments_by, conditional_by, phrase_of};
+ghost use Rattle.grammar.specs.Held.{FirstWord, Scanned};
+ghost use Rattle.composition.specs.declared.Node.{Node};
+ghost use Rattle.parser.specs.Levels.{Lent, Place, Handed, Stands, Reached, Follows, operand_level, chain_from, TextRead};
 
-use composition::Part;
-use grammar::Word;
+use composition::{Node, Part};
+use grammar::{Token, Word};
+use kinds::Sort;
+use source::Source;
 
-// What reading comes to: no phrase, or one.
+mod source; // source.rt: a text and the sorts of its variables
+
+// The levels of the operators that group from the left, tightest first.
 #[derive(Clone, Copy)]
-pub enum Parsed {
-    Refused,
-    Read(Part),
+enum Level {
+    Product,
+    Sum,
+    Conjunction,
+    Disjunction,
 }
 
-fn is_plus_or_minus(code: u8) -> bool
-    ensures { result ≡ is_sign code }
-{
-    if code == Word::PLUS {
-        return true;
-    }
-    code == Word::MINUS
-}
-
-// A number, a variable, true or false.
-fn single(sorts: &[u8], nodes: &mut [u64], word: Word, end: u16) -> Parsed
-    requires { ((word.code ≡ end_code → ⊥) → end < length nodes.old) × (end ≤ length nodes.old) × (length nodes.old ≤ 400) × (length sorts.now ≤ 4294967295) }
-    ensures { (text : List ℕ) (at : ℕ) → Scanned text at word
-        → (word.code ≡ open_code → ⊥) → (word.code ≡ div_code → ⊥) → (word.code ≡ mod_code → ⊥)
-        → Reached sorts.now text at (take end nodes.old) nodes.new
-        (read_level call_level (tokens_of (drop at text))) result }
-{
-    let code = word.code;
-    let next = word.next;
-    let number = word.number;
-    if code == Word::NUMBER {
-        return Parsed::Read(composition::numeral(nodes, end, number, next));
-    }
-    if code == Word::VARIABLE {
-        return Parsed::Read(composition::variable(nodes, sorts, end, number, next));
-    }
-    if code == Word::TRUE {
-        return Parsed::Read(composition::truth(nodes, end, 1, next));
-    }
-    if code == Word::FALSE {
-        return Parsed::Read(composition::truth(nodes, end, 0, next));
-    }
-    Parsed::Refused
-}
-
-// The closing parenthesis after a phrase.
-fn closed(text: &[u8], part: Part) -> Parsed
-    requires { (part.next ≤ length text.now) × (length text.now ≤ 200) }
-    ensures { (vs : List ℕ) (at : ℕ) (before cells : List ℕ) (p : Phrase)
-        → Stands vs (length text.now) at before p part cells
-        → Reached vs text.now at before cells
-        (expecting close_code (tokens_of (drop part.next text.now)) (λ ts. parsed (enclosed p) ts)) result }
-{
-    let word = scanner::word_at(text, part.next);
-    if word.code != Word::CLOSE {
-        return Parsed::Refused;
-    }
-    Parsed::Read(composition::enclosed(part, word.next))
-}
-
-// Single words, parentheses, calls.
-#[cycle(arguments_call_conditional_conjunction_disjunction_negation_product_relation_signed_sum_whole)]
-fn call(text: &[u8], sorts: &[u8], nodes: &mut [u64], at: u16, end: u16) -> Parsed
-    requires { Place text.now sorts.now nodes.old at end }
-    ensures { Reached sorts.now text.now at (take end nodes.old) nodes.new
-        (read_level call_level (tokens_of (drop at text.now))) result }
-{
-    let word = scanner::word_at(text, at);
-    let code = word.code;
-    if code == Word::OPEN {
-        let Parsed::Read(part) = whole(text, sorts, nodes, word.next, end) else {
-            return Parsed::Refused;
-        };
-        return closed(text, part);
-    }
-    if code == Word::DIV {
-        return arguments(text, sorts, nodes, code, word.next, end);
-    }
-    if code == Word::MOD {
-        return arguments(text, sorts, nodes, code, word.next, end);
-    }
-    single(sorts, nodes, word, end)
-}
-
-// The arguments of a call of div or mod.
-#[cycle(arguments_call_conditional_conjunction_disjunction_negation_product_relation_signed_sum_whole)]
-fn arguments(text: &[u8], sorts: &[u8], nodes: &mut [u64], code: u8, at: u16, end: u16) -> Parsed
-    requires { Place text.now sorts.now nodes.old at end }
-    ensures { Reached sorts.now text.now at (take end nodes.old) nodes.new
-        (arguments_by (λ k us. read_level k us) code (tokens_of (drop at text.now))) result }
-{
-    let opening = scanner::word_at(text, at);
-    if opening.code != Word::OPEN {
-        return Parsed::Refused;
-    }
-    let Parsed::Read(first) = whole(text, sorts, nodes, opening.next, end) else {
-        return Parsed::Refused;
-    };
-    let comma = scanner::word_at(text, first.next);
-    if comma.code != Word::COMMA {
-        return Parsed::Refused;
-    }
-    let Parsed::Read(second) = whole(text, sorts, nodes, comma.next, first.end) else {
-        return Parsed::Refused;
-    };
-    let closing = scanner::word_at(text, second.next);
-    if closing.code != Word::CLOSE {
-        return Parsed::Refused;
-    }
-    Parsed::Read(composition::called(nodes, end, code, first, second, closing.next))
-}
-
-// Times, after a first operand.
-#[cycle(arguments_call_conditional_conjunction_disjunction_negation_product_relation_signed_sum_whole)]
-fn product(text: &[u8], sorts: &[u8], nodes: &mut [u64], first: Part, from: u16) -> Parsed
-    requires { Handed text.now sorts.now nodes.old from first }
-    ensures { (at : ℕ) (before : List ℕ) (p : Phrase) → length before ≡ from
-        → Stands sorts.now (length text.now) at before p first nodes.old
-        → Reached sorts.now text.now at before nodes.new
-        (chain_from call_level p (tokens_of (drop first.next text.now))) result }
-{
-    let mut left = first;
-    loop {
-        let word = scanner::word_at(text, left.next);
-        let code = word.code;
-        if code != Word::TIMES {
-            return Parsed::Read(left);
+impl Level {
+    // Is this an operator of the level?
+    #[tactic(auto, unfolding(grammar::specs::Phrases::is_chained))]
+    fn groups(self, token: Token) -> bool
+        ensures { result ≡ is_chained (suc (operand_level self)) token }
+    {
+        match self {
+            Level::Product => matches!(token, Token::Times),
+            Level::Sum => is_sign(token),
+            Level::Conjunction => matches!(token, Token::And),
+            Level::Disjunction => matches!(token, Token::Or),
         }
-        let Parsed::Read(right) = call(text, sorts, nodes, word.next, left.end) else {
-            return Parsed::Refused;
-        };
-        left = composition::operated(nodes, from, code, left, right);
     }
 }
 
-// Plus and minus.
-#[cycle(arguments_call_conditional_conjunction_disjunction_negation_product_relation_signed_sum_whole)]
-fn sum(text: &[u8], sorts: &[u8], nodes: &mut [u64], first: Part, from: u16) -> Parsed
-    requires { Handed text.now sorts.now nodes.old from first }
-    ensures { (at : ℕ) (before : List ℕ) (p : Phrase) → length before ≡ from
-        → Stands sorts.now (length text.now) at before p first nodes.old
-        → Reached sorts.now text.now at before nodes.new
-        (chain_from product_level p (tokens_of (drop first.next text.now))) result }
+fn is_sign(token: Token) -> bool
+    ensures { result ≡ is_sign token }
 {
-    let mut left = first;
-    loop {
-        let word = scanner::word_at(text, left.next);
-        let code = word.code;
-        let goes_on = is_plus_or_minus(code);
-        if !goes_on {
-            return Parsed::Read(left);
+    matches!(token, Token::Plus | Token::Minus)
+}
+
+fn is_relation(token: Token) -> bool
+    ensures { result ≡ is_relation token }
+{
+    matches!(
+        token,
+        Token::Equal
+            | Token::Unequal
+            | Token::Less
+            | Token::LessOrEqual
+            | Token::Greater
+            | Token::GreaterOrEqual
+    )
+}
+
+impl Source<'_> {
+    // The first word from place `at` on.
+    fn word_at(&self, at: u16) -> Option<Word>
+        requires { at ≤ length self.now.text.now }
+        ensures { Scanned self.now.text.now at result }
+    {
+        scanner::word_at(self.text, at)
+    }
+
+    // The place after this token, where it stands next.
+    fn after(&self, token: Token, at: u16) -> Option<u16>
+        requires { (at ≤ length self.now.text.now) × (2 < ordinal token) }
+        ensures { Follows self.now.text.now token at result }
+    {
+        let word = self.word_at(at)?;
+        if word.token == token {
+            Some(word.next)
+        } else {
+            None
         }
-        let Parsed::Read(factor) = call(text, sorts, nodes, word.next, left.end) else {
-            return Parsed::Refused;
-        };
-        let Parsed::Read(right) = product(text, sorts, nodes, factor, left.end) else {
-            return Parsed::Refused;
-        };
-        left = composition::operated(nodes, from, code, left, right);
     }
-}
 
-// Signs.
-#[cycle(arguments_call_conditional_conjunction_disjunction_negation_product_relation_signed_sum_whole)]
-fn signed(text: &[u8], sorts: &[u8], nodes: &mut [u64], at: u16, end: u16) -> Parsed
-    requires { Place text.now sorts.now nodes.old at end }
-    ensures { Reached sorts.now text.now at (take end nodes.old) nodes.new
-        (read_level sign_level (tokens_of (drop at text.now))) result }
-{
-    let word = scanner::word_at(text, at);
-    let code = word.code;
-    let is_sign = is_plus_or_minus(code);
-    if is_sign {
-        let Parsed::Read(operand) = signed(text, sorts, nodes, word.next, end) else {
-            return Parsed::Refused;
-        };
-        return Parsed::Read(composition::prefixed(nodes, end, code, operand));
-    }
-    let Parsed::Read(factor) = call(text, sorts, nodes, at, end) else {
-        return Parsed::Refused;
-    };
-    let Parsed::Read(term) = product(text, sorts, nodes, factor, end) else {
-        return Parsed::Refused;
-    };
-    sum(text, sorts, nodes, term, end)
-}
-
-// Relations.
-#[cycle(arguments_call_conditional_conjunction_disjunction_negation_product_relation_signed_sum_whole)]
-fn relation(text: &[u8], sorts: &[u8], nodes: &mut [u64], first: Part, from: u16) -> Parsed
-    requires { Handed text.now sorts.now nodes.old from first }
-    ensures { (at : ℕ) (before : List ℕ) (p : Phrase) → length before ≡ from
-        → Stands sorts.now (length text.now) at before p first nodes.old
-        → Reached sorts.now text.now at before nodes.new
-        (related_by (λ k us. read_level k us) p (tokens_of (drop first.next text.now))) result }
-{
-    let word = scanner::word_at(text, first.next);
-    let code = word.code;
-    if code < Word::EQUAL {
-        return Parsed::Read(first);
-    }
-    if Word::GREATER_OR_EQUAL < code {
-        return Parsed::Read(first);
-    }
-    let Parsed::Read(right) = signed(text, sorts, nodes, word.next, first.end) else {
-        return Parsed::Refused;
-    };
-    Parsed::Read(composition::operated(nodes, from, code, first, right))
-}
-
-// Not.
-#[cycle(arguments_call_conditional_conjunction_disjunction_negation_product_relation_signed_sum_whole)]
-fn negation(text: &[u8], sorts: &[u8], nodes: &mut [u64], at: u16, end: u16) -> Parsed
-    requires { Place text.now sorts.now nodes.old at end }
-    ensures { Reached sorts.now text.now at (take end nodes.old) nodes.new
-        (read_level negation_level (tokens_of (drop at text.now))) result }
-{
-    let word = scanner::word_at(text, at);
-    let code = word.code;
-    if code == Word::NOT {
-        let Parsed::Read(operand) = negation(text, sorts, nodes, word.next, end) else {
-            return Parsed::Refused;
-        };
-        return Parsed::Read(composition::prefixed(nodes, end, code, operand));
-    }
-    let Parsed::Read(first) = signed(text, sorts, nodes, at, end) else {
-        return Parsed::Refused;
-    };
-    relation(text, sorts, nodes, first, end)
-}
-
-// And.
-#[cycle(arguments_call_conditional_conjunction_disjunction_negation_product_relation_signed_sum_whole)]
-fn conjunction(text: &[u8], sorts: &[u8], nodes: &mut [u64], first: Part, from: u16) -> Parsed
-    requires { Handed text.now sorts.now nodes.old from first }
-    ensures { (at : ℕ) (before : List ℕ) (p : Phrase) → length before ≡ from
-        → Stands sorts.now (length text.now) at before p first nodes.old
-        → Reached sorts.now text.now at before nodes.new
-        (chain_from negation_level p (tokens_of (drop first.next text.now))) result }
-{
-    let mut left = first;
-    loop {
-        let word = scanner::word_at(text, left.next);
-        let code = word.code;
-        if code != Word::AND {
-            return Parsed::Read(left);
+    // A number, a variable, true or false.
+    fn single(&self, nodes: &mut [Node], word: Word, end: u16) -> Option<Part>
+        requires { (end < length nodes.old) × (length nodes.old ≤ 400) }
+        ensures { (at : ℕ) → FirstWord self.now.text.now at word
+            → (word.token ≡ Open → ⊥) → (word.token ≡ Div → ⊥) → (word.token ≡ Mod → ⊥)
+            → Reached self.now at (take end nodes.old) nodes.new
+            (read_level call_level (tokens_of (drop at self.now.text.now))) result }
+    {
+        match word.token {
+            Token::Number(number) => Some(Part::numeral(nodes, end, number, word.next)),
+            Token::Variable(number) => {
+                Some(Part::variable(nodes, self.sorts, end, number, word.next))
+            }
+            Token::True => Some(Part::truth(nodes, end, 1, word.next)),
+            Token::False => Some(Part::truth(nodes, end, 0, word.next)),
+            _ => None,
         }
-        let Parsed::Read(right) = negation(text, sorts, nodes, word.next, left.end) else {
-            return Parsed::Refused;
-        };
-        left = composition::operated(nodes, from, code, left, right);
     }
-}
 
-// Or.
-#[cycle(arguments_call_conditional_conjunction_disjunction_negation_product_relation_signed_sum_whole)]
-fn disjunction(text: &[u8], sorts: &[u8], nodes: &mut [u64], first: Part, from: u16) -> Parsed
-    requires { Handed text.now sorts.now nodes.old from first }
-    ensures { (at : ℕ) (before : List ℕ) (p : Phrase) → length before ≡ from
-        → Stands sorts.now (length text.now) at before p first nodes.old
-        → Reached sorts.now text.now at before nodes.new
-        (chain_from conjunction_level p (tokens_of (drop first.next text.now))) result }
-{
-    let mut left = first;
-    loop {
-        let word = scanner::word_at(text, left.next);
-        let code = word.code;
-        if code != Word::OR {
-            return Parsed::Read(left);
+    // Single words, parentheses, calls.
+    #[cycle(reading)]
+    fn call(&self, nodes: &mut [Node], at: u16, end: u16) -> Option<Part>
+        requires { Place self.now nodes.old at end }
+        ensures { Reached self.now at (take end nodes.old) nodes.new
+            (read_level call_level (tokens_of (drop at self.now.text.now))) result }
+    {
+        let word = self.word_at(at)?;
+        match word.token {
+            Token::Open => {
+                let part = self.whole(nodes, word.next, end)?;
+                let next = self.after(Token::Close, part.next)?;
+                Some(part.enclosed(next))
+            }
+            Token::Div | Token::Mod => self.arguments(nodes, word.token, word.next, end),
+            _ => self.single(nodes, word, end),
         }
-        let Parsed::Read(operand) = negation(text, sorts, nodes, word.next, left.end) else {
-            return Parsed::Refused;
+    }
+
+    // The arguments of a call of div or mod.
+    #[cycle(reading)]
+    fn arguments(&self, nodes: &mut [Node], function: Token, at: u16, end: u16) -> Option<Part>
+        requires { Place self.now nodes.old at end }
+        ensures { Reached self.now at (take end nodes.old) nodes.new
+            (arguments_by (λ k us. read_level k us) function (tokens_of (drop at self.now.text.now))) result }
+    {
+        let opened = self.after(Token::Open, at)?;
+        let first = self.whole(nodes, opened, end)?;
+        let comma = self.after(Token::Comma, first.next)?;
+        let second = self.whole(nodes, comma, first.end)?;
+        let closed = self.after(Token::Close, second.next)?;
+        Some(first.called(nodes, end, function, second, closed))
+    }
+
+    // An operand of an operator of this level, but for the first one.
+    #[cycle(reading)]
+    fn operand(&self, nodes: &mut [Node], level: Level, at: u16, end: u16) -> Option<Part>
+        requires { Place self.now nodes.old at end }
+        ensures { Reached self.now at (take end nodes.old) nodes.new
+            (read_level (operand_level level) (tokens_of (drop at self.now.text.now))) result }
+    {
+        match level {
+            Level::Product => self.call(nodes, at, end),
+            Level::Sum => {
+                let factor = self.call(nodes, at, end)?;
+                self.product(nodes, factor, end)
+            }
+            Level::Conjunction => self.negation(nodes, at, end),
+            Level::Disjunction => {
+                let first = self.negation(nodes, at, end)?;
+                self.conjunction(nodes, first, end)
+            }
+        }
+    }
+
+    // Operators of this level, after a first operand.
+    #[cycle(reading)]
+    fn chain(&self, nodes: &mut [Node], level: Level, first: Part, from: u16) -> Option<Part>
+        requires { Handed self.now nodes.old from first }
+        ensures { (at : ℕ) (before : List Node) (p : Phrase) → length before ≡ from
+            → Stands self.now.sorts.now (length self.now.text.now) at before p first nodes.old
+            → Reached self.now at before nodes.new
+            (chain_from (operand_level level) p (tokens_of (drop first.next self.now.text.now))) result }
+    {
+        let mut left = first;
+        loop {
+            let Some(word) = self.word_at(left.next) else {
+                return Some(left);
+            };
+            if !level.groups(word.token) {
+                return Some(left);
+            }
+            let right = self.operand(nodes, level, word.next, left.end)?;
+            left = left.operated(nodes, from, word.token, right);
+        }
+    }
+
+    // Times, after a first operand.
+    #[cycle(reading)]
+    fn product(&self, nodes: &mut [Node], first: Part, from: u16) -> Option<Part>
+        requires { Handed self.now nodes.old from first }
+        ensures { (at : ℕ) (before : List Node) (p : Phrase) → length before ≡ from
+            → Stands self.now.sorts.now (length self.now.text.now) at before p first nodes.old
+            → Reached self.now at before nodes.new
+            (chain_from call_level p (tokens_of (drop first.next self.now.text.now))) result }
+    {
+        self.chain(nodes, Level::Product, first, from)
+    }
+
+    // Plus and minus, after a first operand.
+    #[cycle(reading)]
+    fn sum(&self, nodes: &mut [Node], first: Part, from: u16) -> Option<Part>
+        requires { Handed self.now nodes.old from first }
+        ensures { (at : ℕ) (before : List Node) (p : Phrase) → length before ≡ from
+            → Stands self.now.sorts.now (length self.now.text.now) at before p first nodes.old
+            → Reached self.now at before nodes.new
+            (chain_from product_level p (tokens_of (drop first.next self.now.text.now))) result }
+    {
+        self.chain(nodes, Level::Sum, first, from)
+    }
+
+    // And, after a first operand.
+    #[cycle(reading)]
+    fn conjunction(&self, nodes: &mut [Node], first: Part, from: u16) -> Option<Part>
+        requires { Handed self.now nodes.old from first }
+        ensures { (at : ℕ) (before : List Node) (p : Phrase) → length before ≡ from
+            → Stands self.now.sorts.now (length self.now.text.now) at before p first nodes.old
+            → Reached self.now at before nodes.new
+            (chain_from negation_level p (tokens_of (drop first.next self.now.text.now))) result }
+    {
+        self.chain(nodes, Level::Conjunction, first, from)
+    }
+
+    // Or, after a first operand.
+    #[cycle(reading)]
+    fn disjunction(&self, nodes: &mut [Node], first: Part, from: u16) -> Option<Part>
+        requires { Handed self.now nodes.old from first }
+        ensures { (at : ℕ) (before : List Node) (p : Phrase) → length before ≡ from
+            → Stands self.now.sorts.now (length self.now.text.now) at before p first nodes.old
+            → Reached self.now at before nodes.new
+            (chain_from conjunction_level p (tokens_of (drop first.next self.now.text.now))) result }
+    {
+        self.chain(nodes, Level::Disjunction, first, from)
+    }
+
+    // Signs.
+    #[cycle(reading)]
+    fn signed(&self, nodes: &mut [Node], at: u16, end: u16) -> Option<Part>
+        requires { Place self.now nodes.old at end }
+        ensures { Reached self.now at (take end nodes.old) nodes.new
+            (read_level sign_level (tokens_of (drop at self.now.text.now))) result }
+    {
+        let word = self.word_at(at)?;
+        if is_sign(word.token) {
+            let operand = self.signed(nodes, word.next, end)?;
+            return Some(operand.prefixed(nodes, end, word.token));
+        }
+        let factor = self.call(nodes, at, end)?;
+        let term = self.product(nodes, factor, end)?;
+        self.sum(nodes, term, end)
+    }
+
+    // A relation, after its first operand.
+    #[cycle(reading)]
+    fn relation(&self, nodes: &mut [Node], first: Part, from: u16) -> Option<Part>
+        requires { Handed self.now nodes.old from first }
+        ensures { (at : ℕ) (before : List Node) (p : Phrase) → length before ≡ from
+            → Stands self.now.sorts.now (length self.now.text.now) at before p first nodes.old
+            → Reached self.now at before nodes.new
+            (related_by (λ k us. read_level k us) p (tokens_of (drop first.next self.now.text.now))) result }
+    {
+        let Some(word) = self.word_at(first.next) else {
+            return Some(first);
         };
-        let Parsed::Read(right) = conjunction(text, sorts, nodes, operand, left.end) else {
-            return Parsed::Refused;
-        };
-        left = composition::operated(nodes, from, code, left, right);
+        if !is_relation(word.token) {
+            return Some(first);
+        }
+        let right = self.signed(nodes, word.next, first.end)?;
+        Some(first.operated(nodes, from, word.token, right))
+    }
+
+    // Not.
+    #[cycle(reading)]
+    fn negation(&self, nodes: &mut [Node], at: u16, end: u16) -> Option<Part>
+        requires { Place self.now nodes.old at end }
+        ensures { Reached self.now at (take end nodes.old) nodes.new
+            (read_level negation_level (tokens_of (drop at self.now.text.now))) result }
+    {
+        if let Some(next) = self.after(Token::Not, at) {
+            let operand = self.negation(nodes, next, end)?;
+            return Some(operand.prefixed(nodes, end, Token::Not));
+        }
+        let first = self.signed(nodes, at, end)?;
+        self.relation(nodes, first, end)
+    }
+
+    // If-then-else, and all others.
+    #[cycle(reading)]
+    fn whole(&self, nodes: &mut [Node], at: u16, end: u16) -> Option<Part>
+        requires { Place self.now nodes.old at end }
+        ensures { Reached self.now at (take end nodes.old) nodes.new
+            (read_level whole_level (tokens_of (drop at self.now.text.now))) result }
+    {
+        if let Some(next) = self.after(Token::If, at) {
+            return self.conditional(nodes, next, end);
+        }
+        let operand = self.negation(nodes, at, end)?;
+        let first = self.conjunction(nodes, operand, end)?;
+        self.disjunction(nodes, first, end)
+    }
+
+    // If-then-else, after `if`.
+    #[cycle(reading)]
+    fn conditional(&self, nodes: &mut [Node], at: u16, end: u16) -> Option<Part>
+        requires { Place self.now nodes.old at end }
+        ensures { Reached self.now at (take end nodes.old) nodes.new
+            (conditional_by (λ k us. read_level k us) (tokens_of (drop at self.now.text.now))) result }
+    {
+        let condition = self.whole(nodes, at, end)?;
+        let then = self.after(Token::Then, condition.next)?;
+        let first = self.whole(nodes, then, condition.end)?;
+        let otherwise = self.after(Token::Else, first.next)?;
+        let second = self.whole(nodes, otherwise, first.end)?;
+        Some(condition.chosen(nodes, end, first, second))
     }
 }
 
-// If-then-else, and all others.
-#[cycle(arguments_call_conditional_conjunction_disjunction_negation_product_relation_signed_sum_whole)]
-fn whole(text: &[u8], sorts: &[u8], nodes: &mut [u64], at: u16, end: u16) -> Parsed
-    requires { Place text.now sorts.now nodes.old at end }
-    ensures { Reached sorts.now text.now at (take end nodes.old) nodes.new
-        (read_level whole_level (tokens_of (drop at text.now))) result }
-{
-    let word = scanner::word_at(text, at);
-    if word.code == Word::IF {
-        return conditional(text, sorts, nodes, word.next, end);
-    }
-    let Parsed::Read(operand) = negation(text, sorts, nodes, at, end) else {
-        return Parsed::Refused;
-    };
-    let Parsed::Read(first) = conjunction(text, sorts, nodes, operand, end) else {
-        return Parsed::Refused;
-    };
-    disjunction(text, sorts, nodes, first, end)
-}
-
-// If-then-else, after `if`.
-#[cycle(arguments_call_conditional_conjunction_disjunction_negation_product_relation_signed_sum_whole)]
-fn conditional(text: &[u8], sorts: &[u8], nodes: &mut [u64], at: u16, end: u16) -> Parsed
-    requires { Place text.now sorts.now nodes.old at end }
-    ensures { Reached sorts.now text.now at (take end nodes.old) nodes.new
-        (conditional_by (λ k us. read_level k us) (tokens_of (drop at text.now))) result }
-{
-    let Parsed::Read(condition) = whole(text, sorts, nodes, at, end) else {
-        return Parsed::Refused;
-    };
-    let then = scanner::word_at(text, condition.next);
-    if then.code != Word::THEN {
-        return Parsed::Refused;
-    }
-    let Parsed::Read(first) = whole(text, sorts, nodes, then.next, condition.end) else {
-        return Parsed::Refused;
-    };
-    let otherwise = scanner::word_at(text, first.next);
-    if otherwise.code != Word::ELSE {
-        return Parsed::Refused;
-    }
-    let Parsed::Read(second) = whole(text, sorts, nodes, otherwise.next, first.end) else {
-        return Parsed::Refused;
-    };
-    Parsed::Read(composition::chosen(nodes, end, condition, first, second))
-}
-
-// The whole text. One with more opening than closing parentheses, or fewer, is refused beforehand: this halves the deepest
-// nesting that is read.
-pub fn parse(text: &[u8], sorts: &[u8], nodes: &mut [u64]) -> Parsed
+// The whole text; None where it is not in the grammar. One with more opening than closing parentheses, or fewer, is refused
+// beforehand: this halves the deepest nesting that is read.
+pub fn parse(text: &[u8], sorts: &[Sort], nodes: &mut [Node]) -> Option<Part>
     requires { Lent text.now sorts.now nodes.old }
     ensures { TextRead sorts.now nodes.new (phrase_of text.now) result }
 {
-    let balanced = scanner::is_balanced(text);
-    if !balanced {
-        return Parsed::Refused;
+    if !scanner::is_balanced(text) {
+        return None;
     }
-    let Parsed::Read(part) = whole(text, sorts, nodes, 0, 0) else {
-        return Parsed::Refused;
-    };
-    let word = scanner::word_at(text, part.next);
-    if word.code != Word::END {
-        return Parsed::Refused;
+    let source = Source { text, sorts };
+    let part = source.whole(nodes, 0, 0)?;
+    match source.word_at(part.next) {
+        Some(_) => None,
+        None => Some(part),
     }
-    Parsed::Read(part)
 }

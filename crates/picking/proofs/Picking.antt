@@ -2,7 +2,7 @@
 use mathlib.Core.Path.{◌≡◌, refl, sym, ap₂, ◌∙◌}
 use mathlib.Core.Bool.{true, false, cond}
 use mathlib.Core.List.{List}
-use mathlib.Core.Option.{Option, some, none}
+use Rattle.std.specs.Prelude.{Option, Some, None}
 use Prim.Native.Nat.{ℕ, suc, ◌+◌, ◌-◌, ◌≤◌, ◌<◌}
 use native.Mathlib.Numerals.{add-one}
 use native.Mathlib.Omega.{arith}
@@ -12,10 +12,13 @@ use lib.IntN.{ℤ}
 use lib.ListN.{length, take}
 use Rattle.model.specs.Check.{Verdict}
 use Rattle.model.specs.Check.Verdict.{refusal, accepted}
+use mathlib.Core.Logic.{inl, inr}
+use Rattle.results.specs.declared.refusal.Refusal.{Refusal}
+use Rattle.results.specs.Refusals.{number_of}
 use Rattle.semantics.specs.Meanings.{Meaning}
 use Rattle.standing.specs.Runs.{Run, Answer, answered}
 use Rattle.standing.specs.Runs.Answer.{refused, picked}
-use Rattle.standing.specs.Holding.{holds}
+use Rattle.standing.specs.Holding.{IsShort, holds}
 use Rattle.marking.specs.Marks.{mark_of, marks_from, marks_of}
 use Rattle.steps.specs.Answers.{on_file, on_file_answer}
 use Rattle.inspection.specs.Queries.{first_fireable, pick}
@@ -41,6 +44,16 @@ module _ (m : Meaning) (r : Run) where
       unfolding pick
       pick_done h t e = rw (le-ltb (length r.values) (length m.declarations) enough, le-ltb (length r.marks) m.transitions room, h, e)
 
+-- too few values or too few marks
+pub pick_measured : (m : Meaning) (r : Run) (transitions : ℕ) (rows : List (List ℤ)) → length rows ≡ length m.declarations → transitions ≡ m.transitions
+    → {e : Refusal} {n : ℕ} → n ≡ number_of e → IsShort transitions rows r e → refused n ≡ pick m r
+unfolding number_of
+pick_measured m r transitions rows declared counted k short =
+    elim short [
+      | inl h ↦ rw (k, h.0) (pick_short m r (omega (arith, declared, h.1)))
+      | inr h ↦ rw (k, h.0) (pick_few m r (omega (arith, declared, h.1)) (omega (arith, counted, h.2)))
+    ]
+
 -- ---- what the marks that are left come to
 
 module _ (m : Meaning) (values : List ℤ) (total : ℕ) where
@@ -49,18 +62,18 @@ module _ (m : Meaning) (values : List ℤ) (total : ℕ) where
   from_on i = first_fireable (marks_from m values i (total - i)) i
 
   module _ (i : ℕ) where
-    step : i < total → from_on i ≡ cond (eqb (mark_of (m.guard i values)) 1) (some i) (from_on (suc i))
+    step : i < total → from_on i ≡ cond (eqb (mark_of (m.guard i values)) 1) (Some i) (from_on (suc i))
     unfolding first_fireable marks_from
     step h = let e : total - i ≡ suc (total - suc i) = omega (arith, h) in rw e
 
     module _ (mark : ℕ) (marked : mark ≡ mark_of (m.guard i values)) (before : from_on 0 ≡ from_on i) where
-      pub found_here : i < total → mark ≡ 1 → some i ≡ from_on 0
+      pub found_here : i < total → mark ≡ 1 → Some i ≡ from_on 0
       found_here h e = sym (before ∙ step h ∙ rw (eq-eqb (mark_of (m.guard i values)) 1 (sym marked ∙ e)))
 
       pub go_on_lem : i < total → (mark ≡ 1 → ⊥) → from_on 0 ≡ from_on (i + 1)
       go_on_lem h n = rw (add-one i) (before ∙ step h ∙ rw (ne_eqb (mark_of (m.guard i values)) 1 (λ e. n (marked ∙ e))))
 
-    pub found_none : total ≤ i → from_on 0 ≡ from_on i → none ≡ from_on 0
+    pub found_none : total ≤ i → from_on 0 ≡ from_on i → None ≡ from_on 0
     unfolding first_fireable marks_from
     found_none h before = let e : total - i ≡ 0 = omega (arith, h) in sym (before ∙ rw e)
 

@@ -5,14 +5,14 @@
 ghost use Rattle.std.specs.Prelude.{◌≡◌, length};
 ghost use Rattle.model.specs.Check.{verdict};
 ghost use Rattle.engine.specs.Cells.{Loaded, OnLoaded};
-ghost use Rattle.standing.specs.Runs.{run};
+ghost use Rattle.standing.specs.Runs.{run_in};
 ghost use Rattle.steps.specs.Answers.{seen, on_file_answer};
 ghost use Rattle.inspection.specs.Queries as queries;
 
-use decoding::Prepared;
 use engine::transitions;
 use model::Model;
-use results::Found;
+use results::Refusal;
+use standing::Run;
 use steps::Answer;
 
 // 9, 10, 20, then the first transition whose guard is true, whatever the marks held; the guards after it are not looked at.
@@ -23,43 +23,35 @@ fn pick_loaded(
     variables: &[[i32; 3]],
     nexts: &[u16],
     guards: &[u16],
-    values: &[i32],
-    marks: &[u8],
-    history: &[u8],
-    n: usize,
+    run: &Run<'_>,
     cells: &mut [i64],
 ) -> Answer
     requires { Loaded loaded kinds.now parameters.now variables.now nexts.now guards.now × (length cells.old ≡ length variables.now) }
     ensures { OnLoaded loaded kinds.now parameters.now variables.now nexts.now guards.now (λ m.
-        seen result ≡ queries.pick m (run values.now marks.now history.now n)) }
+        seen result ≡ queries.pick m (run_in run.now)) }
 {
+    if let Err(refusal) = run.measure(guards.len(), variables) {
+        return Answer::Refused(refusal.number());
+    }
+    if !run.holds(guards.len(), variables) {
+        return Answer::Refused(Refusal::InvalidRun.number());
+    }
     let count = variables.len();
-    if values.len() < count {
-        return Answer::Refused(9);
-    }
-    if marks.len() < guards.len() {
-        return Answer::Refused(10);
-    }
-    if !standing::holds(guards.len(), variables, values, marks, history, n) {
-        return Answer::Refused(20);
-    }
-    propagation::overwrite(&values[..count], cells);
-    let mut transition = 0;
-    while transition < guards.len() {
+    propagation::overwrite(&run.values[..count], cells);
+    for transition in 0..guards.len() {
         let guard = transitions::guard(
             loaded, kinds, parameters, variables, nexts, guards, cells, transition,
         );
         if marking::mark_of(guard) == 1 {
-            return Answer::Picked(Found::At(transition));
+            return Answer::Picked(Some(transition));
         }
-        transition += 1;
     }
-    Answer::Picked(Found::Nothing)
+    Answer::Picked(None)
 }
 
 // The lowest transition whose guard is true, or none: decodes the model and works the guards out.
-pub fn pick(model: &[u8], values: &[i32], marks: &[u8], history: &[u8], n: usize) -> Answer
-    ensures { seen result ≡ on_file_answer (verdict model.now) (λ m. queries.pick m (run values.now marks.now history.now n)) }
+pub fn pick(model: &[u8], run: &Run<'_>) -> Answer
+    ensures { seen result ≡ on_file_answer (verdict model.now) (λ m. queries.pick m (run_in run.now)) }
 {
     let mut parameters = [0i32; Model::MAX_NODES];
     let mut variables = [[0i32; 3]; Model::MAX_VARIABLES];
@@ -73,8 +65,8 @@ pub fn pick(model: &[u8], values: &[i32], marks: &[u8], history: &[u8], n: usize
         &mut nexts,
         &mut guards,
     ) {
-        Prepared::Refused(number) => Answer::Refused(number),
-        Prepared::Ready(loaded) => {
+        Err(refusal) => Answer::Refused(refusal.number()),
+        Ok(loaded) => {
             let nodes = loaded.sizes.nodes;
             let count = loaded.sizes.states + loaded.sizes.flows;
             let transitions = loaded.sizes.transitions;
@@ -85,10 +77,7 @@ pub fn pick(model: &[u8], values: &[i32], marks: &[u8], history: &[u8], n: usize
                 &variables[..count],
                 &nexts[..nodes],
                 &guards[..transitions],
-                values,
-                marks,
-                history,
-                n,
+                run,
                 &mut cells[..count],
             )
         }

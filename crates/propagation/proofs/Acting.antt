@@ -1,4 +1,5 @@
 -- What the code makes of an action: gathered over blank cells, its values replace the old states.
+use Rattle.std.specs.Prelude.{Result, Ok, Err}
 use mathlib.Core.Path.{◌≡◌, refl, sym, ap, ap₂, ◌∙◌, fun_ext}
 use mathlib.Core.List.{List, [], ◌∷◌}
 use mathlib.Core.Option.{Option, some, none}
@@ -13,8 +14,6 @@ use Rattle.model.specs.Check.{action_scope}
 use Rattle.model.specs.Standing.{InstructionAt}
 use Rattle.interpreter.specs.declared.Fault.{Fault}
 use Rattle.interpreter.specs.declared.Gathered.{Gathered}
-use Rattle.semantics.specs.declared.Finding.{Finding}
-use Rattle.semantics.specs.declared.Finding.TheVariants.{Clear, Faulty}
 use Rattle.expressions.specs.Expressions.{known_from, nothing_known}
 use Rattle.interpreter.specs.Instructions.{effects, fault_of, given_to, first_of}
 use Rattle.semantics.specs.Actions.{cells, changed, acted_by, act}
@@ -42,12 +41,12 @@ element_of_take (suc n) (a ∷ l) (suc k) h = element_of_take n l k (le_of_suc-l
 
 -- ---- the states after the test of the fault
 
-module _ (o : Option Fault) (old given : List ℤ) (x : Finding) (found : x ≡ finding_of o) where
-  pub changed_faulty : (f : Fault) → x ≡ Faulty f → answered (Faulty f) old ≡ changed_by o old given
+module _ (o : Option Fault) (old given : List ℤ) (x : Result (Unit {0}) Fault) (found : x ≡ finding_of o) where
+  pub changed_faulty : (f : Fault) → x ≡ Err f → answered (Err f) old ≡ changed_by o old given
   unfolding changed_by
   changed_faulty f e = rw (finding_faulty o f (sym found ∙ e))
 
-  pub changed_clear : (new : List ℤ) → new ≡ replaced_by given old → x ≡ Clear → answered Clear new ≡ changed_by o old given
+  pub changed_clear : (new : List ℤ) → new ≡ replaced_by given old → x ≡ Ok tt → answered (Ok tt) new ≡ changed_by o old given
   unfolding changed_by
   changed_clear new e c = rw (finding_clear o (sym found ∙ c), e)
 

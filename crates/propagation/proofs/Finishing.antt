@@ -1,4 +1,5 @@
 -- The reading after the reset, over what still waits.
+use Rattle.std.specs.Prelude.{Result}
 use mathlib.Core.Path.{◌≡◌, refl, sym, ap, ◌∙◌}
 use mathlib.Core.Bool.{false}
 use mathlib.Core.List.{List, [], ◌∷◌, ◌++◌, append-nil, Memᴰ}
@@ -18,10 +19,10 @@ use Rattle.model.proofs.NodeLists.{nodes_within}
 use Rattle.model.proofs.NodeTrees.{instruction_size, instruction_nodes}
 use Rattle.expressions.specs.Expressions.{Valuation}
 use Rattle.expressions.specs.Cells.{valuation_of}
+use Rattle.interpreter.specs.declared.Fault.{Fault}
 use Rattle.interpreter.specs.declared.Gathered.{Gathered}
 use Rattle.interpreter.specs.Instructions.{any, effects, fault_of, first_of}
 use Rattle.interpreter.specs.Gathering.{gathering, gather_all, nothing_found, fault_in}
-use Rattle.semantics.specs.declared.Finding.{Finding}
 use Rattle.semantics.specs.Theorems.{Extends}
 use Rattle.semantics.specs.Propagation.{is_new}
 use Rattle.semantics.proofs.Effects.{faultless, given_at_rest}
@@ -40,7 +41,6 @@ use Rattle.waiting.proofs.Quiet.{Known, quiet_fault}
 use Rattle.waiting.proofs.Touched.{enough}
 use Rattle.waiting.proofs.Spots.{spot_scoped, spot_within}
 use Rattle.waiting.proofs.Waking.{positive, woken_begins, enough_read}
-use Rattle.rounds.specs.declared.Rest.{Rest}
 use Rattle.rounds.specs.Cells.{AssertionStands, finding_of}
 use Rattle.rounds.specs.Rounds.{Done, Waking, SomeWaking, StillWaking, Resting}
 use Rattle.rounds.proofs.Propagating.{length_variables}
@@ -99,7 +99,7 @@ first_some v o = refl
 
 -- ---- the reading
 
-module _ (ks : List ℕ) (ps : List ℤ) (nexts : List ℕ) (rows : List (List ℤ)) (at : ℕ) (cells cells' : List ℤ) (e : Rest) (waits : List ℕ)
+module _ (ks : List ℕ) (ps : List ℤ) (nexts : List ℕ) (rows : List (List ℤ)) (at : ℕ) (cells cells' : List ℤ) (count pending : ℕ) (waits : List ℕ)
     (reset : cells' ≡ filled (firsts_in rows) cells) (numbers : AllRepresentable (firsts_in rows)) (fits : length (firsts_in rows) ≤ length cells) (long : length waits ≡ length ks) where
   larger : Extends (valuation_of cells) (valuation_of cells')
   larger x v k =
@@ -107,8 +107,8 @@ module _ (ks : List ℕ) (ps : List ℤ) (nexts : List ℕ) (rows : List (List �
       ∙ first_some v (get_elem? (firsts_in rows) x)
 
   module _ (nf : Gathered) (nothing : nf ≡ nothing_found) (given : List ℤ) (same : given ≡ cells') (queue : List ℕ)
-      (a : AssertionStands ks ps nexts rows at) (b : Resting ks ps nexts rows at a cells waits e) where
-    begins : Waking ks ps nexts rows at cells' (e.count + 1) a (valuation_of cells) [] nf given 0 queue waits
+      (a : AssertionStands ks ps nexts rows at) (b : Resting ks ps nexts rows at a cells waits count pending) where
+    begins : Waking ks ps nexts rows at cells' (count + 1) a (valuation_of cells) [] nf given 0 queue waits
     unfolding effects_of_each instructions_of gather_all news_of
     begins =
         record {
@@ -116,35 +116,35 @@ module _ (ks : List ℕ) (ps : List ℤ) (nexts : List ℕ) (rows : List (List �
           later = omega arith;
           read = [];
           woken =
-              woken_begins a.system.assertion at (valuation_of cells) (valuation_of cells') (e.count + 1) waits
+              woken_begins a.system.assertion at (valuation_of cells) (valuation_of cells') (count + 1) waits
               (omega (arith, ends_within ks ps a.system.assertion at a.stands, long)) b.marked (λ p. omega (arith, b.stamps p));
           gathered = λ j. gathering (nothing j) (same j);
           news = refl;
         }
 
-    pub scan_begins : SomeWaking ks ps nexts rows at cells' (e.count + 1) nf given 0 queue waits
+    pub scan_begins : SomeWaking ks ps nexts rows at cells' (count + 1) nf given 0 queue waits
     scan_begins = record { stands = a; valuation = valuation_of cells; before = []; waking = begins }
 
     module _ (room : length rows ≤ length cells') (found' : Gathered) (given' : List ℤ) (queued' : ℕ) (queue' waits' : List ℕ) (pending' : ℕ)
-        (still : StillWaking ks ps nexts rows at cells' (e.count + 1) nf given 0 queue waits found' given' queued' queue' waits' pending')
-        (passed : (p : ℕ) → at ≤ p → p < length ks → Done (e.count + 1) waits' p) where
-      after : Waking ks ps nexts rows at cells' (e.count + 1) a (valuation_of cells) [] found' given' queued' queue' waits'
+        (still : StillWaking ks ps nexts rows at cells' (count + 1) nf given 0 queue waits found' given' queued' queue' waits' pending')
+        (passed : (p : ℕ) → at ≤ p → p < length ks → Done (count + 1) waits' p) where
+      after : Waking ks ps nexts rows at cells' (count + 1) a (valuation_of cells) [] found' given' queued' queue' waits'
       after = still.still a (valuation_of cells) [] begins
 
-      none_old : (s : Spot) → Memᴰ s (spots a.system.assertion (valuation_of cells) at) → Old (e.count + 1) (get_or waits' s.place 0)
+      none_old : (s : Spot) → Memᴰ s (spots a.system.assertion (valuation_of cells) at) → Old (count + 1) (get_or waits' s.place 0)
           → Untouched s.instruction (valuation_of cells) (valuation_of cells')
       none_old s m o =
           let w = spot_within (valuation_of cells) a.system.assertion at s m in
           absurd (passed s.place w.start (omega (arith, w.end, positive s.instruction, ends_within ks ps a.system.assertion at a.stands)) o)
 
-      pub finish_finds : {x : Finding} → x ≡ finding_of (fault_in found')
+      pub finish_finds : {x : Result (Unit {0}) Fault} → x ≡ finding_of (fault_in found')
           → x ≡ finding_of (fault_of (variables a.system) (valuation_of cells') (effects a.system.assertion (valuation_of cells')))
       finish_finds f =
           let vs = variables a.system in
           let sc = assertion_scope (sizes_of a.system) (variables a.system) in
           let many = row_count (variables a.system) a.rows_held in
           let alike = enough (waiting a.system.assertion (valuation_of cells)) (instructions_of after.read) (valuation_of cells) (valuation_of cells')
-          (enough_read a.system.assertion at (valuation_of cells) (valuation_of cells') (e.count + 1) larger after.later after.woken none_old) in
+          (enough_read a.system.assertion at (valuation_of cells) (valuation_of cells') (count + 1) larger after.later after.woken none_old) in
           f ∙ ap finding_of
           (ap (λ g. fault_in g.found) after.gathered
           ∙ fault_folded vs (low_ends vs a.rows_held) (high_ends vs a.rows_held) cells' (effects_of_each (instructions_of after.read) (valuation_of cells'))

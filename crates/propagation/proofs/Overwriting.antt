@@ -1,17 +1,16 @@
 -- A loop that goes over a list from the front, and makes each element that of another list, in place. After i turns the list is
 -- `partly new old i`. Then the lists that the loops of this crate make: values over cells, and `filled`.
 use mathlib.Core.Path.{◌≡◌, refl, sym, ap, ◌∙◌, subst}
-use mathlib.Core.Bool.{Bool, true, false, cond, ◌&&◌}
-use borrow.Author.Tests.{leb-true}
+use mathlib.Core.Bool.{Bool, true, false, cond}
 use mathlib.Core.List.{List, [], ◌∷◌, ◌++◌}
 use Prim.Native.Nat.{ℕ, zero, suc, ◌+◌, ◌≤◌, ◌<◌, ◌^◌}
 use native.Mathlib.Nat.{not-suc-le-zero, le_of_suc-le-suc}
 use native.Mathlib.Numerals.{add-one}
 use native.Mathlib.Omega.{arith}
-use lib.Dec.{T, leb}
-use lib.IntN.{ℤ, pos, negsuc}
+use lib.Dec.{T}
+use lib.IntN.{ℤ, pos}
 use lib.Signed.{mag}
-use lib.ListN.{length, take, drop, get_or, set, take-append-drop, drop_of_length-le, length-append, length-take, length-drop, get_or-append}
+use lib.ListN.{length, take, drop, get_or, set, take-append-drop, length-append, length-take, length-drop, get_or-append}
 use lib.Seq.{get_or-take, take-suc, drop-cons, set_at, get_or_at, append_snoc, drop-append_seam}
 use mir.Syntax.{w32, w64}
 use mir.Val.{to_z, of_z, SFits}
@@ -38,9 +37,6 @@ module _ {A : Type 0} (new old : List A) where
         ∙ sym (append_snoc (take i new) (get_or new i d) (drop (suc i) old)))
 
 module _ {A : Type 0} (new old : List A) (long : length new ≡ length old) where
-  pub length_partly : (i : ℕ) → length (partly new old i) ≡ length old
-  length_partly i = simp (length-append, length-take, length-drop) (omega arith)
-
   module _ (i : ℕ) (d : A) (within : i < length old) where
     below : i < length new
     below = omega arith
@@ -72,17 +68,11 @@ module _ (values cells : List ℤ) (fits : length values ≤ length cells) where
       e = omega arith
 
 module _ (values cells₀ cells : List ℤ) (i : ℕ) (fits : length values ≤ length cells₀) (is : cells ≡ partly (over values cells₀) cells₀ i) where
-  pub over_within : i < length values → i < length cells
-  over_within h = rw (is, length_partly (over values cells₀) cells₀ (length_over values cells₀ fits) i) (omega arith)
-
   pub over_again : i < length values → (x : ℤ) → x ≡ get_or values i (pos 0) → set cells i x ≡ partly (over values cells₀) cells₀ (i + 1)
   over_again h x e =
       rw is
       (partly_set (over values cells₀) cells₀ (length_over values cells₀ fits) i (pos 0) (omega arith) x
       (e ∙ sym (get_or-append values (drop (length values) cells₀) (pos 0) i h)))
-
-  pub over_long : length cells ≡ length cells₀
-  over_long = ap length is ∙ length_partly (over values cells₀) cells₀ (length_over values cells₀ fits) i
 
   pub over_done : length values ≤ i → i ≤ length values → cells ≡ over values cells₀
   over_done l u =
@@ -131,9 +121,6 @@ drop_filled (v ∷ values) (z ∷ cells) (suc i) l = drop_filled values cells i 
 
 -- the loop that fills cells
 module _ (values cells₀ cells : List ℤ) (i : ℕ) (is : cells ≡ partly (filled values cells₀) cells₀ i) where
-  pub filled_long : length cells ≡ length cells₀
-  filled_long = ap length is ∙ length_partly (filled values cells₀) cells₀ (length_filled values cells₀) i
-
   pub filled_done : length values ≤ i → cells ≡ filled values cells₀
   filled_done l =
       is ∙ partly_done (filled values cells₀) cells₀ (length_filled values cells₀) i (drop_filled values cells₀ i l)
@@ -157,25 +144,9 @@ module _ (values cells₀ cells : List ℤ) (i : ℕ) (is : cells ≡ partly (fi
 pub read_cell : (cells : List ℤ) (i : ℕ) → mag (get_or cells i (pos 0)) < 2 ^ 63 → to_z w64 (of_z w64 (get_or cells i (pos 0))) ≡ get_or cells i (pos 0)
 read_cell cells i f = to_z-of_z w64 (get_or cells i (pos 0)) (record { sfits = f })
 
--- what the test on a cell tells
-representable_fits : (z : ℤ) → representable z ≡ true → SFits w32 z
-representable_fits (pos n) e = record { sfits = omega (arith, leb-true n 2147483647 e) }
-representable_fits (negsuc n) e = record { sfits = omega (arith, leb-true n 2147483647 (sym (and_true (leb n 2147483647)) ∙ e)) }
-  where
-    and_true : (t : Bool) → (t && true) ≡ t
-    and_true true = refl
-    and_true false = refl
-
 module _ (cells : List ℤ) (i : ℕ) (f : mag (get_or cells i (pos 0)) < 2 ^ 63) {r : Bool} (e : r ≡ representable (to_z w64 (of_z w64 (get_or cells i (pos 0))))) where
   pub cell_tested : (t : Bool) → r ≡ t → representable (get_or cells i (pos 0)) ≡ t
   cell_tested t h = ap representable (sym (read_cell cells i f)) ∙ sym e ∙ h
-
-  module _ (h : r ≡ true) where
-    pub cell_fits : SFits w32 (to_z w64 (of_z w64 (get_or cells i (pos 0))))
-    cell_fits = representable_fits _ (sym e ∙ h)
-
-    pub cell_same : to_z w32 (of_z w32 (to_z w64 (of_z w64 (get_or cells i (pos 0))))) ≡ get_or cells i (pos 0)
-    cell_same = to_z-of_z w32 _ cell_fits ∙ read_cell cells i f
 
 -- the loop that replaces values: the values are the first of the filled cells
 abbrev pub replaced_by : List ℤ → List ℤ → List ℤ
@@ -190,14 +161,6 @@ module _ (cells values₀ values : List ℤ) (i : ℕ) (fits : length values₀ 
   get_d_replaced h = get_or-take (length values₀) (filled values₀ cells) i (pos 0) h ∙ get_d_filled values₀ cells i h (omega arith)
 
   module _ (is : values ≡ partly (replaced_by cells values₀) values₀ i) where
-    pub replaced_long : length values ≡ length values₀
-    replaced_long = ap length is ∙ length_partly (replaced_by cells values₀) values₀ length_replaced i
-
-    pub replaced_done : length values₀ ≤ i → values ≡ (replaced_by cells values₀)
-    replaced_done l =
-        is ∙ partly_done (replaced_by cells values₀) values₀ length_replaced i
-        (drop_of_length-le (replaced_by cells values₀) {i = i} (omega (arith, length_replaced)) ∙ sym (drop_of_length-le values₀ l))
-
     module _ (h : i < length values₀) where
       pub replaced_set : representable (get_or cells i (pos 0)) ≡ true → (x : ℤ) → x ≡ get_or cells i (pos 0)
           → set values i x ≡ partly (replaced_by cells values₀) values₀ (i + 1)

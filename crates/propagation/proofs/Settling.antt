@@ -1,5 +1,6 @@
 -- What the code makes of the assertion: the states over cells without numbers, the rounds, the first values, one more reading. The
 -- answer and the flows are those of `settle`.
+use Rattle.std.specs.Prelude.{Result, Ok, Err}
 use mathlib.Core.Path.{◌≡◌, refl, sym, ap, ◌∙◌, subst, fun_ext}
 use mathlib.Core.Bool.{Bool, true, false, cond}
 use mathlib.Core.List.{List, [], ◌∷◌, map}
@@ -13,10 +14,6 @@ use lib.Seq.{take_all, take-nil, get_or-drop, get_or-take}
 use Rattle.evaluation.specs.Numbers.{representable}
 use Rattle.model.specs.Trees.{variables}
 use Rattle.interpreter.specs.declared.Fault.{Fault}
-use Rattle.semantics.specs.declared.Finding.{Finding}
-use Rattle.semantics.specs.declared.Finding.TheVariants.{Clear, Faulty}
-use Rattle.semantics.specs.declared.Propagated.{Propagated}
-use Rattle.semantics.specs.declared.Propagated.TheVariants.{Refused, Settled}
 use Rattle.interpreter.specs.Instructions.{effects, fault_of, first_of}
 use Rattle.semantics.specs.Actions.{cells}
 use Rattle.semantics.specs.Propagation.{Settled as Settling, rounds, reset_by, finished_by, finish, settled_from, settle}
@@ -25,9 +22,6 @@ use Rattle.semantics.specs.Propagation.Settled.{refused, settled}
 use Rattle.semantics.proofs.Rounds.{rounds_bounded_tree}
 use Rattle.results.specs.Results.{Answered, answered, over}
 use Rattle.expressions.specs.Cells.{valuation_of}
-use Rattle.rounds.specs.declared.Rest.{Rest}
-use Rattle.rounds.specs.declared.Ended.{Ended}
-use Rattle.rounds.specs.declared.Ended.TheVariants.{Refused as Stopped, Rested}
 use Rattle.rounds.specs.Cells.{finding_of, reached_in}
 use Rattle.propagation.specs.Cells.{AllRepresentable, filled, flows_by_settling, CountWithin, PropagationStands}
 use Rattle.variables.specs.Rows.{firsts_in}
@@ -88,7 +82,7 @@ module _ {ks : List ℕ} {ps : List ℤ} {nexts : List ℕ} {rows : List (List �
 
   -- the reading after the reset, where the rounds have come to rest
   module _ (cells₂ : List ℤ) (count : ℕ) (long : length cells₂ ≡ length rows) (cells₃ : List ℤ) (reset : cells₃ ≡ filled (firsts_in rows) cells₂)
-      (numbers : AllRepresentable (firsts_in rows)) (x : Finding)
+      (numbers : AllRepresentable (firsts_in rows)) (x : Result (Unit {0}) Fault)
       (found : x ≡ finding_of (fault_of (variables p.assertion.system) (valuation_of cells₃) (effects p.assertion.system.assertion (valuation_of cells₃)))) where
     -- what the system settles to from there
     abbrev ends : Settling
@@ -109,8 +103,8 @@ module _ {ks : List ℕ} {ps : List ℤ} {nexts : List ℕ} {rows : List (List �
     unfolding settled_from finish
     finishes o q = rw (← reset_known, q)
 
-    pub refused_at_end : (f : Fault) → x ≡ Faulty f
-        → answered (Refused f) old ≡ flows_by_settling s old ends
+    pub refused_at_end : (f : Fault) → x ≡ Err f
+        → answered (Err f) old ≡ flows_by_settling s old ends
     unfolding flows_by_settling finished_by
     refused_at_end f q = rw (finishes (some f) (finding_faulty _ f (sym found ∙ q)))
 
@@ -120,7 +114,7 @@ module _ {ks : List ℕ} {ps : List ℤ} {nexts : List ℕ} {rows : List (List �
         (filled_cells (reset_by (variables p.assertion.system) (valuation_of cells₂)) (firsts_in rows) cells₂ 0 fits
         (λ k l. let z : 0 + k ≡ k = omega arith in rw z (reset_values k)))
 
-    settled_whole : x ≡ Clear → ends ≡ settled count (take (length rows) cells₃)
+    settled_whole : x ≡ Ok tt → ends ≡ settled count (take (length rows) cells₃)
     unfolding finished_by
     settled_whole q = finishes none (finding_clear _ (sym found ∙ q)) ∙ ap (settled count) settled_cells
 
@@ -131,25 +125,25 @@ module _ {ks : List ℕ} {ps : List ℤ} {nexts : List ℕ} {rows : List (List �
         rw (get_or-take (length rows - s) (drop s cells₃) y (pos 0) u, get_or-drop s cells₃ y (pos 0), reset)
         (filled_numbers (firsts_in rows) cells₂ numbers fits (s + y) (omega (arith, length_firsts, rows_cells)))
 
-    pub settled_at_end : (new : List ℤ) → new ≡ replaced_by (take (length rows - s) (drop s cells₃)) old → x ≡ Clear
-        → answered (Settled count) new ≡ flows_by_settling s old ends
+    pub settled_at_end : (new : List ℤ) → new ≡ replaced_by (take (length rows - s) (drop s cells₃)) old → x ≡ Ok tt
+        → answered (Ok count) new ≡ flows_by_settling s old ends
     unfolding flows_by_settling
     settled_at_end new q c =
-        rw (settled_whole c) (ap (answered (Settled count))
+        rw (settled_whole c) (ap (answered (Ok count))
         (q ∙ ap (take (length old)) (filled_all old _ part_numbers) ∙ take_all (length old) _ (omega (arith, length_part cells₂ cells₃ long reset))
         ∙ sym (drop_take s (length rows) cells₃)))
 
 module _ {ks : List ℕ} {ps : List ℤ} {nexts : List ℕ} {rows : List (List ℤ)} {at : ℕ} (ss old : List ℤ)
     (p : PropagationStands ks ps nexts rows at (length ss) (length old)) where
   -- the answer is that of `settle`, whatever stands there
-  abbrev Settles : Propagated → List ℤ → Type 0
+  abbrev Settles : Result ℕ Fault → List ℤ → Type 0
   Settles r new = (q : PropagationStands ks ps nexts rows at (length ss) (length old))
       → answered r new ≡ flows_by_settling (length ss) old (settle q.assertion.system ss)
 
   -- so its round count is bounded
-  pub counted_within : (r : Propagated) (new : List ℤ) → Settles r new → Settles r new × CountWithin (length old) r
+  pub counted_within : (r : Result ℕ Fault) (new : List ℤ) → Settles r new → CountWithin (length old) r
   unfolding flows_by_settling CountWithin
-  counted_within r new h = (h, subst (λ (a : Answered Propagated (List ℤ)). CountWithin (length old) a.answer) (sym (h p)) (by _ refl))
+  counted_within r new h = subst (λ (a : Answered (Result ℕ Fault) (List ℤ)). CountWithin (length old) a.answer) (sym (h p)) (by _ refl)
     where
       by : (s : Settling) → settle p.assertion.system ss ≡ s → CountWithin (length old) (flows_by_settling (length ss) old s).answer
       by (refused f) e = tt
@@ -159,23 +153,23 @@ module _ {ks : List ℕ} {ps : List ℤ} {nexts : List ℕ} {rows : List (List �
 
   -- the rounds were made over the states
   module _ (cells₁ cells₂ : List ℤ) (start : cells₁ ≡ over ss (replicate (length rows) unknown_cell)) (known : AllRepresentable ss)
-      (r : Ended) (made : reached_in r cells₂ ≡ rounds (variables p.assertion.system) p.assertion.system.assertion
+      (r : Result ℕ Fault) (made : reached_in r cells₂ ≡ rounds (variables p.assertion.system) p.assertion.system.assertion
       (suc (length p.assertion.system.flows)) 0 (valuation_of cells₁)) where
     settles : settle p.assertion.system ss ≡ settled_from (variables p.assertion.system) p.assertion.system.assertion (reached_in r cells₂)
     unfolding settle
     settles = rw (made, start, over_known ss (length rows) known)
 
-    pub refused_in_rounds : (f : Fault) → r ≡ Stopped f
-        → answered (Refused f) old ≡ flows_by_settling (length ss) old (settle p.assertion.system ss)
+    pub refused_in_rounds : (f : Fault) → r ≡ Err f
+        → answered (Err f) old ≡ flows_by_settling (length ss) old (settle p.assertion.system ss)
     unfolding flows_by_settling settled_from reached_in
     refused_in_rounds f e = rw (settles, e)
 
     -- what follows is what settles
-    pub rested_in_rounds : (e : Rest) → r ≡ Rested e → (x : Propagated) (new : List ℤ)
+    pub rested_in_rounds : (count : ℕ) → r ≡ Ok count → (x : Result ℕ Fault) (new : List ℤ)
         → answered x new
-        ≡ flows_by_settling (length ss) old (settled_from (variables p.assertion.system) p.assertion.system.assertion (reached e.count (valuation_of cells₂)))
+        ≡ flows_by_settling (length ss) old (settled_from (variables p.assertion.system) p.assertion.system.assertion (reached count (valuation_of cells₂)))
         → answered x new ≡ flows_by_settling (length ss) old (settle p.assertion.system ss)
     unfolding reached_in
-    rested_in_rounds e q x new h =
+    rested_in_rounds count q x new h =
         h
         ∙ ap (flows_by_settling (length ss) old) (sym (settles ∙ ap (λ r. settled_from (variables p.assertion.system) p.assertion.system.assertion (reached_in r cells₂)) q))

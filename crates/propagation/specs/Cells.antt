@@ -1,5 +1,5 @@
 -- How the code holds the states and flows of actions and of the assertion, and what it may ask of the nodes lent to it.
-use Rattle.std.specs.Prelude.{◌≡◌, cond, List, [], ◌∷◌, ℕ, suc, ◌≤◌, ◌<◌, ℤ, pos, T, length, get_or, take, drop}
+use Rattle.std.specs.Prelude.{◌≡◌, cond, List, [], ◌∷◌, ℕ, suc, ◌≤◌, ◌<◌, ℤ, pos, T, length, get_or, take, drop, Result, Ok, Err}
 use Rattle.std.proofs.Math.Option.{Option, some, none}
 use Rattle.evaluation.specs.Numbers.{representable}
 use Rattle.results.specs.Results.{Answered, answered}
@@ -10,10 +10,6 @@ use Rattle.model.specs.Check.{action_scope}
 use Rattle.variables.specs.Rows.{variable_rows}
 use Rattle.interpreter.specs.declared.Fault.{Fault}
 use Rattle.interpreter.specs.Cells.{NextPlaces}
-use Rattle.semantics.specs.declared.Finding.{Finding}
-use Rattle.semantics.specs.declared.Finding.TheVariants.{Clear, Faulty}
-use Rattle.semantics.specs.declared.Propagated.{Propagated}
-use Rattle.semantics.specs.declared.Propagated.TheVariants.{Refused, Settled}
 use Rattle.semantics.specs.Actions.{Acted}
 use Rattle.semantics.specs.Actions.Acted.{faulty, states as acted}
 use Rattle.semantics.specs.Propagation.{Settled as Settling}
@@ -36,24 +32,24 @@ filled (v ∷ values) [] = []
 filled (v ∷ values) (z ∷ cells) = cond (representable z) z v ∷ filled values cells
 
 -- the answer with the flows as they are left: those after so many states, the old ones where it is refused
-unfoldable pub flows_by_settling : ℕ → List ℤ → Settling → Answered Propagated (List ℤ)
-flows_by_settling states old (refused f) = answered (Refused f) old
-flows_by_settling states old (settled count new) = answered (Settled count) (drop states new)
+unfoldable pub flows_by_settling : ℕ → List ℤ → Settling → Answered (Result ℕ Fault) (List ℤ)
+flows_by_settling states old (refused f) = answered (Err f) old
+flows_by_settling states old (settled count new) = answered (Ok count) (drop states new)
 
 -- 01: "so it is at most F + 1"
-unfoldable pub CountWithin : ℕ → Propagated → Type 0
-CountWithin flows (Refused f) = Unit {0}
-CountWithin flows (Settled count) = (1 ≤ count) × (count ≤ suc flows)
+unfoldable pub CountWithin : ℕ → Result ℕ Fault → Type 0
+CountWithin flows (Err f) = Unit {0}
+CountWithin flows (Ok count) = (1 ≤ count) × (count ≤ suc flows)
 
 -- the answer with the states as they are left: where there is no fault those take their values that have one
-unfoldable pub changed_by : Option Fault → List ℤ → List ℤ → Answered Finding (List ℤ)
-changed_by (some f) old given = answered (Faulty f) old
-changed_by none old given = answered Clear (take (length old) (filled old given))
+unfoldable pub changed_by : Option Fault → List ℤ → List ℤ → Answered (Result (Unit {0}) Fault) (List ℤ)
+changed_by (some f) old given = answered (Err f) old
+changed_by none old given = answered (Ok tt) (take (length old) (filled old given))
 
 -- the answer with the states as they are left
-unfoldable pub states_by_acting : List ℤ → Acted → Answered Finding (List ℤ)
-states_by_acting old (faulty f) = answered (Faulty f) old
-states_by_acting old (acted new) = answered Clear new
+unfoldable pub states_by_acting : List ℤ → Acted → Answered (Result (Unit {0}) Fault) (List ℤ)
+states_by_acting old (faulty f) = answered (Err f) old
+states_by_acting old (acted new) = answered (Ok tt) new
 
 module _ (ks : List ℕ) (ps : List ℤ) where
   -- the assertion stands at the place, with as many cells for states and flows as there are

@@ -18,8 +18,9 @@ use Rattle.interpreter.specs.Instructions.Effect.{gives}
 use Rattle.interpreter.specs.Gathering.{gathering, gather}
 use Rattle.waiting.specs.News.{news_of, open_cells, Room}
 use Rattle.waiting.proofs.News.{one_given, set_opens}
+use Rattle.reading.specs.Readings.{held, giving}
 
-module _ (lows highs given : List ℤ) (queue : List ℕ) (x : ℕ) {v : ℤ} (f : SFits w32 v) (found : Gathered) (queued : ℕ)
+module _ (lows highs given : List ℤ) (queue waits : List ℕ) (x : ℕ) {v : ℤ} (f : SFits w32 v) (found : Gathered) (queued : ℕ)
     (g : mag (get_or given x (pos 0)) < 2 ^ 63) {t : Bool} (test : t ≡ representable (to_z w64 (of_z w64 (get_or given x (pos 0)))))
     {found' : Gathered} {given' : List ℤ} (e : gathering found' given' ≡ gather lows highs (gives x (to_z w32 (of_z w32 v))) (gathering found given)) (r : Room given queued queue) where
   told : {u : Bool} → t ≡ u → representable (get_or given x (pos 0)) ≡ u
@@ -28,19 +29,17 @@ module _ (lows highs given : List ℤ) (queue : List ℕ) (x : ℕ) {v : ℤ} (f
   gave : gathering found' given' ≡ gather lows highs (gives x v) (gathering found given)
   gave = e ∙ ap (λ z. gather lows highs (gives x z) (gathering found given)) (to_z-of_z w32 v f)
 
-  -- what `give` promises, of the queue as it is left
+  -- what is held once the value was given, and the room in the queue
   abbrev Gives : ℕ → List ℕ → Type 0
   Gives queued' queue' =
-      (gathering found' given' ≡ gather lows highs (gives x v) (gathering found given))
-      × (take queued' queue' ≡ take queued queue ++ news_of (gives x v ∷ []) given)
-      × Room given' queued' queue'
+      (held found' given' queued' queue' waits ≡ giving lows highs x v (held found given queued queue waits)) × Room given' queued' queue'
 
   pub known_given : t ≡ true → Gives queued queue
   unfolding news_of
   known_given k =
       let kept : given' ≡ given = ap (λ a. a.given) gave ∙ one_given lows highs x v (gathering found given) ∙ rw (told k) in
       let news : take queued queue ≡ take queued queue ++ news_of (gives x v ∷ []) given = rw (told k) (sym (append-nil (take queued queue))) in
-      (gave, news, subst (λ l. Room l queued queue) (sym kept) r)
+      (λ j. record { gathered = gave j; news = news j; waits = waits }, subst (λ l. Room l queued queue) (sym kept) r)
 
   module _ (k : t ≡ false) (l : x < length given) where
     opens : open_cells (set given x v) < open_cells given
@@ -56,4 +55,4 @@ module _ (lows highs given : List ℤ) (queue : List ℕ) (x : ℕ) {v : ℤ} (f
         let n : queued + 1 ≡ suc queued = omega arith in
         let news : take (queued + 1) (set queue queued x) ≡ take queued queue ++ news_of (gives x v ∷ []) given =
         ap (λ m. take m (set queue queued x)) n ∙ take-suc-set queue queued x room_left ∙ rw (told k) in
-        (gave, news, subst (λ l. Room l (queued + 1) (set queue queued x)) (sym now-set) (omega (arith, opens, r, length-set queue queued x)))
+        (λ j. record { gathered = gave j; news = news j; waits = waits }, subst (λ l. Room l (queued + 1) (set queue queued x)) (sym now-set) (omega (arith, opens, r, length-set queue queued x)))

@@ -1,6 +1,6 @@
--- Proofs of crate `reading`: what the functions are proved by.
+-- Proofs of crate `reading`: what the functions are proved by, and of the cells lent what the crates above cite.
+pub mod Cells
 mod Marking
-mod Noting
 mod Giving
 mod Walking
 mod Reading

@@ -1,13 +1,14 @@
 -- One mark: whether it is counted.
-use mathlib.Core.Path.{◌≡◌, refl, ap}
+use mathlib.Core.Path.{◌≡◌, refl}
+use mathlib.Core.Bool.{not}
 use Prim.Native.Nat.{ℕ, zero, suc}
+use native.Mathlib.Omega.{arith}
+use borrow.Author.Tests.{ne_eqb}
+use lib.Dec.{eqb}
+use mir.Val.{bool_byte}
 use Rattle.waiting.specs.Marks.{is_marked}
 
-pub unmarked : {r : ℕ} → r ≡ 0 → is_marked r ≡ 0
+pub is_counted : (r : ℕ) → bool_byte (not (eqb r 0)) ≡ is_marked r
 unfolding is_marked
-unmarked e = ap is_marked e
-
-pub one_mark : (r : ℕ) → (r ≡ 0 → ⊥) → is_marked r ≡ 1
-unfolding is_marked
-one_mark zero n = absurd (n refl)
-one_mark (suc r) n = refl
+is_counted zero = refl
+is_counted (suc r) = rw (ne_eqb (suc r) 0 (λ e. omega (arith, e)))

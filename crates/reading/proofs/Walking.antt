@@ -7,7 +7,7 @@ use Prim.Native.Nat.{ℕ, suc, ◌+◌, ◌-◌, ◌<◌, ◌^◌}
 use native.Mathlib.Omega.{arith}
 use lib.IntN.{ℤ, pos, nat_abs}
 use lib.Signed.{mag}
-use lib.ListN.{length, get_or, set, take}
+use lib.ListN.{length, get_or}
 use mir.Syntax.{w32}
 use mir.Val.{to_z, of_z}
 use types.Run.{OneOf, miss}
@@ -25,15 +25,12 @@ use Rattle.expressions.specs.Expressions.{Valuation, evaluate}
 use Rattle.expressions.specs.Cells.{ExpressionStands}
 use Rattle.expressions.proofs.Evaluating.{Told}
 use Rattle.interpreter.specs.Instructions.{assigned, under}
-use Rattle.interpreter.specs.Instructions.Effect.{gives}
 use Rattle.interpreter.specs.Cells.{NextPlaces, AssignmentStands, TestStands, TargetsBelow}
-use Rattle.interpreter.specs.Gathering.{gathering, gather, gather_all, at_once, due_after, chosen_branch}
+use Rattle.interpreter.specs.Gathering.{gather, gather_all, at_once, due_after, chosen_branch}
 use Rattle.interpreter.proofs.Due.{instruction_within}
-use Rattle.waiting.specs.declared.Progress.{Progress}
 use Rattle.waiting.specs.News.{news_of}
 use Rattle.waiting.specs.Marks.{mark_at_once, stamp_of}
-use Rattle.reading.specs.Readings.{found_by, Held, Walked, held, walked, walked_by}
-use Rattle.reading.proofs.Noting.{Notes}
+use Rattle.reading.specs.Readings.{found_by, Held, Walked, noted, giving, walked, walked_by}
 
 -- what is no value is unknown or failed
 abbrev all_but_value : List ℕ
@@ -72,96 +69,76 @@ module _ (ks : List ℕ) (ps : List ℤ) where
 
   -- ---- what they give
 
-  module _ (σ : Valuation) (at round : ℕ) (start : Progress) (waits : List ℕ) {r : Evaluated} (told : Told ks ps σ r (at + 1)) where
-    -- what `note` promises
-    abbrev Noted : Progress → List ℕ → Type 0
-    Noted = Notes at round start waits r.evaluation
+  module _ (σ : Valuation) (lows highs : List ℤ) (at round : ℕ) (start : Held) {r : Evaluated} (told : Told ks ps σ r (at + 1)) {now : Held} (noting : now ≡ noted r.evaluation at round start) where
+    -- one node done
+    abbrev Walks : Held → ℕ → ℕ → Instruction → Type 0
+    Walks after next due i = walked after next due ≡ walked_by lows highs σ at round i start
 
-    module _ (lows highs given : List ℤ) (queue : List ℕ) where
-      -- one node done
-      abbrev Walks : Progress → List ℤ → List ℕ → List ℕ → ℕ → ℕ → Instruction → Type 0
-      Walks after given' queue' waits' next due i =
-          walked (held after.found given' after.queued queue' waits') next due
-          ≡ walked_by lows highs σ at round i (held start.found given start.queued queue waits)
+    module _ (x : ℕ) (e : Expression) (h : InstructionAt ks ps (assign x e) at) where
+      place : r.next.at ≡ at + suc (size_of_expression e) - 0
+      unfolding InstructionAt
+      place = ap (λ r. r.next.at) (told e h.1) ∙ omega arith
 
-      module _ (x : ℕ) (e : Expression) (h : InstructionAt ks ps (assign x e) at) where
-        place : r.next.at ≡ at + suc (size_of_expression e) - 0
-        unfolding InstructionAt
-        place = ap (λ r. r.next.at) (told e h.1) ∙ omega arith
+      value : {v : Evaluation} → r.evaluation ≡ v → evaluate e σ ≡ v
+      unfolding InstructionAt
+      value p = sym (ap (λ r. r.evaluation) (told e h.1)) ∙ p
 
-        value : {v : Evaluation} → r.evaluation ≡ v → evaluate e σ ≡ v
-        unfolding InstructionAt
-        value p = sym (ap (λ r. r.evaluation) (told e h.1)) ∙ p
+    assigned_unknown : r.evaluation ≡ Unknown → (x : ℕ) (e : Expression) → InstructionAt ks ps (assign x e) at → Walks now r.next.at 0 (assign x e)
+    unfolding walked_by at_once due_after size_of size_of_all count gather_all assigned news_of mark_at_once stamp_of found_by
+    assigned_unknown p x e h = rw (noting, p, value x e h p, place x e h, append-nil start.news)
 
-      assigned_unknown : r.evaluation ≡ Unknown → {after : Progress} {waits' : List ℕ} → Noted after waits'
-          → (x : ℕ) (e : Expression) → InstructionAt ks ps (assign x e) at → Walks after given queue waits' r.next.at 0 (assign x e)
-      unfolding walked_by at_once due_after size_of size_of_all count gather_all assigned news_of mark_at_once stamp_of found_by
-      assigned_unknown p m x e h = rw (m.0, m.1, m.2, p, value x e h p, place x e h, append-nil (take start.queued queue))
+    assigned_failed : r.evaluation ≡ Failed → (x : ℕ) (e : Expression) → InstructionAt ks ps (assign x e) at → Walks now r.next.at 0 (assign x e)
+    unfolding walked_by at_once due_after size_of size_of_all count gather_all gather assigned news_of mark_at_once stamp_of found_by
+    assigned_failed p x e h = rw (noting, p, value x e h p, place x e h, append-nil start.news)
 
-      assigned_failed : r.evaluation ≡ Failed → {after : Progress} {waits' : List ℕ} → Noted after waits'
-          → (x : ℕ) (e : Expression) → InstructionAt ks ps (assign x e) at → Walks after given queue waits' r.next.at 0 (assign x e)
-      unfolding walked_by at_once due_after size_of size_of_all count gather_all gather assigned news_of mark_at_once stamp_of found_by
-      assigned_failed p m x e h = rw (m.0, m.1, m.2, p, value x e h p, place x e h, append-nil (take start.queued queue))
+    pub assigned_nothing : OneOf all_but_value (tag_of the_type r.evaluation) → (x : ℕ) (e : Expression) → InstructionAt ks ps (assign x e) at → Walks now r.next.at 0 (assign x e)
+    assigned_nothing k x e h = ⊎_elim (λ p. assigned_unknown p x e h) (λ p. assigned_failed p x e h) (no_value r.evaluation k)
 
-      pub assigned_nothing : OneOf all_but_value (tag_of the_type r.evaluation) → {after : Progress} {waits' : List ℕ} → Noted after waits'
-          → (x : ℕ) (e : Expression) → InstructionAt ks ps (assign x e) at → Walks after given queue waits' r.next.at 0 (assign x e)
-      assigned_nothing k m x e h = ⊎_elim (λ p. assigned_unknown p m x e h) (λ p. assigned_failed p m x e h) (no_value r.evaluation k)
+    pub assigned_value : {v : ℤ} → mag v < 2 ^ 31 → r.evaluation ≡ Value v → mag (get_or ps at (pos 0)) < 2 ^ 31
+        → {y : ℕ} → y ≡ nat_abs (to_z w32 (of_z w32 (get_or ps at (pos 0)))) → {after : Held} → after ≡ giving lows highs y (to_z w32 (of_z w32 v)) now
+        → (x : ℕ) (e : Expression) → InstructionAt ks ps (assign x e) at → Walks after r.next.at 0 (assign x e)
+    unfolding InstructionAt walked_by at_once due_after size_of size_of_all count gather_all assigned mark_at_once stamp_of found_by
+    assigned_value {v} f p g {y} k t x e h =
+        let q : y ≡ x = k ∙ ap nat_abs (read_back (get_or ps at (pos 0)) g ∙ h.0.parameter) in
+        rw (t, noting, q, read_back v f, p, value x e h p, place x e h)
 
-      pub assigned_value : {v : ℤ} → mag v < 2 ^ 31 → r.evaluation ≡ Value v → mag (get_or ps at (pos 0)) < 2 ^ 31
-          → {y : ℕ} → y ≡ nat_abs (to_z w32 (of_z w32 (get_or ps at (pos 0)))) → {now : Progress} {waits' : List ℕ} → Noted now waits' → (after : Progress) (queue' : List ℕ) {given' : List ℤ}
-          → gathering after.found given' ≡ gather lows highs (gives y (to_z w32 (of_z w32 v))) (gathering now.found given)
-          → take after.queued queue' ≡ take now.queued queue ++ news_of (gives y (to_z w32 (of_z w32 v)) ∷ []) given
-          → (x : ℕ) (e : Expression) → InstructionAt ks ps (assign x e) at → Walks after given' queue' waits' r.next.at 0 (assign x e)
-      unfolding InstructionAt walked_by at_once due_after size_of size_of_all count gather_all assigned mark_at_once stamp_of found_by
-      assigned_value {v} f p g {y} k {waits'} m after queue' {given'} t n x e h =
-          let q : y ≡ x = k ∙ ap nat_abs (read_back (get_or ps at (pos 0)) g ∙ h.0.parameter) in
-          let gs : gathering after.found given' ≡ gather_all lows highs (assigned x (evaluate e σ)) (gathering start.found given) =
-          t ∙ rw (q, read_back v f, m.1, p, value x e h p) in
-          let ns : take after.queued queue' ≡ take start.queued queue ++ news_of (assigned x (evaluate e σ)) given =
-          n ∙ rw (q, read_back v f, m.2, value x e h p) in
-          let ws : waits' ≡ set waits at (stamp_of (evaluate e σ) round) = m.0 ∙ rw (p, value x e h p) in
-          λ j. walked (record { gathered = gs j; news = ns j; waits = ws j }) (place x e h j) 0
+    module _ (c : Expression) (i : Instruction) (h : InstructionAt ks ps (if_then c i) at) where
+      body_place : r.next.at ≡ at + 1 + size_of_expression c
+      unfolding InstructionAt
+      body_place = ap (λ r. r.next.at) (told c h.1)
 
-      module _ (c : Expression) (i : Instruction) (h : InstructionAt ks ps (if_then c i) at) where
-        body_place : r.next.at ≡ at + 1 + size_of_expression c
-        unfolding InstructionAt
-        body_place = ap (λ r. r.next.at) (told c h.1)
+      body_due : r.next.at ≡ at + suc (size_of_expression c + size_of i) - (size_of i + 0)
+      body_due = body_place ∙ omega arith
 
-        body_due : r.next.at ≡ at + suc (size_of_expression c + size_of i) - (size_of i + 0)
-        body_due = body_place ∙ omega arith
+      condition : {v : Evaluation} → r.evaluation ≡ v → evaluate c σ ≡ v
+      unfolding InstructionAt
+      condition p = sym (ap (λ r. r.evaluation) (told c h.1)) ∙ p
 
-        condition : {v : Evaluation} → r.evaluation ≡ v → evaluate c σ ≡ v
-        unfolding InstructionAt
-        condition p = sym (ap (λ r. r.evaluation) (told c h.1)) ∙ p
+      place_past : (nexts : List ℕ) → NextPlaces ks ps nexts → get_or nexts r.next.at 0 ≡ at + suc (size_of_expression c + size_of i) - 0
+      unfolding InstructionAt
+      place_past nexts places = places.instruction i r.next.at (subst (λ n. InstructionAt ks ps i n) (sym body_place) h.2) ∙ omega (arith, body_place)
 
-        place_past : (nexts : List ℕ) → NextPlaces ks ps nexts → get_or nexts r.next.at 0 ≡ at + suc (size_of_expression c + size_of i) - 0
-        unfolding InstructionAt
-        place_past nexts places = places.instruction i r.next.at (subst (λ n. InstructionAt ks ps i n) (sym body_place) h.2) ∙ omega (arith, body_place)
+    pub tested_true : {v : ℤ} → r.evaluation ≡ Value v → eq_z v (boolean true) ≡ true
+        → (c : Expression) (i : Instruction) → InstructionAt ks ps (if_then c i) at → Walks now r.next.at 1 (if_then c i)
+    unfolding walked_by at_once due_after chosen_branch size_of size_of_all count gather_all under news_of mark_at_once stamp_of found_by
+    tested_true p t c i h = rw (noting, p, condition c i h p, t, body_due c i h, append-nil start.news)
 
-      module _ (nexts : List ℕ) (places : NextPlaces ks ps nexts) where
-        tested_unknown : r.evaluation ≡ Unknown → {after : Progress} {waits' : List ℕ} → Noted after waits'
-            → (c : Expression) (i : Instruction) → InstructionAt ks ps (if_then c i) at → Walks after given queue waits' (get_or nexts r.next.at 0) 0 (if_then c i)
-        unfolding walked_by at_once due_after chosen_branch size_of size_of_all count gather_all under news_of mark_at_once stamp_of found_by
-        tested_unknown p m c i h = rw (m.0, m.1, m.2, p, condition c i h p, place_past c i h nexts places, append-nil (take start.queued queue))
-
-        tested_failed : r.evaluation ≡ Failed → {after : Progress} {waits' : List ℕ} → Noted after waits'
-            → (c : Expression) (i : Instruction) → InstructionAt ks ps (if_then c i) at → Walks after given queue waits' (get_or nexts r.next.at 0) 0 (if_then c i)
-        unfolding walked_by at_once due_after chosen_branch size_of size_of_all count gather_all gather under news_of mark_at_once stamp_of found_by
-        tested_failed p m c i h = rw (m.0, m.1, m.2, p, condition c i h p, place_past c i h nexts places, append-nil (take start.queued queue))
-
-        pub tested_nothing : OneOf all_but_value (tag_of the_type r.evaluation) → {after : Progress} {waits' : List ℕ} → Noted after waits'
-            → (c : Expression) (i : Instruction) → InstructionAt ks ps (if_then c i) at → Walks after given queue waits' (get_or nexts r.next.at 0) 0 (if_then c i)
-        tested_nothing k m c i h = ⊎_elim (λ p. tested_unknown p m c i h) (λ p. tested_failed p m c i h) (no_value r.evaluation k)
-
-        pub tested_false : {v : ℤ} → r.evaluation ≡ Value v → eq_z v (boolean true) ≡ false → {after : Progress} {waits' : List ℕ} → Noted after waits'
-            → (c : Expression) (i : Instruction) → InstructionAt ks ps (if_then c i) at → Walks after given queue waits' (get_or nexts r.next.at 0) 0 (if_then c i)
-        unfolding walked_by at_once due_after chosen_branch size_of size_of_all count gather_all under news_of mark_at_once stamp_of found_by
-        tested_false p t m c i h = rw (m.0, m.1, m.2, p, condition c i h p, t, place_past c i h nexts places, append-nil (take start.queued queue))
-
-      pub tested_true : {v : ℤ} → r.evaluation ≡ Value v → eq_z v (boolean true) ≡ true → {after : Progress} {waits' : List ℕ} → Noted after waits'
-          → (c : Expression) (i : Instruction) → InstructionAt ks ps (if_then c i) at → Walks after given queue waits' r.next.at 1 (if_then c i)
+    module _ (nexts : List ℕ) (places : NextPlaces ks ps nexts) where
+      tested_unknown : r.evaluation ≡ Unknown → (c : Expression) (i : Instruction) → InstructionAt ks ps (if_then c i) at → Walks now (get_or nexts r.next.at 0) 0 (if_then c i)
       unfolding walked_by at_once due_after chosen_branch size_of size_of_all count gather_all under news_of mark_at_once stamp_of found_by
-      tested_true p t m c i h = rw (m.0, m.1, m.2, p, condition c i h p, t, body_due c i h, append-nil (take start.queued queue))
+      tested_unknown p c i h = rw (noting, p, condition c i h p, place_past c i h nexts places, append-nil start.news)
+
+      tested_failed : r.evaluation ≡ Failed → (c : Expression) (i : Instruction) → InstructionAt ks ps (if_then c i) at → Walks now (get_or nexts r.next.at 0) 0 (if_then c i)
+      unfolding walked_by at_once due_after chosen_branch size_of size_of_all count gather_all gather under news_of mark_at_once stamp_of found_by
+      tested_failed p c i h = rw (noting, p, condition c i h p, place_past c i h nexts places, append-nil start.news)
+
+      pub tested_nothing : OneOf all_but_value (tag_of the_type r.evaluation) → (c : Expression) (i : Instruction) → InstructionAt ks ps (if_then c i) at → Walks now (get_or nexts r.next.at 0) 0 (if_then c i)
+      tested_nothing k c i h = ⊎_elim (λ p. tested_unknown p c i h) (λ p. tested_failed p c i h) (no_value r.evaluation k)
+
+      pub tested_false : {v : ℤ} → r.evaluation ≡ Value v → eq_z v (boolean true) ≡ false
+          → (c : Expression) (i : Instruction) → InstructionAt ks ps (if_then c i) at → Walks now (get_or nexts r.next.at 0) 0 (if_then c i)
+      unfolding walked_by at_once due_after chosen_branch size_of size_of_all count gather_all under news_of mark_at_once stamp_of found_by
+      tested_false p t c i h = rw (noting, p, condition c i h p, t, place_past c i h nexts places, append-nil start.news)
 
   -- ---- any instruction, by its kind
 

@@ -1,5 +1,5 @@
 -- One reading of an instruction in a round: the effects gathered, the flows queued that become known, the marks of what waits.
-use Rattle.std.specs.Prelude.{List, ◌++◌, ℕ, ◌+◌, ◌-◌, ℤ, take}
+use Rattle.std.specs.Prelude.{◌≡◌, List, [], ◌∷◌, ◌++◌, ℕ, ◌+◌, ◌-◌, ℤ, length, take, set}
 use Rattle.evaluation.specs.declared.Evaluation.{Evaluation}
 use Rattle.evaluation.specs.declared.Evaluation.TheVariants.{Unknown, Failed, Value}
 use Rattle.model.specs.Trees.{Instruction, count}
@@ -7,9 +7,11 @@ use Rattle.model.specs.Standing.{size_of, size_of_all}
 use Rattle.expressions.specs.Expressions.{Valuation}
 use Rattle.interpreter.specs.declared.Gathered.{Gathered}
 use Rattle.interpreter.specs.Instructions.{effects}
-use Rattle.interpreter.specs.Gathering.{Gathering, gathering, failing, gather_all, at_once, due_after}
-use Rattle.waiting.specs.News.{news_of}
-use Rattle.waiting.specs.Marks.{marked, mark_at_once}
+use Rattle.interpreter.specs.Instructions.Effect.{gives}
+use Rattle.interpreter.specs.Gathering.{Gathering as Folded, gathering, failing, gather, gather_all, at_once, due_after}
+use Rattle.waiting.specs.News.{news_of, Room}
+use Rattle.waiting.specs.Marks.{marked, mark_at_once, mark_count, stamp_of}
+use Rattle.reading.specs.declared.Gathering.{Gathering}
 
 -- the flags, once an expression came to this
 unfoldable pub found_by : Evaluation → Gathered → Gathered
@@ -19,12 +21,41 @@ found_by (Value v) found = found
 
 -- what a reading changes: the flags and the values given, the flows queued so far, and the marks
 pub record Held : Type 0 where
-  pub gathered : Gathering
+  pub gathered : Folded
   pub news : List ℕ
   pub waits : List ℕ
 
 abbrev pub held : Gathered → List ℤ → ℕ → List ℕ → List ℕ → Held
 held found given queued queue waits = record { gathered = gathering found given; news = take queued queue; waits = waits }
+
+abbrev pub held_in : Gathering → Held
+held_in g = held g.found g.given.now g.queued g.queue.now g.waits.now
+
+-- the queue has room for every cell that is open, and the marks are counted
+abbrev pub Whole : Gathering → Type 0
+Whole g = Room g.given.now g.queued g.queue.now × (g.pending ≡ mark_count g.waits.now)
+
+-- the cells lent are the same ones still, and as many
+pub record SameCells (before after : Gathering) : Type 0 where
+  pub given : after.given.ghost_name ≡ before.given.ghost_name
+  pub queue : after.queue.ghost_name ≡ before.queue.ghost_name
+  pub waits : after.waits.ghost_name ≡ before.waits.ghost_name
+  pub given_length : length after.given.now ≡ length before.given.now
+  pub queue_length : length after.queue.now ≡ length before.queue.now
+  pub waits_length : length after.waits.now ≡ length before.waits.now
+
+-- a mark set at the place
+abbrev pub marking : ℕ → ℕ → Held → Held
+marking at stamp h = record { gathered = h.gathered; news = h.news; waits = set h.waits at stamp }
+
+-- the own expression of the instruction at the place came to this in round r
+abbrev pub noted : Evaluation → ℕ → ℕ → Held → Held
+noted v at r h = record { gathered = gathering (found_by v h.gathered.found) h.gathered.given; news = h.news; waits = set h.waits at (stamp_of v r) }
+
+-- a value given to a variable
+abbrev pub giving : List ℤ → List ℤ → ℕ → ℤ → Held → Held
+giving lows highs x v h =
+    record { gathered = gather lows highs (gives x v) h.gathered; news = h.news ++ news_of (gives x v ∷ []) h.gathered.given; waits = h.waits }
 
 -- the reading of an instruction that stands at the place, in round r
 unfoldable pub read_by : List ℤ → List ℤ → Valuation → ℕ → ℕ → Instruction → Held → Held

@@ -1,8 +1,9 @@
 -- A move over exactly the variables' cells comes to what it comes to over more cells; those past the variables stay.
+use Rattle.std.specs.Prelude.{Ok, Err}
 use mathlib.Core.Path.{◌≡◌, refl, sym, ap, ◌∙◌}
 use mathlib.Core.Bool.{Bool, true, false, cond, not, ◌||◌}
 use mathlib.Core.List.{List, [], ◌∷◌, ◌++◌, append-nil}
-use Prim.Native.Nat.{ℕ}
+use Prim.Native.Nat.{ℕ, ◌-◌}
 use native.Mathlib.Omega.{arith}
 use borrow.Author.Tests.{le-ltb}
 use lib.Dec.{ltb, eqb}
@@ -13,7 +14,7 @@ use Rattle.evaluation.specs.declared.Evaluation.{Evaluation}
 use Rattle.evaluation.specs.declared.Evaluation.TheVariants.{Unknown, Failed, Value}
 use Rattle.evaluation.specs.Numbers.{eq_z, boolean}
 use Rattle.results.specs.Results.{answered}
-use Rattle.semantics.specs.declared.Firing.TheVariants.{Disabled, Fired}
+use Rattle.semantics.specs.declared.NotFired.TheVariants.{Disabled}
 use Rattle.semantics.specs.Actions.{Acted}
 use Rattle.semantics.specs.Actions.Acted.{faulty, states}
 use Rattle.semantics.specs.Propagation.{Settled}
@@ -21,8 +22,9 @@ use Rattle.semantics.specs.Propagation.Settled.{refused, settled}
 use Rattle.semantics.specs.Meanings.{Meaning}
 use Rattle.semantics.specs.Firing.{Left, left_by_settling, left_by_acting, left_by_guard, fired, begun}
 use Rattle.replaying.specs.declared.Move.{Move}
+use Rattle.replaying.specs.declared.Move.TheVariants.{Start, Fire, Undo}
 use Rattle.replaying.specs.Replays.{is_fired, initial}
-use Rattle.replaying.specs.Moves.{is_beginning, entered, entries, fired_all, moved}
+use Rattle.replaying.specs.Moves.{fired_all, moved}
 use Rattle.replaying.proofs.Written.{Complete, fired_keeps, begun_keeps}
 
 module _ (m : Meaning) (complete : Complete m) (rest : List ℤ) where
@@ -38,7 +40,7 @@ module _ (m : Meaning) (complete : Complete m) (rest : List ℤ) where
         let size : length new ≡ length m.declarations = complete ss count new e in
         let full : new ++ drop (length new) a ≡ new =
         ap (λ k. new ++ k) (drop_of_length-le a {i = length new} (omega arith)) ∙ append-nil new in
-        ap (λ left. answered (Fired count) left)
+        ap (λ left. answered (Ok count) left)
         (ap (λ k. new ++ k) (drop_at a rest (length new) (h ∙ sym size)) ∙ ap (λ k. k ++ rest) (sym full))
 
     acting_longer : (x : Acted) → left_by_acting m (a ++ rest) x ≡ longer (left_by_acting m a x)
@@ -56,8 +58,8 @@ module _ (m : Meaning) (complete : Complete m) (rest : List ℤ) where
     guard_longer t (Value v) = rw used (go (eq_z v (boolean true)))
       where
         go : (b : Bool)
-            → cond b (left_by_acting m (a ++ rest) (m.action t (take (length m.declarations) a))) (answered Disabled (a ++ rest))
-            ≡ longer (cond b (left_by_acting m a (m.action t (take (length m.declarations) a))) (answered Disabled a))
+            → cond b (left_by_acting m (a ++ rest) (m.action t (take (length m.declarations) a))) (answered (Err Disabled) (a ++ rest))
+            ≡ longer (cond b (left_by_acting m a (m.action t (take (length m.declarations) a))) (answered (Err Disabled) a))
         go true = acting_longer (m.action t (take (length m.declarations) a))
         go false = refl
 
@@ -76,26 +78,13 @@ module _ (m : Meaning) (complete : Complete m) (rest : List ℤ) where
     begun_longer ss = rw (long, enough) (go (not (eqb (length ss) m.states)))
       where
         go : (b : Bool)
-            → cond (false || b) (answered Disabled (a ++ rest)) (left_by_settling (a ++ rest) (m.propagate ss))
-            ≡ longer (cond (false || b) (answered Disabled a) (left_by_settling a (m.propagate ss)))
+            → cond (false || b) (answered (Err Disabled) (a ++ rest)) (left_by_settling (a ++ rest) (m.propagate ss))
+            ≡ longer (cond (false || b) (answered (Err Disabled) a) (left_by_settling a (m.propagate ss)))
         go true = refl
         go false = settling_longer ss (m.propagate ss) refl
 
-    entered_longer : (s : Move) → entered m s (a ++ rest) ≡ longer (entered m s a)
-    entered_longer s = go (is_beginning s)
-      where
-        go : (b : Bool)
-            → cond b (begun m (initial m) (a ++ rest)) (answered (Fired 0) (a ++ rest))
-            ≡ longer (cond b (begun m (initial m) a) (answered (Fired 0) a))
-        go true = begun_longer (initial m)
-        go false = refl
-
-    entered_long : (s : Move) → length (entered m s a).left ≡ length m.declarations
-    entered_long s = go (is_beginning s)
-      where
-        go : (b : Bool) → length (cond b (begun m (initial m) a) (answered (Fired 0) a)).left ≡ length m.declarations
-        go true = (begun_keeps m complete (initial m) a).long ∙ h
-        go false = h
+    begun_long : (ss : List ℤ) → length (begun m ss a).left ≡ length m.declarations
+    begun_long ss = (begun_keeps m complete ss a).long ∙ h
 
   all_longer : (ts : List ℕ) (l : Left) → length l.left ≡ length m.declarations → fired_all m ts (longer l) ≡ longer (fired_all m ts l)
   unfolding fired_all
@@ -112,5 +101,9 @@ module _ (m : Meaning) (complete : Complete m) (rest : List ℤ) where
 
   pub moved_longer : (s : Move) (history : List ℕ) (n : ℕ) (a : List ℤ) → length a ≡ length m.declarations
       → moved m s history n (a ++ rest) ≡ longer (moved m s history n a)
-  moved_longer s history n a h =
-      ap (fired_all m (entries s history n)) (entered_longer a h s) ∙ all_longer (entries s history n) (entered m s a) (entered_long a h s)
+  unfolding moved
+  moved_longer Start history n a h = begun_longer a h (initial m)
+  moved_longer (Fire t) history n a h = fired_longer a h t
+  moved_longer Undo history n a h =
+      ap (fired_all m (take (n - 1) history)) (begun_longer a h (initial m))
+      ∙ all_longer (take (n - 1) history) (begun m (initial m) a) (begun_long a h (initial m))

@@ -9,7 +9,7 @@ use lib.IntN.{ℤ}
 use lib.ListN.{length, get_or, drop, drop_of_length-le}
 use lib.Seq.{drop-cons}
 use Rattle.results.specs.Results.{answered}
-use Rattle.semantics.specs.declared.Firing.{Firing}
+use Rattle.semantics.specs.Firing.{Firing}
 use Rattle.semantics.specs.Meanings.{Meaning}
 use Rattle.semantics.specs.Firing.{Left, fired}
 use Rattle.replaying.specs.Replays.{is_fired, go_on, refire}
@@ -17,7 +17,7 @@ use Rattle.replaying.specs.Moves.{fired_all}
 
 module _ (m : Meaning) where
   -- nothing follows what was refused
-  firing_stops : (ts : List ℕ) (f : Firing) (values : List ℤ) → is_fired f ≡ false → fired_all m ts (answered f values) ≡ answered f values
+  pub firing_stops : (ts : List ℕ) (f : Firing) (values : List ℤ) → is_fired f ≡ false → fired_all m ts (answered f values) ≡ answered f values
   unfolding fired_all
   firing_stops [] f values e = refl
   firing_stops (t ∷ ts) f values e = rw e

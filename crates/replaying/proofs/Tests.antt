@@ -35,7 +35,6 @@ each false b t = absurd t
 
 -- numbers that are all below t in a beginning of a list are so in a shorter one
 pub below_take : (t k n : ℕ) (ks : List ℕ) → k ≤ n → T (all_below t (take n ks)) → T (all_below t (take k ks))
-unfolding all_below
 below_take t zero n ks h b = tt
 below_take t (suc k) zero ks h b = absurd (not-suc-le-zero h)
 below_take t (suc k) (suc n) [] h b = tt

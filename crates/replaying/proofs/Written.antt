@@ -1,4 +1,5 @@
 -- What starting and firing leave of the cells: as many as before, and those past the variables as they were.
+use Rattle.std.specs.Prelude.{Ok}
 use mathlib.Core.Path.{◌≡◌, refl, ap, ◌∙◌}
 use mathlib.Core.List.{List}
 use Prim.Native.Nat.{ℕ, ◌+◌, ◌≤◌}
@@ -7,7 +8,6 @@ use lib.IntN.{ℤ}
 use lib.ListN.{length, drop, length-append, length-drop}
 use lib.Seq.{drop_at}
 use Rattle.results.specs.Results.{answered, over}
-use Rattle.semantics.specs.declared.Firing.TheVariants.{Fired}
 use Rattle.semantics.specs.Propagation.Settled.{settled}
 use Rattle.semantics.specs.Meanings.{Meaning}
 use Rattle.semantics.specs.Firing.{Left, fired, begun}
@@ -41,7 +41,7 @@ Keeps m old l = SameRest (length m.declarations) old l.left
 
 module _ (m : Meaning) (complete : Complete m) where
   settled_keeps : (old : List ℤ) → length m.declarations ≤ length old → (k : ℕ) (new ss : List ℤ) → m.propagate ss ≡ settled k new
-      → Keeps m old (answered (Fired k) (over new old))
+      → Keeps m old (answered (Ok k) (over new old))
   settled_keeps old enough k new ss e = rest_written (length m.declarations) old new (complete ss k new e) enough
 
   pub fired_keeps : (t : ℕ) (old : List ℤ) → Keeps m old (fired m t old)

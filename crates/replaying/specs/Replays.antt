@@ -1,18 +1,12 @@
 -- 01, take back: start and the first recorded transitions, fired again. Over the meaning of an accepted model.
-use Rattle.std.specs.Prelude.{Bool, true, false, cond, List, [], ◌∷◌, map, ℕ, ℤ, take}
+use Rattle.std.specs.Prelude.{Bool, cond, List, [], ◌∷◌, map, ℕ, ℤ, take, is_ok}
 use Rattle.std.proofs.Math.Option.{Option, some, none}
-use Rattle.semantics.specs.declared.Firing.{Firing}
-use Rattle.semantics.specs.declared.Firing.TheVariants.{Disabled, GuardFailed, ActionFault, AssertionFault, Fired}
 use Rattle.semantics.specs.Meanings.{Meaning}
-use Rattle.semantics.specs.Firing.{Left, fired, begun}
+use Rattle.semantics.specs.Firing.{Firing, Left, fired, begun}
 
 -- fired, not refused
-unfoldable pub is_fired : Firing → Bool
-is_fired Disabled = false
-is_fired GuardFailed = false
-is_fired (ActionFault f) = false
-is_fired (AssertionFault f) = false
-is_fired (Fired n) = true
+abbrev pub is_fired : Firing → Bool
+is_fired f = is_ok f
 
 -- the initial values of the states
 abbrev pub initial : Meaning → List ℤ

@@ -22,8 +22,8 @@ use Rattle.standing.specs.Runs as runs
 use Rattle.run.specs.Lists.{call}
 use Rattle.steps.specs.Answers.{seen}
 use Rattle.commands.specs.declared.Command.{Command}
-use Rattle.commands.specs.declared.Command.TheVariants.{Fire, Undo, Marks, Unknown}
-use Rattle.lines.specs.declared.Written.TheVariants.{Length, TooShort}
+use Rattle.commands.specs.declared.Command.TheVariants.{Fire, Undo, Marks}
+use Rattle.std.specs.Prelude.{Option, Some, None}
 use Rattle.lines.specs.Lines.{ok_text, back_text, marks_text, refusal_text, room, value_width, mark_width, Output, written_into, line_into}
 use Rattle.replies.specs.Replies.{Reply, run_text, look_text, no_command, run_reply, look_reply, reply, opening, is_accepted, is_started}
 use Rattle.replies.specs.Printing.{lacks_room, is_short, text_into, reply_into}
@@ -70,7 +70,7 @@ module _ {a : answer.Answer} {o : Output} (out : List ℕ) (values : List ℤ) (
 
 -- the other answers are none of start, fire and undo, by their tags
 pub run_other : (a : answer.Answer) (out : List ℕ) (values : List ℤ) → OneOf none_of_moves (tag_of the_type a)
-    → written_into (Length 0) out ≡ text_into (run_text (seen a) values) out
+    → written_into (Some 0) out ≡ text_into (run_text (seen a) values) out
 unfolding run_text seen
 run_other (Refused n) out values h = absurd (miss none_of_moves 0 tt h)
 run_other (Rounds n) out values h = absurd (miss none_of_moves 1 tt h)
@@ -93,7 +93,7 @@ module _ {a : answer.Answer} {o : Output} (out : List ℕ) (marks : List ℕ) (h
 
 -- the other answers are none of marks
 pub look_other : (a : answer.Answer) (out marks : List ℕ) → OneOf none_of_marks (tag_of the_type a)
-    → written_into (Length 0) out ≡ text_into (look_text (seen a) marks) out
+    → written_into (Some 0) out ≡ text_into (look_text (seen a) marks) out
 unfolding look_text seen
 look_other (Refused n) out marks h = absurd (miss none_of_marks 0 tt h)
 look_other (Rounds n) out marks h = refl
@@ -102,6 +102,10 @@ look_other (Number v) out marks h = refl
 look_other (Sizes z) out marks h = refl
 look_other (Picked f) out marks h = refl
 look_other (Outside c) out marks h = refl
+
+pub refused_accepted : {a : answer.Answer} {n : ℕ} → a ≡ Refused n → is_accepted (seen a) ≡ false
+unfolding is_accepted seen
+refused_accepted e = rw e
 
 -- what is not refused is accepted
 pub no_refusal : (a : answer.Answer) → OneOf all_but_refused (tag_of the_type a) → is_accepted (seen a) ≡ true
@@ -117,9 +121,9 @@ no_refusal (Outside c) h = refl
 -- ---- a slice that is too short: nothing is done
 
 module _ (out : List ℕ) (s : Store) (e : is_short out s ≡ true) where
-  pub short_reply : (r : Reply) → answered (written_into TooShort out) s ≡ reply_into out s r
+  pub short_reply : (r : Reply) → answered (written_into None out) s ≡ reply_into out s r
   unfolding reply_into
-  short_reply r = sym (ap (λ (b : Bool). cond b (answered (written_into TooShort out) s) (answered (text_into r.answer out) r.left)) e)
+  short_reply r = sym (ap (λ (b : Bool). cond b (answered (written_into None out) s) (answered (text_into r.answer out) r.left)) e)
 
   pub short_started : (b : Bool) → false ≡ (not (is_short out s) && b)
   short_started b = sym (ap (λ (x : Bool). not x && b) e)
@@ -129,7 +133,7 @@ module _ (out : List ℕ) (s : Store) (e : is_short out s ≡ true) where
 module _ (out : List ℕ) (s : Store) (e : is_short out s ≡ false) where
   pub replied_whole : (r : Reply) → reply_into out s r ≡ answered (text_into r.answer out) r.left
   unfolding reply_into
-  replied_whole r = ap (λ (b : Bool). cond b (answered (written_into TooShort out) s) (answered (text_into r.answer out) r.left)) e
+  replied_whole r = ap (λ (b : Bool). cond b (answered (written_into None out) s) (answered (text_into r.answer out) r.left)) e
 
   pub roomy_reply : {o : Output} {x : Reply} (y : Reply) → x ≡ y → o ≡ text_into x.answer out → answered o x.left ≡ reply_into out s y
   roomy_reply {o} {x} y q p =
@@ -140,21 +144,24 @@ module _ (out : List ℕ) (s : Store) (e : is_short out s ≡ false) where
 
 -- ---- commands
 
-module _ (m : List ℕ) (c : Command) (s : Store) where
-  pub unknown_reply : c ≡ Unknown → answered (refusal_text no_command) s ≡ reply m c s
+pub some_is : {o : Option Command} (c : Command) {d : Command} → o ≡ Some c → c ≡ d → o ≡ Some d
+some_is c e f = e ∙ ap (λ (x : Command). Some x) f
+
+module _ (m : List ℕ) (c : Option Command) (s : Store) where
+  pub unknown_reply : c ≡ None → answered (refusal_text no_command) s ≡ reply m c s
   unfolding reply
   unknown_reply e = sym (ap (λ x. reply m x s) e)
 
   module _ {a : Answer} {s' : Store} where
-    pub fire_reply : {t : ℕ} → c ≡ Fire t → runs.answered a s' ≡ call m (calls.Fire t) s → run_reply (runs.answered a s') ≡ reply m c s
+    pub fire_reply : {t : ℕ} → c ≡ Some (Fire t) → runs.answered a s' ≡ call m (calls.Fire t) s → run_reply (runs.answered a s') ≡ reply m c s
     unfolding reply
     fire_reply e p = ap run_reply p ∙ sym (ap (λ x. reply m x s) e)
 
-    pub undo_reply : c ≡ Undo → runs.answered a s' ≡ call m calls.Undo s → run_reply (runs.answered a s') ≡ reply m c s
+    pub undo_reply : c ≡ Some Undo → runs.answered a s' ≡ call m calls.Undo s → run_reply (runs.answered a s') ≡ reply m c s
     unfolding reply
     undo_reply e p = ap run_reply p ∙ sym (ap (λ x. reply m x s) e)
 
-    pub marks_reply : c ≡ Marks → runs.answered a s' ≡ call m calls.Marks s → look_reply (runs.answered a s') ≡ reply m c s
+    pub marks_reply : c ≡ Some Marks → runs.answered a s' ≡ call m calls.Marks s → look_reply (runs.answered a s') ≡ reply m c s
     unfolding reply
     marks_reply e p = ap look_reply p ∙ sym (ap (λ x. reply m x s) e)
 

@@ -1,9 +1,8 @@
 -- What the functions answer and leave in every cell lent. A slice that is too short for the longest line of the run is
 -- answered so, and nothing is done; else the text stands at the beginning of the slice and the cells from there on stay.
-use Rattle.std.specs.Prelude.{Bool, cond, ◌||◌, List, ℕ, ltb, length}
+use Rattle.std.specs.Prelude.{Some, None, Bool, cond, ◌||◌, List, ℕ, ltb, length}
 use Rattle.results.specs.Results.{Answered, answered, over}
 use Rattle.standing.specs.Runs.{Store}
-use Rattle.lines.specs.declared.Written.TheVariants.{Length, TooShort}
 use Rattle.lines.specs.Lines.{room, value_width, mark_width, Output, written_into}
 use Rattle.replies.specs.Replies.{Reply}
 
@@ -16,7 +15,7 @@ is_short out s = lacks_room (length out) (length s.run.values) (length s.buffer)
 
 -- a text at the beginning of a slice
 abbrev pub text_into : List ℕ → List ℕ → Output
-text_into text out = written_into (Length (length text)) (over text out)
+text_into text out = written_into (Some (length text)) (over text out)
 
 unfoldable pub reply_into : List ℕ → Store → Reply → Answered Output Store
-reply_into out s r = cond (is_short out s) (answered (written_into TooShort out) s) (answered (text_into r.answer out) r.left)
+reply_into out s r = cond (is_short out s) (answered (written_into None out) s) (answered (text_into r.answer out) r.left)

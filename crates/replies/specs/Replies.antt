@@ -1,13 +1,13 @@
 -- 01: "It prints a line for the start, then one per command: `ok`, round count, values; `back`, values; `m`, marks; or `no`, number."
 -- What is printed for a command and for the start, over the definitions of the calls.
-use Rattle.std.specs.Prelude.{Bool, true, false, List, [], ℕ, ℤ}
+use Rattle.std.specs.Prelude.{Option, Some, None, Bool, true, false, List, [], ℕ, ℤ}
 use Rattle.results.specs.Results.{Answered, answered}
 use Rattle.run.specs.declared.Call.TheVariants as calls
 use Rattle.standing.specs.Runs.{Store, Answer, Done}
 use Rattle.standing.specs.Runs.Answer.{refused, rounds, done, number, sizes, picked, outside}
 use Rattle.run.specs.Lists.{call}
 use Rattle.commands.specs.declared.Command.{Command}
-use Rattle.commands.specs.declared.Command.TheVariants.{Fire, Undo, Marks, Unknown}
+use Rattle.commands.specs.declared.Command.TheVariants.{Fire, Undo, Marks}
 use Rattle.lines.specs.Lines.{ok_text, back_text, marks_text, refusal_text}
 
 -- what is printed, with all that was lent as it is left
@@ -42,17 +42,17 @@ look_text (outside x looked) marks = []
 abbrev pub look_reply : Done Store → Reply
 look_reply d = answered (look_text d.answer d.left.buffer) d.left
 
--- ---- a command
+-- ---- a command, or a line that is none
 
 -- 13 "a line is no command"
 abbrev pub no_command : ℕ
 no_command = 13
 
-unfoldable pub reply : List ℕ → Command → Store → Reply
-reply m (Fire t) s = run_reply (call m (calls.Fire t) s)
-reply m Undo s = run_reply (call m calls.Undo s)
-reply m Marks s = look_reply (call m calls.Marks s)
-reply m Unknown s = answered (refusal_text no_command) s
+unfoldable pub reply : List ℕ → Option Command → Store → Reply
+reply m (Some (Fire t)) s = run_reply (call m (calls.Fire t) s)
+reply m (Some Undo) s = run_reply (call m calls.Undo s)
+reply m (Some Marks) s = look_reply (call m calls.Marks s)
+reply m None s = answered (refusal_text no_command) s
 
 -- ---- the start: "It stops after a refused start."
 

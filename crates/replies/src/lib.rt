@@ -13,32 +13,28 @@ ghost use Rattle.replies.specs.Replies.{run_text, look_text, reply, opening, is_
 ghost use Rattle.replies.specs.Printing.{lacks_room, is_short, text_into, reply_into};
 
 use commands::Command;
-use lines::Written;
 use run::Call;
 use steps::Answer;
 
 // 01's number of a line that is no command.
 const NO_COMMAND: u8 = 13;
 
-// The start: is the run started, and what is to be printed.
-#[derive(Clone, Copy)]
+// The start: is the run started, and how many bytes its line has; none, if there was no room for it.
+#[derive(Clone, Copy, PartialEq, Eq, Debug)]
 pub struct Opening {
     pub is_started: bool,
-    pub written: Written,
+    pub written: Option<usize>,
 }
 
 // Is a slice of this length too short for some line of a run with so many values, and so many marks to print?
 fn is_short(length: usize, values: usize, marks: usize) -> bool
     ensures { result ≡ lacks_room length values marks }
 {
-    if lines::is_short(length, Written::VALUE_WIDTH, values) {
-        return true;
-    }
-    lines::is_short(length, Written::MARK_WIDTH, marks)
+    lines::is_short::<i32>(length, values) || lines::is_short::<u8>(length, marks)
 }
 
 // The line of the answer of start, fire or undo. The other answers are none of theirs.
-fn run_line(answer: Answer, values: &[i32], out: &mut [u8]) -> Written
+fn run_line(answer: Answer, values: &[i32], out: &mut [u8]) -> Option<usize>
     ensures { room value_width (length values.now) ≤ length out.old
         → written_into result out.new ≡ text_into (run_text (seen answer) values.now) out.old }
 {
@@ -46,25 +42,25 @@ fn run_line(answer: Answer, values: &[i32], out: &mut [u8]) -> Written
         Answer::Refused(number) => lines::refusal_line(number, out),
         Answer::Rounds(count) => lines::ok_line(count, values, out),
         Answer::Done => lines::back_line(values, out),
-        _ => Written::Length(0),
+        _ => Some(0),
     }
 }
 
 // The line of the answer of marks. The other answers are none of its.
-fn look_line(answer: Answer, marks: &[u8], out: &mut [u8]) -> Written
+fn look_line(answer: Answer, marks: &[u8], out: &mut [u8]) -> Option<usize>
     ensures { room mark_width (length marks.now) ≤ length out.old
         → written_into result out.new ≡ text_into (look_text (seen answer) marks.now) out.old }
 {
     match answer {
         Answer::Refused(number) => lines::refusal_line(number, out),
         Answer::Done => lines::marks_line(marks, out),
-        _ => Written::Length(0),
+        _ => Some(0),
     }
 }
 
-// Carries out a command and writes its line.
+// Carries out a command, or refuses a line that is none, and writes its line.
 pub fn respond(
-    command: Command,
+    command: Option<Command>,
     model: &[u8],
     values: &mut [i32],
     marks: &mut [u8],
@@ -72,14 +68,17 @@ pub fn respond(
     n: &mut usize,
     buffer: &mut [u8],
     out: &mut [u8],
-) -> Written
+) -> Option<usize>
     ensures { answered (written_into result out.new) (store (run values.new marks.new history.new n.new) buffer.new)
         ≡ reply_into out.old (store (run values.old marks.old history.old n.old) buffer.old)
         (reply model.now command (store (run values.old marks.old history.old n.old) buffer.old)) }
 {
     if is_short(out.len(), values.len(), buffer.len()) {
-        return Written::TooShort;
+        return None;
     }
+    let Some(command) = command else {
+        return lines::refusal_line(NO_COMMAND, out);
+    };
     match command {
         Command::Fire(transition) => {
             let answer = run::perform(
@@ -101,7 +100,6 @@ pub fn respond(
             let answer = run::perform(Call::Marks, model, values, marks, history, n, buffer);
             look_line(answer, buffer, out)
         }
-        Command::Unknown => lines::refusal_line(NO_COMMAND, out),
     }
 }
 
@@ -109,10 +107,7 @@ pub fn respond(
 fn is_accepted(answer: Answer) -> bool
     ensures { result ≡ is_accepted (seen answer) }
 {
-    match answer {
-        Answer::Refused(_) => false,
-        _ => true,
-    }
+    !matches!(answer, Answer::Refused(_))
 }
 
 // The start and its line.
@@ -134,7 +129,7 @@ pub fn open(
     if is_short(out.len(), values.len(), buffer.len()) {
         return Opening {
             is_started: false,
-            written: Written::TooShort,
+            written: None,
         };
     }
     let answer = run::perform(Call::Start, model, values, marks, history, n, buffer);

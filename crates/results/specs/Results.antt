@@ -1,8 +1,5 @@
 -- What a function answers, with what it leaves in the cells that were lent to it. 01: a promise "covers every cell lent".
-use Rattle.std.specs.Prelude.{List, ◌++◌, ℕ, length, drop}
-use Rattle.std.proofs.Math.Option.{Option, some, none}
-use Rattle.results.specs.declared.Found.{Found}
-use Rattle.results.specs.declared.Found.TheVariants.{At, Nothing}
+use Rattle.std.specs.Prelude.{List, ◌++◌, length, drop}
 
 -- an answer with what is left of a thing that was lent
 pub record Answered (R A : Type 0) : Type 0 where
@@ -15,8 +12,3 @@ answered r a = record { answer = r; left = a }
 -- 01: "cells past a result stay": the first cells are these, and the cells from there on are as they were
 abbrev pub over : {A : Type 0} → List A → List A → List A
 over new old = new ++ drop (length new) old
-
--- where something was found, or none
-unfoldable pub found : Found → Option ℕ
-found (At x) = some x
-found Nothing = none

@@ -1,10 +1,7 @@
-// What the promises of several crates are made of, and an answer that they share. There are no functions.
+// What the promises of several crates are made of, and why a call is refused.
 
 #![tactic(auto)]
 
-// What was looked for: where it was found, or that there is none.
-#[derive(Clone, Copy)]
-pub enum Found {
-    At(usize),
-    Nothing,
-}
+mod refusal; // refusal.rt: why a call is refused
+
+pub use refusal::Refusal;

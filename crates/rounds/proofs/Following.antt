@@ -6,10 +6,9 @@ use Prim.Native.Nat.{ℕ, ◌+◌, ◌≤◌, ◌<◌}
 use native.Mathlib.Omega.{arith}
 use native.Mathlib.Nat.{eq-or-lt_of_le}
 use lib.IntN.{ℤ}
-use lib.ListN.{length, get_or}
+use lib.ListN.{length}
 use Rattle.waiting.specs.Marks.{mark_count}
 use Rattle.waiting.specs.Index.{Mention, First, OwnerOf, Owners}
-use Rattle.waiting.specs.Waking.{Passed}
 use Rattle.waiting.proofs.Counting.{none_counted}
 use Rattle.waiting.proofs.Mentions.{le_or_lt}
 use Rattle.rounds.specs.Rounds.{Done}
@@ -27,10 +26,6 @@ module _ (ks : List ℕ) (ps : List ℤ) (at x r : ℕ) where
     pub found : mention < length ks → Mention ks ps x mention
     pub done : (p o : ℕ) → at ≤ o → p < mention → Mention ks ps x p → OwnerOf ks p o → Done r waits o
 
-  pub following_begins : (waits : List ℕ) (first : ℕ) → First ks ps x at first → Following waits first
-  following_begins waits first f =
-      record { start = f.after; found = f.found; done = λ p o l u m w. absurd (f.least p (omega (arith, l, w.before)) u m) }
-
   module _ {waits : List ℕ} {mention : ℕ} (f : Following waits mention) {owner : ℕ → ℕ} (owners : Owners ks at (length ks) owner) (h : mention < length ks) where
     pub following_within : owner mention < length ks
     following_within = omega (arith, h, owners.within mention f.start h)
@@ -47,6 +42,3 @@ module _ (ks : List ℕ) (ps : List ℤ) (at x r : ℕ) where
               (λ g. keep o (f.done p o l g m k))
               (le_or_lt mention p);
         }
-
-  pub following_ends : {waits : List ℕ} {mention : ℕ} → Following waits mention → length ks ≤ mention → Passed ks ps at r waits x
-  following_ends f h p o l m w = f.done p o l (omega (arith, h, m.within)) m w

@@ -3,3 +3,4 @@ pub mod Propagating
 pub mod Following
 pub mod Visiting
 pub mod Turning
+pub mod Lent

@@ -1,5 +1,6 @@
 -- The rounds as the code makes them: each turn reads the assertion over the cells, and the rounds from there are those from the
 -- beginning. A turn that gives a new value leaves fewer cells without a number.
+use Rattle.std.specs.Prelude.{Ok, Err}
 use mathlib.Core.Path.{◌≡◌, refl, sym, ◌∙◌}
 use mathlib.Core.Bool.{true, false, true≢false}
 use mathlib.Core.List.{List}
@@ -13,7 +14,6 @@ use Rattle.model.specs.Trees.{System, variables}
 use Rattle.model.specs.WellFormed.{WellFormed, sizes_of}
 use Rattle.model.specs.Check.{assertion_scope}
 use Rattle.interpreter.specs.declared.Fault.{Fault}
-use Rattle.semantics.specs.declared.Finding.TheVariants.{Clear, Faulty}
 use Rattle.interpreter.specs.declared.Gathered.{Gathered}
 use Rattle.interpreter.specs.Instructions.{effects}
 use Rattle.semantics.specs.Propagation.{rounds, round_by}
@@ -33,12 +33,12 @@ use Rattle.waiting.proofs.Reading.{Gathers, gathers}
 
 -- ---- what the fault found tells
 
-pub finding_faulty : (o : Option Fault) (f : Fault) → finding_of o ≡ Faulty f → o ≡ some f
+pub finding_faulty : (o : Option Fault) (f : Fault) → finding_of o ≡ Err f → o ≡ some f
 unfolding finding_of
 finding_faulty none f e = let z : true ≡ false = cc in absurd (true≢false z)
 finding_faulty (some g) f e = cc
 
-pub finding_clear : (o : Option Fault) → finding_of o ≡ Clear → o ≡ none
+pub finding_clear : (o : Option Fault) → finding_of o ≡ Ok tt → o ≡ none
 unfolding finding_of
 finding_clear none e = refl
 finding_clear (some g) e = let z : true ≡ false = cc in absurd (true≢false z)

@@ -50,8 +50,7 @@ use Rattle.waiting.proofs.Mentions.{le_or_lt}
 use Rattle.waiting.proofs.Counting.{none_counted, none_marked}
 use Rattle.waiting.proofs.Waking.{positive, woken_begins, marked_after, enough_read, quiet_where_passed}
 use Rattle.reading.specs.Readings.{held, read_by}
-use Rattle.rounds.specs.declared.Rest.{Rest}
-use Rattle.rounds.specs.declared.Ended.TheVariants.{Refused, Rested}
+use Rattle.std.specs.Prelude.{Result, Ok, Err}
 use Rattle.rounds.specs.Cells.{AssertionStands, reached_in}
 use Rattle.rounds.specs.Rounds.{Pending, Queued, Waking, SomeWaking, StillWaking, Resting, Going, Between, Turn, Unread, Unsettled, Ready}
 use Rattle.rounds.proofs.Propagating.{going_begins, round_goes, round_rests, length_variables, rows_counted, assertion_gathers}
@@ -423,8 +422,8 @@ module _ {ks : List ℕ} {ps : List ℤ} {nexts : List ℕ} {rows : List (List �
 module _ {ks : List ℕ} {ps : List ℤ} {nexts : List ℕ} {rows : List (List ℤ)} {at : ℕ} {cells₀ cells given : List ℤ} {queue waits : List ℕ} {found : Gathered} {queued pending r done : ℕ}
     (t : Turn ks ps nexts rows at cells₀ cells given queue waits found queued pending r done) (a : AssertionStands ks ps nexts rows at) where
   pub turn_stops : (f : Fault) → fault_in found ≡ some f
-      → (reached_in (Refused f) cells ≡ rounds (variables a.system) a.system.assertion (suc (length a.system.flows)) 0 (valuation_of cells₀))
-      × ((e : Rest) → Refused f ≡ Rested e → Resting ks ps nexts rows at a cells waits e)
+      → (reached_in (Err f) cells ≡ rounds (variables a.system) a.system.assertion (suc (length a.system.flows)) 0 (valuation_of cells₀))
+      × ((count : ℕ) → ◌≡◌ {A = Result ℕ Fault} (Err f) (Ok count) → Resting ks ps nexts rows at a cells waits count pending)
   unfolding reached_in rounds round_by
   turn_stops f e =
       let b = t.between a in (
@@ -433,16 +432,15 @@ module _ {ks : List ℕ} {ps : List ℤ} {nexts : List ℕ} {rows : List (List �
       )
 
   pub turn_rests : fault_in found ≡ none → found.fresh ≡ false
-      → (reached_in (Rested (record { count = r; pending = pending })) cells
-      ≡ rounds (variables a.system) a.system.assertion (suc (length a.system.flows)) 0 (valuation_of cells₀))
-      × ((e : Rest) → Rested (record { count = r; pending = pending }) ≡ Rested e → Resting ks ps nexts rows at a cells waits e)
+      → (reached_in (Ok r) cells ≡ rounds (variables a.system) a.system.assertion (suc (length a.system.flows)) 0 (valuation_of cells₀))
+      × ((count : ℕ) → ◌≡◌ {A = Result ℕ Fault} (Ok r) (Ok count) → Resting ks ps nexts rows at a cells waits count pending)
   unfolding reached_in
   turn_rests e n =
       let b = t.between a in
       let q : r ≡ r - 1 + 1 = omega (arith, b.first) in (
         ap (λ m. reached m (valuation_of cells)) q
             ∙ round_rests a.system a.well_formed cells₀ cells (r - 1) b.going found given (now_gathers a b e) e n,
-        λ d z. subst (λ d. Resting ks ps nexts rows at a cells waits d) (same_rest z)
+        λ d z. subst (λ d. Resting ks ps nexts rows at a cells waits d pending) (same_count z)
             (record {
               clear = sym b.fault ∙ e;
               rest = sym b.fresh ∙ n;
@@ -453,5 +451,5 @@ module _ {ks : List ℕ} {ps : List ℤ} {nexts : List ℕ} {rows : List (List �
             }),
       )
     where
-      same_rest : {d e : Rest} → Rested d ≡ Rested e → d ≡ e
-      same_rest {d} {e} z = cc
+      same_count : {d e : ℕ} → ◌≡◌ {A = Result ℕ Fault} (Ok d) (Ok e) → d ≡ e
+      same_count {d} {e} z = cc

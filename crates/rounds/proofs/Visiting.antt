@@ -4,7 +4,7 @@ use mathlib.Core.Logic.{◌⊎◌, inl, inr, ⊎_elim}
 use mathlib.Core.Bool.{Bool, true, false}
 use mathlib.Core.List.Memᴰ
 use mathlib.Core.List.{List, [], ◌∷◌, ◌++◌, append-nil, append_assoc, Memᴰ}
-use Prim.Native.Nat.{ℕ, zero, suc, ◌+◌, ◌≤◌, ◌<◌}
+use Prim.Native.Nat.{ℕ, zero, suc, ◌+◌, ◌-◌, ◌≤◌, ◌<◌}
 use native.Mathlib.Omega.{arith}
 use native.Mathlib.Nat.{eq-or-lt_of_le}
 use borrow.Author.Tests.{eqb-true, eqb-false}
@@ -12,6 +12,7 @@ use lib.Dec.{eqb}
 use lib.IntN.{ℤ, pos}
 use lib.ListN.{length, get_or, set, take, drop, length-set, length-append, length-take, drop_of_length-le, get_or-append}
 use lib.Seq.{get_or-take, get_or-set_same, get_or-set_other, length-take-le, drop-cons, ext_get_or}
+use Rattle.std.proofs.lemmas.List.{drop-take, take_all, get_or-drop}
 use Rattle.model.specs.Trees.{Instruction, variables}
 use Rattle.model.specs.WellFormed.{sizes_of}
 use Rattle.model.specs.Check.{assertion_scope}
@@ -30,7 +31,6 @@ use Rattle.waiting.specs.News.{news_of, Room}
 use Rattle.waiting.specs.Marks.{marked, mark_count}
 use Rattle.waiting.specs.Index.{Mention}
 use Rattle.waiting.specs.Waking.{Old, Woken, Spotted, Passed}
-use Rattle.waiting.proofs.Mentions.{le_or_lt}
 use Rattle.waiting.proofs.Scoping.{targets_below}
 use Rattle.waiting.proofs.Spots.{spot_stands, spot_targets, spot_waits}
 use Rattle.waiting.proofs.Marks.{own_mark}
@@ -38,7 +38,7 @@ use Rattle.waiting.proofs.News.{news_append}
 use Rattle.waiting.proofs.Waking.{woken_reads, reading_keeps_done}
 use Rattle.reading.specs.Readings.{held, read_by}
 use Rattle.rounds.specs.Cells.{AssertionStands}
-use Rattle.rounds.specs.Rounds.{Pending, Done, Waking, SomeWaking, StillWaking}
+use Rattle.rounds.specs.Rounds.{Pending, Queued, Done, Waking, SomeWaking, StillWaking}
 use Rattle.rounds.proofs.Propagating.{rows_counted}
 
 -- the effects of one more
@@ -49,12 +49,6 @@ more_effects (r ∷ read) s τ =
     ap (λ l. effects r.instruction τ ++ l) (more_effects read s τ) ∙ sym (append_assoc (effects r.instruction τ) (effects_of_each (instructions_of read) τ) (effects s.instruction τ))
 
 module _ {ks : List ℕ} {ps : List ℤ} {nexts : List ℕ} {rows : List (List ℤ)} {at : ℕ} {cells : List ℤ} {r : ℕ} where
-  -- nothing was read
-  pub still_same : {found : Gathered} {given : List ℤ} {queued : ℕ} {queue waits : List ℕ} {pending : ℕ} → Room given queued queue → pending ≡ mark_count waits
-      → StillWaking ks ps nexts rows at cells r found given queued queue waits found given queued queue waits pending
-  still_same {found} {given} {queued} {queue} room counted =
-      record { still = λ a σ before w. w; done = λ p d. d; room = room; counted = counted; more = []; queue_kept = sym (append-nil (take queued queue)) }
-
   module _ {f₀ f₁ : Gathered} {g₀ g₁ : List ℤ} {n₀ n₁ : ℕ} {q₀ w₀ q₁ w₁ : List ℕ} {m₁ : ℕ} where
     -- one after the other
     pub still_then : {f₂ : Gathered} {g₂ : List ℤ} {n₂ : ℕ} {q₂ w₂ : List ℕ} {m₂ : ℕ}
@@ -240,12 +234,31 @@ module _ (queue : List ℕ) (queued : ℕ) (given cells : List ℤ) (k : ℕ) (w
       (λ m. let z : length (take queued queue) ≤ k = omega (arith, u, length-take-le queued queue within) in absurd (Memᴰ.not-nil (subst (λ l. Memᴰ y l) (drop_of_length-le (take queued queue) z) m)))
       (λ e. e) (pending.1 y))
 
+-- a part of the queue, by itself
+module _ (queue : List ℕ) (done queued : ℕ) (ordered : done ≤ queued) where
+  abbrev part : List ℕ
+  part = take (queued - done) (drop done queue)
+
+  part_is : part ≡ drop done (take queued queue)
+  part_is = sym (drop-take done (queued - done) queue) ∙ ap (λ n. drop done (take n queue)) (omega arith)
+
+  pub part_pending : (cells given : List ℤ) → Pending queue done queued cells given → Pending part 0 (length part) cells given
+  part_pending cells given p =
+      (p.0, λ y. ⊎_elim (λ m. inl (subst (λ l. Memᴰ y l) (sym (take_all (length part) part (omega arith) ∙ part_is)) m)) (λ e. inr e) (p.1 y))
+
+  pub part_queued : {n : ℕ} → Queued queue queued n → Queued part (length part) n
+  part_queued q = (
+    omega arith,
+    λ k h. let u : k < queued - done = omega (arith, h, length-take (queued - done) (drop done queue)) in
+        omega (arith, q.1 (done + k) (omega arith), get_or-take (queued - done) (drop done queue) k 0 u, get_or-drop done queue k 0),
+  )
+
 -- ---- everything from the assertion on
 
-pub scan_goes : (at r : ℕ) (waits waits' : List ℕ) (here next : ℕ) → ((p : ℕ) → at ≤ p → p < here → Done r waits p) → ((p : ℕ) → Done r waits p → Done r waits' p)
-    → Done r waits' here → ((p : ℕ) → here + 1 ≤ p → p < next → get_or waits' p 0 ≡ 0) → (p : ℕ) → at ≤ p → p < next → Done r waits' p
-scan_goes at r waits waits' here next f keep now none p l u =
-    ⊎_elim (λ h. ⊎_elim (λ e. subst (λ q. Done r waits' q) e now) (λ k o. o.set (none p (omega (arith, k)) u)) (eq-or-lt_of_le {n = here} {m = p} h)) (λ k. keep p (f p l k)) (le_or_lt here p)
+pub scan_goes : (at r : ℕ) (waits waits' : List ℕ) (here : ℕ) → ((p : ℕ) → at ≤ p → p < here → Done r waits p) → ((p : ℕ) → Done r waits p → Done r waits' p)
+    → Done r waits' here → (p : ℕ) → at ≤ p → p < here + 1 → Done r waits' p
+scan_goes at r waits waits' here f keep now p l u =
+    ⊎_elim (λ e. subst (λ q. Done r waits' q) (sym e) now) (λ h. keep p (f p l h)) (eq-or-lt_of_le {n = p} {m = here} (omega (arith, u)))
 
 -- ---- the flows in the queue
 

@@ -1,5 +1,5 @@
 -- How the code holds what the rounds come to, and what it may ask of the nodes lent to it.
-use Rattle.std.specs.Prelude.{◌≡◌, List, ℕ, ℤ}
+use Rattle.std.specs.Prelude.{◌≡◌, List, ℕ, ℤ, Result, Ok, Err}
 use Rattle.std.proofs.Math.Option.{Option, some, none}
 use Rattle.model.specs.Trees.{System, variables}
 use Rattle.model.specs.Standing.{InstructionAt}
@@ -8,21 +8,17 @@ use Rattle.variables.specs.Rows.{variable_rows}
 use Rattle.interpreter.specs.declared.Fault.{Fault}
 use Rattle.expressions.specs.Cells.{valuation_of}
 use Rattle.interpreter.specs.Cells.{NextPlaces}
-use Rattle.semantics.specs.declared.Finding.{Finding}
-use Rattle.semantics.specs.declared.Finding.TheVariants.{Clear, Faulty}
 use Rattle.semantics.specs.Propagation.{Reached}
 use Rattle.semantics.specs.Propagation.Reached.{stopped, reached}
-use Rattle.rounds.specs.declared.Ended.{Ended}
-use Rattle.rounds.specs.declared.Ended.TheVariants.{Refused, Rested}
 
-unfoldable pub finding_of : Option Fault → Finding
-finding_of none = Clear
-finding_of (some f) = Faulty f
+unfoldable pub finding_of : Option Fault → Result (Unit {0}) Fault
+finding_of none = Ok tt
+finding_of (some f) = Err f
 
 -- what the rounds came to, with the cells as they are left
-unfoldable pub reached_in : Ended → List ℤ → Reached
-reached_in (Refused f) cells = stopped f
-reached_in (Rested r) cells = reached r.count (valuation_of cells)
+unfoldable pub reached_in : Result ℕ Fault → List ℤ → Reached
+reached_in (Err f) cells = stopped f
+reached_in (Ok count) cells = reached count (valuation_of cells)
 
 -- the assertion of a well-formed system stands at the place, and the rows are those of its variables
 pub record AssertionStands (ks : List ℕ) (ps : List ℤ) (nexts : List ℕ) (rows : List (List ℤ)) (at : ℕ) : Type 0 where

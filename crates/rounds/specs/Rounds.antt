@@ -17,7 +17,6 @@ use Rattle.waiting.specs.Spots.{Spot, instructions_of}
 use Rattle.waiting.specs.News.{news_of, Room}
 use Rattle.waiting.specs.Marks.{mark_count}
 use Rattle.waiting.specs.Waking.{Old, Woken, Marked}
-use Rattle.rounds.specs.declared.Rest.{Rest}
 use Rattle.rounds.specs.Cells.{AssertionStands}
 
 -- every cell that the queue does not name from here on is as in `given`
@@ -70,13 +69,13 @@ module _ (ks : List ℕ) (ps : List ℤ) (nexts : List ℕ) (rows : List (List �
     pub queue_kept : take queued' queue' ≡ take queued queue ++ more
 
   -- the rounds have come to rest: no fault, nothing new, the marks are those of what waits, all of them of a round that was made
-  pub record Resting (a : AssertionStands ks ps nexts rows at) (cells : List ℤ) (waits : List ℕ) (e : Rest) : Type 0 where
+  pub record Resting (a : AssertionStands ks ps nexts rows at) (cells : List ℤ) (waits : List ℕ) (count pending : ℕ) : Type 0 where
     pub clear : fault_of (variables a.system) (valuation_of cells) (effects a.system.assertion (valuation_of cells)) ≡ none
     pub rest : any (is_new (valuation_of cells)) (effects a.system.assertion (valuation_of cells)) ≡ false
     pub marked : Marked a.system.assertion at (valuation_of cells) waits
-    pub stamps : (p : ℕ) → get_or waits p 0 ≤ e.count
-    pub counted : e.pending ≡ mark_count waits
-    pub bounded : e.count ≤ suc (length a.system.flows)
+    pub stamps : (p : ℕ) → get_or waits p 0 ≤ count
+    pub counted : pending ≡ mark_count waits
+    pub bounded : count ≤ suc (length a.system.flows)
 
 -- ---- between the rounds
 

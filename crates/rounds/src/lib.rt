@@ -2,328 +2,187 @@
 
 #![tactic(auto)]
 
-ghost use Rattle.std.specs.Prelude.{◌≡◌, ℕ, suc, ◌<◌, ◌≤◌, ℤ, length, get_or, take, drop, replicate};
+ghost use Rattle.std.specs.Prelude.{◌≡◌, ℕ, suc, ◌<◌, ◌≤◌, ℤ, length, take, drop, replicate};
 ghost use mathlib.Core.List.{List, Memᴰ};
 ghost use Rattle.model.specs.Trees as trees;
 ghost use Rattle.interpreter.specs.Gathering.{fault_in};
 ghost use Rattle.expressions.specs.Cells.{valuation_of};
 ghost use Rattle.semantics.specs.Propagation as propagation_specs;
-ghost use Rattle.waiting.specs.Index.{Indexed};
 ghost use Rattle.waiting.specs.Waking.{Passed};
-ghost use Rattle.rounds.specs.Cells.{AssertionStands, finding_of, reached_in};
-ghost use Rattle.rounds.specs.Rounds.{Pending, Queued, Done, Fitting, SomeWaking, StillWaking, Resting, Turn, Ready, SomeReady};
+ghost use Rattle.reading.specs.Readings.{SameCells};
+ghost use Rattle.rounds.specs.Cells.{finding_of, reached_in};
+ghost use Rattle.rounds.specs.Rounds.{Pending, Queued, Done};
+ghost use Rattle.rounds.specs.Lent.{AssertionHeld, IndexHeld, FittingIn, SomeWakingIn, StillWakingIn, RestingIn, TurnIn, ReadyIn, SomeReadyIn};
 
-use interpreter::{Fault, Gathered, instructions};
-use semantics::Finding;
-use waiting::Progress;
-
-// Where the rounds came to rest: how many were made, and how many instructions still wait.
-#[derive(Clone, Copy)]
-pub struct Rest {
-    pub count: usize,
-    pub pending: usize,
-}
-
-// What the rounds came to: a fault, or rest.
-#[derive(Clone, Copy)]
-pub enum Ended {
-    Refused(Fault),
-    Rested(Rest),
-}
+use interpreter::{Fault, Gathered};
+use reading::Gathering;
+use tables::{Index, Tables};
 
 // The fault found, the lowest class first.
-pub fn fault_in(found: Gathered) -> Finding
+pub fn fault_in(found: Gathered) -> Result<(), Fault>
     ensures { result ≡ finding_of (fault_in found) }
 {
     if found.failed {
-        return Finding::Faulty(Fault::Failure);
+        return Err(Fault::Failure);
     }
     if found.outside {
-        return Finding::Faulty(Fault::Outside);
+        return Err(Fault::Outside);
     }
     if found.conflict {
-        return Finding::Faulty(Fault::Conflict);
+        return Err(Fault::Conflict);
     }
-    Finding::Clear
+    Ok(())
 }
 
-// The cells of the queued flows become what was given.
-fn apply(queue: &[u16], done: usize, queued: usize, given: &[i64], cells: &mut [i64])
-    requires { Pending queue.now done queued cells.old given.now × Queued queue.now queued (length given.now) × (done ≤ queued) }
-    ensures { cells.new ≡ given.now }
+// The cells of the flows in the queue from `done` on become what was given.
+fn apply(gathering: &Gathering<'_>, done: usize, cells: &mut [i64])
+    requires { Pending gathering.now.queue.now done gathering.now.queued cells.old gathering.now.given.now
+        × Queued gathering.now.queue.now gathering.now.queued (length gathering.now.given.now) × (done ≤ gathering.now.queued) }
+    ensures { cells.new ≡ gathering.now.given.now }
 {
-    let mut k = done;
-    while k < queued {
-        let x = queue[k] as usize;
-        cells[x] = given[x];
-        k += 1;
+    for flow in &gathering.queue[done..gathering.queued] {
+        let x = usize::from(*flow);
+        cells[x] = gathering.given[x];
     }
-}
-
-// The first place from here on with a mark, or past all of them.
-fn next_marked(waits: &[u16], from: usize) -> usize
-    ensures { (from ≤ result) × ((p : ℕ) → from ≤ p → p < result → get_or waits.now p 0 ≡ 0) }
-{
-    let mut here = from;
-    while here < waits.len() {
-        if waits[here] != 0 {
-            return here;
-        }
-        here += 1;
-    }
-    here
 }
 
 // The instruction at the place is read, if it waits since an earlier round.
-fn visit(
-    kinds: &[u8],
-    parameters: &[i32],
-    nexts: &[u16],
-    variables: &[[i32; 3]],
-    assertion: usize,
-    cells: &[i64],
-    given: &mut [i64],
-    queue: &mut [u16],
-    waits: &mut [u16],
-    start: Progress,
-    round: u16,
-    at: usize,
-) -> Progress
-    requires { SomeWaking kinds.now parameters.now nexts.now variables.now assertion cells.now round start.found given.old start.queued queue.old waits.old
-        × Fitting kinds.now parameters.now nexts.now variables.now assertion cells.now given.old start.queued queue.old waits.old start.pending × (at < length kinds.now) }
-    ensures { StillWaking kinds.now parameters.now nexts.now variables.now assertion cells.now round
-        start.found given.old start.queued queue.old waits.old result.found given.new result.queued queue.new waits.new result.pending
-        × Done round waits.new at }
+fn visit(tables: &Tables<'_>, cells: &[i64], gathering: &mut Gathering<'_>, round: u16, at: usize)
+    requires { SomeWakingIn tables.now cells.now round gathering.old × FittingIn tables.now cells.now gathering.old × (at < length tables.now.kinds.now) }
+    ensures still { StillWakingIn tables.now cells.now round gathering.old gathering.new }
+    ensures done { Done round gathering.new.waits.now at }
+    ensures same { SameCells gathering.old gathering.new }
 {
-    let stamp = waits[at];
+    let stamp = gathering.waits[at];
     if stamp == 0 {
-        return start;
+        return;
     }
     if stamp == round {
-        return start;
+        return;
     }
-    reading::gather(
-        kinds, parameters, nexts, variables, cells, given, queue, waits, start, round, at,
-    )
+    reading::gather(tables, cells, gathering, round, at);
 }
 
-// What waits and mentions the variable is read, from the first mention on.
+// What waits and mentions the variable is read, from the first mention on, by the links.
 fn wake(
-    kinds: &[u8],
-    parameters: &[i32],
-    nexts: &[u16],
-    heads: &[u16],
-    links: &[u16],
-    variables: &[[i32; 3]],
-    assertion: usize,
+    tables: &Tables<'_>,
+    index: &Index<'_>,
     cells: &[i64],
-    given: &mut [i64],
-    queue: &mut [u16],
-    waits: &mut [u16],
-    start: Progress,
+    gathering: &mut Gathering<'_>,
     round: u16,
     variable: usize,
-) -> Progress
-    requires { SomeWaking kinds.now parameters.now nexts.now variables.now assertion cells.now round start.found given.old start.queued queue.old waits.old
-        × Fitting kinds.now parameters.now nexts.now variables.now assertion cells.now given.old start.queued queue.old waits.old start.pending
-        × Indexed kinds.now parameters.now assertion (length variables.now) heads.now links.now × (variable < length variables.now) }
-    ensures { StillWaking kinds.now parameters.now nexts.now variables.now assertion cells.now round
-        start.found given.old start.queued queue.old waits.old result.found given.new result.queued queue.new waits.new result.pending
-        × Passed kinds.now parameters.now assertion round waits.new variable }
+)
+    requires { SomeWakingIn tables.now cells.now round gathering.old × FittingIn tables.now cells.now gathering.old × IndexHeld tables.now index.now
+        × (variable < length tables.now.variables.now) }
+    ensures still { StillWakingIn tables.now cells.now round gathering.old gathering.new }
+    ensures passed { Passed tables.now.kinds.now tables.now.parameters.now tables.now.model.assertion round gathering.new.waits.now variable }
+    ensures same { SameCells gathering.old gathering.new }
 {
-    let mut progress = start;
-    let mut mention = heads[variable] as usize;
-    while mention < kinds.len() {
-        if progress.pending == 0 {
-            return progress;
+    let nodes = tables.kinds.len();
+    let mut mention = usize::from(index.heads[variable]);
+    // Each mention tells the next, so there is no sequence to go over.
+    while mention < nodes {
+        if gathering.pending == 0 {
+            return;
         }
-        let owner = links[kinds.len() + mention] as usize;
-        let now = visit(
-            kinds, parameters, nexts, variables, assertion, cells, given, queue, waits, progress,
-            round, owner,
-        );
-        progress = now;
-        mention = links[mention] as usize;
+        let owner = usize::from(index.links[nodes + mention]);
+        visit(tables, cells, gathering, round, owner);
+        mention = usize::from(index.links[mention]);
     }
-    progress
 }
 
-// What waits and mentions a flow in the queue is read, for those from `done` up to `queued`.
+// What waits and mentions a flow in the queue is read, for those from `done` on. The queue grows meanwhile, so it is read by place.
 fn wake_all(
-    kinds: &[u8],
-    parameters: &[i32],
-    nexts: &[u16],
-    heads: &[u16],
-    links: &[u16],
-    variables: &[[i32; 3]],
-    assertion: usize,
+    tables: &Tables<'_>,
+    index: &Index<'_>,
     cells: &[i64],
-    given: &mut [i64],
-    queue: &mut [u16],
-    waits: &mut [u16],
-    start: Progress,
+    gathering: &mut Gathering<'_>,
     round: u16,
     done: usize,
-) -> Progress
-    requires { SomeWaking kinds.now parameters.now nexts.now variables.now assertion cells.now round start.found given.old start.queued queue.old waits.old
-        × Fitting kinds.now parameters.now nexts.now variables.now assertion cells.now given.old start.queued queue.old waits.old start.pending
-        × Indexed kinds.now parameters.now assertion (length variables.now) heads.now links.now
-        × Queued queue.old start.queued (length variables.now) × (done ≤ start.queued) }
-    ensures { StillWaking kinds.now parameters.now nexts.now variables.now assertion cells.now round
-        start.found given.old start.queued queue.old waits.old result.found given.new result.queued queue.new waits.new result.pending
-        × ((x : ℕ) → Memᴰ x (drop done (take start.queued queue.old)) → Passed kinds.now parameters.now assertion round waits.new x) }
+)
+    requires { SomeWakingIn tables.now cells.now round gathering.old × FittingIn tables.now cells.now gathering.old × IndexHeld tables.now index.now
+        × Queued gathering.old.queue.now gathering.old.queued (length tables.now.variables.now) × (done ≤ gathering.old.queued) }
+    ensures still { StillWakingIn tables.now cells.now round gathering.old gathering.new }
+    ensures passed { (x : ℕ) → Memᴰ x (drop done (take gathering.old.queued gathering.old.queue.now))
+        → Passed tables.now.kinds.now tables.now.parameters.now tables.now.model.assertion round gathering.new.waits.now x }
+    ensures same { SameCells gathering.old gathering.new }
 {
-    let end = start.queued;
-    let mut progress = start;
-    let mut k = done;
-    while k < end {
-        let variable = queue[k] as usize;
-        let now = wake(
-            kinds, parameters, nexts, heads, links, variables, assertion, cells, given, queue,
-            waits, progress, round, variable,
-        );
-        progress = now;
-        k += 1;
+    for k in done..gathering.queued {
+        let variable = usize::from(gathering.queue[k]);
+        wake(tables, index, cells, gathering, round, variable);
     }
-    progress
 }
 
 // Everything that waits since an earlier round is read, from the assertion on.
-pub fn scan(
-    kinds: &[u8],
-    parameters: &[i32],
-    nexts: &[u16],
-    variables: &[[i32; 3]],
-    assertion: usize,
-    cells: &[i64],
-    given: &mut [i64],
-    queue: &mut [u16],
-    waits: &mut [u16],
-    start: Progress,
-    round: u16,
-) -> Progress
-    requires { SomeWaking kinds.now parameters.now nexts.now variables.now assertion cells.now round start.found given.old start.queued queue.old waits.old
-        × Fitting kinds.now parameters.now nexts.now variables.now assertion cells.now given.old start.queued queue.old waits.old start.pending }
-    ensures { StillWaking kinds.now parameters.now nexts.now variables.now assertion cells.now round
-        start.found given.old start.queued queue.old waits.old result.found given.new result.queued queue.new waits.new result.pending
-        × ((p : ℕ) → assertion ≤ p → p < length kinds.now → Done round waits.new p) }
+pub fn scan(tables: &Tables<'_>, cells: &[i64], gathering: &mut Gathering<'_>, round: u16)
+    requires { SomeWakingIn tables.now cells.now round gathering.old × FittingIn tables.now cells.now gathering.old }
+    ensures still { StillWakingIn tables.now cells.now round gathering.old gathering.new }
+    ensures done { (p : ℕ) → tables.now.model.assertion ≤ p → p < length tables.now.kinds.now → Done round gathering.new.waits.now p }
+    ensures same { SameCells gathering.old gathering.new }
 {
-    if start.pending == 0 {
-        return start;
+    if gathering.pending == 0 {
+        return;
     }
-    let mut progress = start;
-    let mut here = next_marked(waits, assertion);
-    while here < kinds.len() {
-        let now = visit(
-            kinds, parameters, nexts, variables, assertion, cells, given, queue, waits, progress,
-            round, here,
-        );
-        progress = now;
-        here = next_marked(waits, here + 1);
+    for at in tables.model.assertion..tables.kinds.len() {
+        visit(tables, cells, gathering, round, at);
     }
-    progress
 }
 
 // One round: the first reads the assertion, a later one what waits and mentions a flow that the last made known.
 fn read_round(
-    kinds: &[u8],
-    parameters: &[i32],
-    nexts: &[u16],
-    heads: &[u16],
-    links: &[u16],
-    variables: &[[i32; 3]],
-    assertion: usize,
+    tables: &Tables<'_>,
+    index: &Index<'_>,
     cells: &mut [i64],
-    given: &mut [i64],
-    queue: &mut [u16],
-    waits: &mut [u16],
-    last: Progress,
+    gathering: &mut Gathering<'_>,
     round: u16,
     done: usize,
-) -> Progress
-    requires { SomeReady kinds.now parameters.now nexts.now variables.now assertion cells.old given.old queue.old waits.old last.found last.queued last.pending round done
-        × Fitting kinds.now parameters.now nexts.now variables.now assertion cells.old given.old last.queued queue.old waits.old last.pending
-        × Indexed kinds.now parameters.now assertion (length variables.now) heads.now links.now }
-    ensures { ((start : List ℤ)
-        → Ready kinds.now parameters.now nexts.now variables.now assertion start cells.old given.old queue.old waits.old last.found last.queued last.pending round done
-        → Turn kinds.now parameters.now nexts.now variables.now assertion start cells.new given.new queue.new waits.new result.found result.queued result.pending round last.queued)
-        × (cells.new ≡ given.old) }
+)
+    requires { SomeReadyIn tables.now cells.old gathering.old round done × FittingIn tables.now cells.old gathering.old × IndexHeld tables.now index.now }
+    ensures turn { (start : List ℤ) → ReadyIn tables.now start cells.old gathering.old round done
+        → TurnIn tables.now start cells.new gathering.new round gathering.old.queued }
+    ensures applied { cells.new ≡ gathering.old.given.now }
+    ensures same { SameCells gathering.old gathering.new }
 {
-    let found = instructions::nothing_found();
-    let start = Progress {
-        found,
-        queued: last.queued,
-        pending: last.pending,
-    };
+    gathering.found = Gathered::default();
     if round == 1 {
-        return reading::gather(
-            kinds, parameters, nexts, variables, cells, given, queue, waits, start, round,
-            assertion,
-        );
+        reading::gather(tables, cells, gathering, round, tables.model.assertion);
+        return;
     }
-    apply(queue, done, last.queued, given, cells);
-    wake_all(
-        kinds, parameters, nexts, heads, links, variables, assertion, cells, given, queue, waits,
-        start, round, done,
-    )
+    apply(gathering, done, cells);
+    wake_all(tables, index, cells, gathering, round, done);
 }
 
-// Before the first round: nothing is queued, and nothing waits.
-fn begin() -> Progress
-    ensures { (result.queued ≡ 0) × (result.pending ≡ 0) }
-{
-    let found = instructions::nothing_found();
-    Progress {
-        found,
-        queued: 0,
-        pending: 0,
-    }
-}
-
-// Rounds over the cells until one sets nothing, or a fault is met.
+// Rounds over the cells until one sets nothing, or a fault is met: how many were made.
 pub fn rounds(
-    kinds: &[u8],
-    parameters: &[i32],
-    nexts: &[u16],
-    heads: &[u16],
-    links: &[u16],
-    variables: &[[i32; 3]],
-    assertion: usize,
+    tables: &Tables<'_>,
+    index: &Index<'_>,
     cells: &mut [i64],
-    given: &mut [i64],
-    queue: &mut [u16],
-    waits: &mut [u16],
-) -> Ended
-    requires { AssertionStands kinds.now parameters.now nexts.now variables.now assertion
-        × Fitting kinds.now parameters.now nexts.now variables.now assertion cells.old given.old 0 queue.old waits.old 0
-        × Indexed kinds.now parameters.now assertion (length variables.now) heads.now links.now
-        × (waits.old ≡ replicate (length kinds.now) 0) × (given.old ≡ cells.old) }
-    ensures { (a : AssertionStands kinds.now parameters.now nexts.now variables.now assertion)
+    gathering: &mut Gathering<'_>,
+) -> Result<usize, Fault>
+    requires { AssertionHeld tables.now
+        × FittingIn tables.now cells.old (record gathering.old { queued = 0; pending = 0 })
+        × IndexHeld tables.now index.now
+        × (gathering.old.waits.now ≡ replicate (length tables.now.kinds.now) 0) × (gathering.old.given.now ≡ cells.old) }
+    ensures reached { (a : AssertionHeld tables.now)
         → (reached_in result cells.new ≡ propagation_specs.rounds (trees.variables a.system) a.system.assertion (suc (length a.system.flows)) 0 (valuation_of cells.old))
-        × ((e : Rest) → result ≡ Ended.Rested e → Resting kinds.now parameters.now nexts.now variables.now assertion a cells.new waits.new e) }
+        × ((count : ℕ) → result ≡ Ok count → RestingIn tables.now a cells.new gathering.new count) }
+    ensures same { SameCells gathering.old gathering.new }
 {
-    let mut progress = begin();
+    gathering.queued = 0;
+    gathering.pending = 0;
     let mut round: u16 = 1;
-    let mut done: usize = 0;
+    let mut done = 0;
+    // The form that 01 names: a loop that yields its outcome by break.
     loop {
-        let queued = progress.queued;
-        let now = read_round(
-            kinds, parameters, nexts, heads, links, variables, assertion, cells, given, queue,
-            waits, progress, round, done,
-        );
-        progress = now;
+        let queued = gathering.queued;
+        read_round(tables, index, cells, gathering, round, done);
         done = queued;
-        let found = progress.found;
-        match fault_in(found) {
-            Finding::Faulty(fault) => break Ended::Refused(fault),
-            Finding::Clear => {}
+        match fault_in(gathering.found) {
+            Err(fault) => break Err(fault),
+            Ok(()) => {}
         }
-        if !found.fresh {
-            let rest = Rest {
-                count: round as usize,
-                pending: progress.pending,
-            };
-            break Ended::Rested(rest);
+        if !gathering.found.fresh {
+            break Ok(usize::from(round));
         }
         round += 1;
     }

@@ -1,4 +1,5 @@
 -- What an accepted call on a file tells: the bounds of the round count, of the transition and of the count.
+use Rattle.std.specs.Prelude.{Ok}
 use mathlib.Core.Path.{◌≡◌, refl, sym, ap, ◌∙◌, subst}
 use mathlib.Core.Bool.{false, true≢false}
 use mathlib.Core.List.{List}
@@ -7,6 +8,7 @@ use native.Mathlib.Omega.{arith}
 use borrow.Author.Tests.{ltb-true, eqb-false}
 use lib.IntN.{ℤ}
 use lib.ListN.{length}
+use Rattle.results.specs.Refusals.{number_of}
 use Rattle.model.specs.declared.Sizes.{Sizes}
 use Rattle.model.specs.Trees.{System}
 use Rattle.model.specs.Check.{Verdict, verdict}
@@ -15,8 +17,7 @@ use Rattle.model.specs.Theorems.{Bytes}
 use Rattle.model.specs.WellFormed.{WellFormed}
 use Rattle.model.proofs.CheckExact.{check_exact}
 use Rattle.results.specs.Results.{answered, over}
-use Rattle.semantics.specs.declared.Firing.{Firing}
-use Rattle.semantics.specs.declared.Firing.TheVariants.{Fired}
+use Rattle.semantics.specs.Firing.{Firing}
 use Rattle.semantics.specs.Propagation.Settled.{settled}
 use Rattle.semantics.specs.Meanings.{Meaning, meaning_of}
 use Rattle.semantics.specs.Firing.{Left, fired, begun}
@@ -36,14 +37,13 @@ use Rattle.run.proofs.Cases.{start_cases, fire_cases, undo_cases, marks_cases, v
 
 module _ (m : Meaning) (n : ℕ) (old : List ℤ) where
   abbrev Settles : Left → Type 0
-  Settles l = l.answer ≡ Fired n → (ss : List ℤ) × (new : List ℤ) × (m.propagate ss ≡ settled n new)
+  Settles l = l.answer ≡ Ok n → (ss : List ℤ) × (new : List ℤ) × (m.propagate ss ≡ settled n new)
 
   refused_settles : (f : Firing) → is_fired f ≡ false → Settles (answered f old)
-  unfolding is_fired
   refused_settles f e q = absurd (true≢false (ap is_fired (sym q) ∙ e))
 
   settled_settles : length m.declarations ≤ length old → (k : ℕ) (new ss : List ℤ) → m.propagate ss ≡ settled k new
-      → Settles (answered (Fired k) (over new old))
+      → Settles (answered (Ok k) (over new old))
   settled_settles enough k new ss e q = let same : k ≡ n = cc in (ss, new, e ∙ ap (λ k. settled k new) same)
 
   fired_settles : (t : ℕ) → Settles (fired m t old)
@@ -73,11 +73,11 @@ module _ (t : System) (w : WellFormed t) (count : ℕ) where
   call_within z calls.Check s e = clash cc
   call_within z calls.Start s e =
       start_cases (meaning_of t) s.run WithinBy (λ k o e. absurd (no_rounds k count e))
-      (λ n f e. let same : n ≡ count = cc in settled_within (begun_settles (meaning_of t) count s.run.values (initial (meaning_of t)) (f ∙ ap Fired same)))
+      (λ n f e. let same : n ≡ count = cc in settled_within (begun_settles (meaning_of t) count s.run.values (initial (meaning_of t)) (f ∙ ap Ok same)))
       e
   call_within z (calls.Fire k) s e =
       fire_cases (meaning_of t) s.run WithinBy (λ k o e. absurd (no_rounds k count e)) (λ h e. absurd (no_rounds 20 count e)) k
-      (λ below held free n f e. let same : n ≡ count = cc in settled_within (fired_settles (meaning_of t) count s.run.values k (f ∙ ap Fired same)))
+      (λ below held free n f e. let same : n ≡ count = cc in settled_within (fired_settles (meaning_of t) count s.run.values k (f ∙ ap Ok same)))
       e
   call_within z calls.Undo s e =
       undo_cases (meaning_of t) s.run WithinBy (λ k o e. absurd (no_rounds k count e)) (λ h e. absurd (no_rounds 20 count e))
@@ -123,7 +123,7 @@ module _ (m : List ℕ) (bytes : Bytes m) where
   fire_fits t s count = go (verdict m) refl
     where
       go : (v : Verdict) → verdict m ≡ v → (call_by v (calls.Fire t) s).answer ≡ rounds count → (t < 256) × (s.run.count < length s.run.history)
-      go (refusal k) e q = absurd (no_rounds k count q)
+      go (refusal k) e q = absurd (no_rounds (number_of k) count q)
       go (accepted z y) e q =
           let x = (check_exact m bytes z y).0 e in
           fire_cases (meaning_of y) s.run (λ d. d.answer ≡ rounds count → (t < 256) × (s.run.count < length s.run.history))

@@ -1,16 +1,18 @@
 -- The calls by cases: each refusal with what it rests on, and the accepted call with what was found before it.
+use Rattle.std.specs.Prelude.{Ok, Err}
 use mathlib.Core.Path.{◌≡◌, refl}
 use mathlib.Core.Bool.{true, false, not}
 use mathlib.Core.List.{List, ◌++◌}
 use mathlib.Core.Option.{Option, some, none}
+use Rattle.std.specs.Prelude as prelude
 use Prim.Native.Nat.{ℕ, suc, ◌-◌, ◌≤◌}
 use native.Mathlib.Omega.{arith}
 use borrow.Author.Tests.{not-true, not-false}
 use lib.Dec.{eqb, ltb}
 use lib.IntN.{ℤ, pos}
 use lib.ListN.{length, get_or, take, drop, set}
-use Rattle.semantics.specs.declared.Firing.{Firing}
-use Rattle.semantics.specs.declared.Firing.TheVariants.{Disabled, GuardFailed, ActionFault, AssertionFault, Fired}
+use Rattle.semantics.specs.Firing.{Firing}
+use Rattle.semantics.specs.declared.NotFired.TheVariants.{Disabled, GuardFailed, ActionFault, AssertionFault}
 use Rattle.semantics.specs.Meanings.{Meaning}
 use Rattle.semantics.specs.Firing.{fired, begun}
 use Rattle.standing.specs.Runs.{Run, Answer, Done, answered, with_history, with_count}
@@ -39,15 +41,15 @@ module _ (m : Meaning) (r : Run) where
   undone_run values = with_count (r.count - 1) (refreshed m values r)
 
 module _ (m : Meaning) (r : Run) (P : Done Run → Type 0) (refusal : (k : ℕ) → Other k → P (answered (refused k) r)) where
-  firing_cases : (new : Run) (f : Firing) → ((n : ℕ) → f ≡ Fired n → P (answered (rounds n) new)) → P (fired_into r new f)
-  unfolding answer_of is_fired
-  firing_cases new Disabled g = refusal 23 (omega arith)
-  firing_cases new GuardFailed g = refusal 24 (omega arith)
-  firing_cases new (ActionFault x) g = refusal _ (omega (arith, action_number x))
-  firing_cases new (AssertionFault x) g = refusal _ (omega (arith, assertion_number x))
-  firing_cases new (Fired n) g = g n refl
+  firing_cases : (new : Run) (f : Firing) → ((n : ℕ) → f ≡ Ok n → P (answered (rounds n) new)) → P (fired_into r new f)
+  unfolding answer_of
+  firing_cases new (Err Disabled) g = refusal 23 (omega arith)
+  firing_cases new (Err GuardFailed) g = refusal 24 (omega arith)
+  firing_cases new (Err (ActionFault x)) g = refusal _ (omega (arith, action_number x))
+  firing_cases new (Err (AssertionFault x)) g = refusal _ (omega (arith, assertion_number x))
+  firing_cases new (Ok n) g = g n refl
 
-  pub start_cases : ((n : ℕ) → (begun m (initial m) r.values).answer ≡ Fired n → P (answered (rounds n) (started_run m r))) → P (start m r)
+  pub start_cases : ((n : ℕ) → (begun m (initial m) r.values).answer ≡ Ok n → P (answered (rounds n) (started_run m r))) → P (start m r)
   unfolding start
   start_cases f =
       by_test P (too_short m r.values) _ _ (λ e. refusal 9 (omega arith)) (λ long.
@@ -57,7 +59,7 @@ module _ (m : Meaning) (r : Run) (P : Done Run → Type 0) (refusal : (k : ℕ) 
   -- 20 where the run does not hold
   module _ (stale : holds m r ≡ false → P (answered (refused 20) r)) where
     pub fire_cases : (t : ℕ) → (ltb t m.transitions ≡ true → holds m r ≡ true → eqb r.count (length r.history) ≡ false
-        → (n : ℕ) → (fired m t r.values).answer ≡ Fired n → P (answered (rounds n) (fired_run m r t)))
+        → (n : ℕ) → (fired m t r.values).answer ≡ Ok n → P (answered (rounds n) (fired_run m r t)))
         → P (fire m t r)
     unfolding fire
     fire_cases t f =
@@ -117,6 +119,6 @@ module _ (m : Meaning) (r : Run) where
       by_test P (not (holds m r)) _ _ (λ e. stale (not-true (holds m r) e)) (λ held. f)))
 
 pub range_cases : (m : Meaning) (values : List ℤ) (P : Answer → Type 0) → ((k : ℕ) → Other k → P (refused k))
-    → ((x : Option ℕ) (looked : ℕ) → P (outside x looked)) → P (range_check m values)
+    → ((x : prelude.Option ℕ) (looked : ℕ) → P (outside x looked)) → P (range_check m values)
 unfolding range_check
 range_cases m values P refusal f = by_test P (too_short m values) _ _ (λ e. refusal 9 (omega arith)) (λ long. f _ _)

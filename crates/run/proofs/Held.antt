@@ -1,5 +1,6 @@
 -- After an accepted start the run holds, its values within their ends, its history of transitions and its marks at most 2: theorem
 -- NoStaleRun.
+use Rattle.std.specs.Prelude.{Ok}
 use mathlib.Core.Path.{◌≡◌, refl, subst}
 use mathlib.Core.Bool.{true, false, not, ◌&&◌, ◌||◌}
 use mathlib.Core.List.{List, [], ◌∷◌, ◌++◌}
@@ -19,7 +20,6 @@ use Rattle.evaluation.specs.Numbers.{eq_z, boolean}
 use Rattle.model.specs.Trees.{System, Transition, Variable, variables}
 use Rattle.model.specs.WellFormed.{WellFormed}
 use Rattle.model.specs.Theorems.{CheckExact}
-use Rattle.semantics.specs.declared.Firing.TheVariants.{Fired}
 use Rattle.expressions.specs.Expressions.{known_from}
 use Rattle.interpreter.specs.Instructions.{is_within}
 use Rattle.semantics.specs.Actions.{Acted}
@@ -29,7 +29,8 @@ use Rattle.semantics.specs.Propagation.Settled.{refused, settled}
 use Rattle.semantics.specs.Meanings.{Meaning, action_in, meaning_of}
 use Rattle.semantics.specs.Firing.{Left, left_by_settling, left_by_acting, left_by_guard, fired, begun}
 use Rattle.standing.specs.Runs.{Run}
-use Rattle.standing.specs.Holding.{first_outside, is_none, all_below, history_holds, marks_within, holds}
+use Rattle.std.specs.Prelude.{is_none, Some}
+use Rattle.standing.specs.Holding.{first_outside, all_below, history_holds, marks_within, holds}
 use Rattle.marking.specs.Marks.{refreshed}
 use Rattle.marking.proofs.Refreshed.{refreshed_holds, marks_within_lem}
 use Rattle.replaying.specs.Replays.{initial, refire, replay}
@@ -67,15 +68,14 @@ get_take (suc n) (c ∷ l) (suc x) v e = get_take n l x v e
 
 none_outside : (vs : List Variable) (values : List ℤ) (x : ℕ) → length vs ≤ length values → Within vs (known_from values)
     → T (is_none (first_outside vs values x))
-unfolding first_outside is_none is_within
+unfolding first_outside is_within
 none_outside [] values x h within = tt
 none_outside (d ∷ vs) [] x h within = absurd (not-suc-le-zero h)
 none_outside (d ∷ vs) (c ∷ values) x h within =
-    passed (λ o. T (is_none o)) (le_z d.low c && le_z c d.high) (first_outside vs values (suc x)) (some x) (within zero c refl)
+    passed (λ o. T (is_none o)) (le_z d.low c && le_z c d.high) (first_outside vs values (suc x)) (Some x) (within zero c refl)
     (none_outside vs values (suc x) (le_of_suc-le-suc h) (λ y. within (suc y)))
 
 below_append : (t : ℕ) (ks : List ℕ) (k : ℕ) → T (all_below t ks) → T (ltb k t) → T (all_below t (ks ++ (k ∷ [])))
-unfolding all_below
 below_append t [] k h b = both (ltb k t) true b tt
 below_append t (j ∷ ks) k h b =
     let parts : T (ltb j t) × T (all_below t ks) = each (ltb j t) (all_below t ks) h in
@@ -95,7 +95,7 @@ pub record EndsKept (m : Meaning) : Type 0 where
 module _ (m : Meaning) (kept : EndsKept m) where
   -- the values left are within their ends, if it was fired
   abbrev LeftWithin : Left → Type 0
-  LeftWithin l = (n : ℕ) → l.answer ≡ Fired n → InEnds m.declarations l.left
+  LeftWithin l = (n : ℕ) → l.answer ≡ Ok n → InEnds m.declarations l.left
 
   settling_within : (old : List ℤ) → length m.declarations ≤ length old → (ss : List ℤ) → Within m.declarations (known_from ss)
       → (x : Settled) → m.propagate ss ≡ x → LeftWithin (left_by_settling old x)
@@ -179,7 +179,7 @@ refreshed_marked m values r = marks_within_lem m (refreshed m values r) (refresh
 
 module _ (m : Meaning) (kept : EndsKept m) where
   fired_held : (t : ℕ) (r : Run) → Held m r → ltb t m.transitions ≡ true → eqb r.count (length r.history) ≡ false → (k : ℕ)
-      → (fired m t r.values).answer ≡ Fired k
+      → (fired m t r.values).answer ≡ Ok k
       → Held m (fired_run m r t)
   fired_held t r h low free k e =
       let inside : r.count < length r.history = omega (arith, h.counted, eqb-false r.count (length r.history) free) in
@@ -193,7 +193,6 @@ module _ (m : Meaning) (kept : EndsKept m) where
       }
 
   held_invariant : Invariant 20 m
-  unfolding all_below
   held_invariant =
       record {
         Holds = Held m;

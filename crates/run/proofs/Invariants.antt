@@ -1,4 +1,5 @@
 -- A refusal that never comes after an accepted start, from what holds after a start and stays along a list of calls.
+use Rattle.std.specs.Prelude.{Ok}
 use mathlib.Core.Path.{◌≡◌, refl, sym, ap, ◌∙◌}
 use mathlib.Core.Bool.{true, false}
 use mathlib.Core.List.{List}
@@ -7,12 +8,12 @@ use Prim.Native.Nat.{ℕ, ◌-◌}
 use lib.Dec.{eqb, ltb}
 use lib.IntN.{ℤ}
 use lib.ListN.{length, take}
+use Rattle.results.specs.Refusals.{number_of}
 use Rattle.model.specs.declared.Sizes.{Sizes}
 use Rattle.model.specs.Trees.{System}
 use Rattle.model.specs.Check.{Verdict, verdict}
 use Rattle.model.specs.Check.Verdict.{refusal, accepted}
 use Rattle.model.specs.Theorems.{Bytes}
-use Rattle.semantics.specs.declared.Firing.TheVariants.{Fired}
 use Rattle.semantics.specs.Meanings.{Meaning, meaning_of}
 use Rattle.semantics.specs.Firing as firing
 use Rattle.run.specs.declared.Call.{Call}
@@ -31,9 +32,9 @@ use Rattle.run.proofs.Cases.{Other, started_run, fired_run, undone_run, start_ca
 -- what holds of the run after an accepted start and stays with each accepted call; under it number n is not met
 pub record Invariant (n : ℕ) (m : Meaning) : Type 1 where
   pub Holds : Run → Type 0
-  pub started : (r : Run) (k : ℕ) → (firing.begun m (initial m) r.values).answer ≡ Fired k → Holds (started_run m r)
+  pub started : (r : Run) (k : ℕ) → (firing.begun m (initial m) r.values).answer ≡ Ok k → Holds (started_run m r)
   pub fired : (t : ℕ) (r : Run) → Holds r → ltb t m.transitions ≡ true → eqb r.count (length r.history) ≡ false → (k : ℕ)
-      → (firing.fired m t r.values).answer ≡ Fired k → Holds (fired_run m r t)
+      → (firing.fired m t r.values).answer ≡ Ok k → Holds (fired_run m r t)
   pub undone : (r : Run) → Holds r → eqb r.count 0 ≡ false → (values : List ℤ)
       → replay m (initial m) (take (r.count - 1) r.history) r.values ≡ some values → Holds (undone_run m r values)
   pub stale : (r : Run) → Holds r → holds m r ≡ false → 20 ≡ n → ⊥
@@ -102,7 +103,7 @@ module _ (n : ℕ) (other : (k : ℕ) → Other k → k ≡ n → ⊥) where
   never-after-start invariant file b s d count promised started cs rs performed = go (verdict file) refl
     where
       go : (v : Verdict) → verdict file ≡ v → NoneIs n rs
-      go (refusal k) e = clash (let q : refused k ≡ rounds count = rw e at (ap (λ x. x.answer) (sym promised) ∙ started) in cc)
+      go (refusal k) e = clash (let q : refused (number_of k) ≡ rounds count = rw e at (ap (λ x. x.answer) (sym promised) ∙ started) in cc)
       go (accepted z t) e =
           let i : Invariant n (meaning_of t) = invariant file b z t e in
           let h : i.Holds d.left.run =

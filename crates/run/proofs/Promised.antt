@@ -6,7 +6,9 @@ use mir.Syntax.{w8}
 use mir.Val.{Fits}
 use lib.IntN.{ℤ}
 use lib.ListN.{length, get_or}
-use Rattle.model.specs.declared.Checked.{Checked}
+use Rattle.std.proofs.Common.{Result}
+use Rattle.results.specs.declared.refusal.Refusal.{Refusal}
+use Rattle.model.specs.declared.Sizes.{Sizes}
 use Rattle.model.specs.Check.{verdict}
 use Rattle.model.specs.Theorems.{Bytes}
 use Rattle.run.specs.declared.Call.{Call}
@@ -57,7 +59,7 @@ module _ (m : List ℕ) (fits : (i : ℕ) → Fits w8 (get_or m i 0)) where
   performed call c s a s' told p = rw told (p, bounded m bytes c s (answered (seen a) s') p)
 
   -- the check's answer as a call's answer
-  pub checked : (call : Call) (s : Store) (r : Checked) (a : declared.Answer) → call ≡ Check → CheckPromise m r → seen_check r ≡ seen a
+  pub checked : (call : Call) (s : Store) (r : Result Sizes Refusal) (a : declared.Answer) → call ≡ Check → CheckPromise m r → seen_check r ≡ seen a
       → PerformPromise m call s a s
   checked call s r a told e same = performed call Check s a s told (ap (λ a. answered a s) (sym same) ∙ calls_reached.check m s r e)
 

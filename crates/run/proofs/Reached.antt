@@ -3,7 +3,8 @@ use mathlib.Core.Path.{◌≡◌, refl, ap, ◌∙◌}
 use mathlib.Core.List.{List, [], ◌∷◌}
 use Prim.Native.Nat.{ℕ}
 use Rattle.model.specs.declared.Sizes.{Sizes}
-use Rattle.model.specs.declared.Checked.{Checked}
+use Rattle.std.proofs.Common.{Result}
+use Rattle.results.specs.declared.refusal.Refusal.{Refusal}
 use Rattle.model.specs.Check.{Verdict, verdict, answer_of}
 use Rattle.model.specs.Check.Verdict.{refusal, accepted}
 use Rattle.semantics.specs.Meanings.{Meaning, meaning_of}
@@ -19,7 +20,7 @@ use Rattle.run.specs.Promises.{seen_check}
 use Rattle.run.specs.Theorems.{CallsReached, PerformancesExist}
 
 module _ (s : Store) where
-  pub check_reached : (v : Verdict) (r : Checked) → r ≡ answer_of v → answered (seen_check r) s ≡ call_by v Check s
+  pub check_reached : (v : Verdict) (r : Result Sizes Refusal) → r ≡ answer_of v → answered (seen_check r) s ≡ call_by v Check s
   unfolding answer_of call_by call_on seen_check
   check_reached (refusal n) r e = ap (λ r. answered (seen_check r) s) e
   check_reached (accepted z t) r e = ap (λ r. answered (seen_check r) s) e

@@ -1,4 +1,5 @@
 -- Laws of replaying: over a beginning of the transitions, over one more transition, and over the values that it gave itself.
+use Rattle.std.specs.Prelude.{Ok, Err}
 use mathlib.Core.Path.{◌≡◌, refl, ap}
 use mathlib.Core.Bool.{Bool, true, false, cond, not, ◌||◌}
 use mathlib.Core.List.{List, [], ◌∷◌, ◌++◌}
@@ -7,8 +8,8 @@ use Prim.Native.Nat.{ℕ}
 use lib.Dec.{ltb, eqb}
 use lib.IntN.{ℤ}
 use lib.ListN.{length}
-use Rattle.semantics.specs.declared.Firing.{Firing}
-use Rattle.semantics.specs.declared.Firing.TheVariants.{Disabled, GuardFailed, ActionFault, AssertionFault, Fired}
+use Rattle.semantics.specs.Firing.{Firing}
+use Rattle.semantics.specs.declared.NotFired.TheVariants.{Disabled, GuardFailed, ActionFault, AssertionFault}
 use Rattle.semantics.specs.Propagation.{Settled}
 use Rattle.semantics.specs.Propagation.Settled.{refused, settled}
 use Rattle.semantics.specs.Meanings.{Meaning}
@@ -19,17 +20,17 @@ use Rattle.replaying.proofs.Written.{SameRest, same_rest, rest_after, Complete, 
 
 -- what goes on to a result was fired, and any other continuation goes on from the same values
 pub goes_on : (P : Option (List ℤ) → Type 0) (next other : List ℤ → Option (List ℤ)) (l : Left) (vs : List ℤ)
-    → ((n : ℕ) → l.answer ≡ Fired n → next l.left ≡ some vs → P (other l.left)) → go_on next l ≡ some vs → P (go_on other l)
-unfolding go_on is_fired
+    → ((n : ℕ) → l.answer ≡ Ok n → next l.left ≡ some vs → P (other l.left)) → go_on next l ≡ some vs → P (go_on other l)
+unfolding go_on
 goes_on P next other l vs f e = go l.answer f e
   where
-    go : (a : Firing) → ((n : ℕ) → a ≡ Fired n → next l.left ≡ some vs → P (other l.left))
+    go : (a : Firing) → ((n : ℕ) → a ≡ Ok n → next l.left ≡ some vs → P (other l.left))
         → cond (is_fired a) (next l.left) none ≡ some vs → P (cond (is_fired a) (other l.left) none)
-    go Disabled f e = absurd (none-ne-some vs e)
-    go GuardFailed f e = absurd (none-ne-some vs e)
-    go (ActionFault x) f e = absurd (none-ne-some vs e)
-    go (AssertionFault x) f e = absurd (none-ne-some vs e)
-    go (Fired n) f e = f n refl e
+    go (Err Disabled) f e = absurd (none-ne-some vs e)
+    go (Err GuardFailed) f e = absurd (none-ne-some vs e)
+    go (Err (ActionFault x)) f e = absurd (none-ne-some vs e)
+    go (Err (AssertionFault x)) f e = absurd (none-ne-some vs e)
+    go (Ok n) f e = f n refl e
 
 -- there is a result
 abbrev pub Succeeds : Option (List ℤ) → Type 0
@@ -91,18 +92,18 @@ module _ (m : Meaning) where
     settling_depends : (next : List ℤ → Option (List ℤ)) (old new : List ℤ) → SameRest (length m.declarations) old new → (ss : List ℤ)
         (x : Settled) → m.propagate ss ≡ x
         → go_on next (left_by_settling new x) ≡ go_on next (left_by_settling old x)
-    unfolding left_by_settling go_on is_fired
+    unfolding left_by_settling go_on
     settling_depends next old new same ss (refused f) e = refl
     settling_depends next old new same ss (settled count cells) e =
         ap (λ k. next (cells ++ k)) (rw (complete ss count cells e) same.rest)
 
     pub replay_depends : (ss : List ℤ) (ts : List ℕ) (old new : List ℤ) → SameRest (length m.declarations) old new
         → replay m ss ts new ≡ replay m ss ts old
-    unfolding replay begun go_on is_fired
+    unfolding replay begun go_on
     replay_depends ss ts old new same = rw same.long (go (ltb (length old) (length m.declarations) || not (eqb (length ss) m.states)))
       where
         go : (b : Bool)
-            → go_on (λ x. refire m ts x) (cond b (answered Disabled new) (left_by_settling new (m.propagate ss)))
-            ≡ go_on (λ x. refire m ts x) (cond b (answered Disabled old) (left_by_settling old (m.propagate ss)))
+            → go_on (λ x. refire m ts x) (cond b (answered (Err Disabled) new) (left_by_settling new (m.propagate ss)))
+            ≡ go_on (λ x. refire m ts x) (cond b (answered (Err Disabled) old) (left_by_settling old (m.propagate ss)))
         go true = refl
         go false = settling_depends (λ x. refire m ts x) old new same ss (m.propagate ss) refl

@@ -1,4 +1,5 @@
 -- After an accepted start the run is what its history comes to: theorem ReplayHolds.
+use Rattle.std.specs.Prelude.{Ok}
 use mathlib.Core.Path.{◌≡◌, refl, sym, ◌∙◌}
 use mathlib.Core.Bool.{false}
 use mathlib.Core.List.{List, [], ◌∷◌, ◌++◌}
@@ -10,7 +11,6 @@ use lib.Dec.{eqb}
 use lib.IntN.{ℤ}
 use lib.ListN.{length, get_or, take, length-set}
 use lib.Seq.{take-suc-set, take-suc}
-use Rattle.semantics.specs.declared.Firing.TheVariants.{Fired}
 use Rattle.semantics.specs.Meanings.{Meaning, meaning_of}
 use Rattle.semantics.specs.Firing.{fired, begun}
 use Rattle.standing.specs.Runs.{Run}
@@ -38,9 +38,9 @@ module _ (m : Meaning) (complete : Complete m) where
   replay_again ts old new e =
       replay_depends m complete (initial m) ts old new (replay_keeps m complete (initial m) ts old new e) ∙ e
 
-  begun_replayed : (r : Run) (n : ℕ) → (begun m (initial m) r.values).answer ≡ Fired n
+  begun_replayed : (r : Run) (n : ℕ) → (begun m (initial m) r.values).answer ≡ Ok n
       → Replayed m (started_run m r)
-  unfolding replay refire go_on is_fired
+  unfolding replay refire go_on
   begun_replayed r n e =
       record {
         counted = omega arith;
@@ -48,9 +48,9 @@ module _ (m : Meaning) (complete : Complete m) where
       }
 
   fired_replayed : (t : ℕ) (r : Run) → Replayed m r → eqb r.count (length r.history) ≡ false → (n : ℕ)
-      → (fired m t r.values).answer ≡ Fired n
+      → (fired m t r.values).answer ≡ Ok n
       → Replayed m (fired_run m r t)
-  unfolding refire go_on is_fired
+  unfolding refire go_on
   fired_replayed t r h free n e =
       let below : r.count < length r.history = omega (arith, h.counted, eqb-false r.count (length r.history) free) in
       record {

@@ -8,12 +8,11 @@ use Rattle.semantics.specs.Actions.{value_or0, cells, acted_by, act}
 use Rattle.semantics.specs.Propagation.{is_known, is_new, round_by, rounds, finished_by, finish, settled_from, settle, first_value}
 use Rattle.semantics.specs.Meanings.{guard_in, action_in, meaning_of}
 use Rattle.semantics.specs.Firing.{left_by_settling, left_by_acting, left_by_guard, fired, begun}
-use Rattle.standing.specs.Holding.{all_below, first_outside, is_none}
+use Rattle.standing.specs.Holding.{first_outside}
 use Rattle.marking.specs.Marks.{mark_of, marks_from}
 use Rattle.steps.specs.Calls.{answer_of, start, fire}
-use Rattle.replaying.specs.Replays.{is_fired}
 use Rattle.run.specs.Rows.{AgreementRows}
 
 pub agreement_rows : AgreementRows
-unfolding evaluate evaluation_of assigned effects effects_of_all any is_failure is_within is_outside differs given_by conflicts_with fault_of first_of given_to number_of value_or0 cells eq_z operated decides decisive decision is_unknown is_failed number calculated divided agree chosen is_known is_new round_by rounds finished_by finish settled_from settle first_value meaning_of left_by_settling answer_of is_fired acted_by act guard_in action_in left_by_acting left_by_guard fired all_below first_outside is_none mark_of marks_from fire begun start
+unfolding evaluate evaluation_of assigned effects effects_of_all any is_failure is_within is_outside differs given_by conflicts_with fault_of first_of given_to number_of value_or0 cells eq_z operated decides decisive decision is_unknown is_failed number calculated divided agree chosen is_known is_new round_by rounds finished_by finish settled_from settle first_value meaning_of left_by_settling answer_of acted_by act guard_in action_in left_by_acting left_by_guard fired first_outside mark_of marks_from fire begun start
 agreement_rows = ((refl, refl), (refl, refl), (refl, refl, refl, refl), (refl, refl), (refl, refl))

@@ -1,6 +1,7 @@
 -- Lists of calls on one store. 01: "In a list of demand 3 each model has one set of all that is lent beside it [..], one thing for each
 -- use. Every call takes what it uses of this as the calls before, refused or not, left it".
 use Rattle.std.specs.Prelude.{◌≡◌, List, [], ◌∷◌, ℕ, suc, ◌≤◌}
+use Rattle.results.specs.Refusals.{number_of}
 use Rattle.model.specs.declared.Sizes.{Sizes}
 use Rattle.model.specs.Check.{Verdict, verdict}
 use Rattle.model.specs.Check.Verdict.{refusal, accepted}
@@ -30,7 +31,7 @@ call_on z m Pick s = answered (queries.pick m s.run) s
 call_on z m FirstOutside s = answered (queries.range_check m s.run.values) s
 
 unfoldable pub call_by : Verdict → Call → Store → Done Store
-call_by (refusal n) c s = answered (refused n) s
+call_by (refusal r) c s = answered (refused (number_of r)) s
 call_by (accepted z t) c s = call_on z (meaning_of t) c s
 
 -- a call on a model file

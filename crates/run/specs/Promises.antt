@@ -1,8 +1,9 @@
 -- What each function promises of its answer and of all that it is lent: its `ensures`, word for word. 01: "Each promise is an equation
 -- with these definitions, for all arguments, and covers every cell lent". Names with ' stand for what is left.
-use Rattle.std.specs.Prelude.{◌≡◌, List, ℕ, ℤ}
-use Rattle.model.specs.declared.Checked.{Checked}
-use Rattle.model.specs.declared.Checked.TheVariants.{Refused, Accepted}
+use Rattle.std.specs.Prelude.{◌≡◌, List, ℕ, ℤ, Result, Ok, Err}
+use Rattle.results.specs.declared.refusal.Refusal.{Refusal}
+use Rattle.results.specs.Refusals.{number_of}
+use Rattle.model.specs.declared.Sizes.{Sizes}
 use Rattle.model.specs.Check.{verdict, answer_of}
 use Rattle.run.specs.declared.Call.{Call}
 use Rattle.steps.specs.declared.Answer as declared
@@ -14,11 +15,11 @@ use Rattle.inspection.specs.Queries as queries
 use Rattle.run.specs.Lists.{CountBounded, Promise}
 
 -- the check's answers, by 01's numbers and values
-unfoldable pub seen_check : Checked → Answer
-seen_check (Refused n) = refused n
-seen_check (Accepted z) = sizes z
+unfoldable pub seen_check : Result Sizes Refusal → Answer
+seen_check (Err r) = refused (number_of r)
+seen_check (Ok z) = sizes z
 
-abbrev pub CheckPromise : List ℕ → Checked → Type 0
+abbrev pub CheckPromise : List ℕ → Result Sizes Refusal → Type 0
 CheckPromise m r = r ≡ answer_of (verdict m)
 
 -- the history is not lent to start

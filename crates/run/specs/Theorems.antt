@@ -1,6 +1,7 @@
 -- The theorems on lists of calls. Proved in proofs/.
-use Rattle.std.specs.Prelude.{◌≡◌, List, [], ◌∷◌, ℕ, ℤ}
-use Rattle.model.specs.declared.Checked.{Checked}
+use Rattle.std.specs.Prelude.{◌≡◌, List, [], ◌∷◌, ℕ, ℤ, Result}
+use Rattle.results.specs.declared.refusal.Refusal.{Refusal}
+use Rattle.model.specs.declared.Sizes.{Sizes}
 use Rattle.model.specs.Check.{Verdict, verdict}
 use Rattle.model.specs.Check.Verdict.{refusal, accepted}
 use Rattle.model.specs.Theorems.{Bytes, Accepted, ShuffledFile}
@@ -20,7 +21,7 @@ use Rattle.run.specs.Promises.{seen_check, CheckPromise, StartPromise, FirePromi
 -- The functions carry out a list: what each promises of its answer and of what it is lent is the promise of its call, the rest of the
 -- store being as it was. 01: "Every call takes what it uses of this as the calls before, refused or not, left it".
 pub record CallsReached : Type 0 where
-  pub check : (m : List ℕ) (s : Store) (r : Checked) → CheckPromise m r → Promise m Check s (answered (seen_check r) s)
+  pub check : (m : List ℕ) (s : Store) (r : Result Sizes Refusal) → CheckPromise m r → Promise m Check s (answered (seen_check r) s)
   pub start : (m : List ℕ) (values : List ℤ) (marks history : List ℕ) (n : ℕ) (buffer : List ℕ) (r : declared.Answer)
       (values' : List ℤ) (marks' : List ℕ) (n' : ℕ) → StartPromise m values marks n r values' marks' n'
       → Promise m Start (store (run values marks history n) buffer) (answered (seen r) (store (run values' marks' history n') buffer))

@@ -5,12 +5,14 @@
 ghost use Rattle.standing.specs.Runs.{run, store};
 ghost use Rattle.run.specs.Promises.{CheckPromise, StartPromise, FirePromise, UndoPromise, MarksPromise, ValuePromise, PickPromise, FirstOutsidePromise, PerformPromise};
 
-use model::Checked;
+use model::Sizes;
 use replaying::Move;
+use results::Refusal;
+use standing::Run;
 use steps::Answer;
 
 // A call, with its transition or variable number.
-#[derive(Clone, Copy)]
+#[derive(Clone, Copy, PartialEq, Eq, Debug)]
 pub enum Call {
     Check,
     Start,
@@ -23,7 +25,7 @@ pub enum Call {
 }
 
 // The check of a model: its five sizes.
-pub fn check(model: &[u8]) -> Checked
+pub fn check(model: &[u8]) -> Result<Sizes, Refusal>
     ensures { CheckPromise model.now result }
 {
     model::check::check(model)
@@ -92,7 +94,13 @@ pub fn marks(
 ) -> Answer
     ensures { MarksPromise model.now values.now marks.now history.now n buffer.old result buffer.new }
 {
-    inspection::marks(model, values, marks, history, n, buffer)
+    let run = Run {
+        values,
+        marks,
+        history,
+        count: n,
+    };
+    inspection::marks(model, &run, buffer)
 }
 
 // The value of a variable.
@@ -106,14 +114,26 @@ pub fn value(
 ) -> Answer
     ensures { ValuePromise model.now values.now marks.now history.now n variable result }
 {
-    inspection::value(model, values, marks, history, n, variable)
+    let run = Run {
+        values,
+        marks,
+        history,
+        count: n,
+    };
+    inspection::value(model, &run, variable)
 }
 
 // The fireable transition with the lowest number, or none exactly if no guard is true.
 pub fn pick(model: &[u8], values: &[i32], marks: &[u8], history: &[u8], n: usize) -> Answer
     ensures { PickPromise model.now values.now marks.now history.now n result }
 {
-    picking::pick(model, values, marks, history, n)
+    let run = Run {
+        values,
+        marks,
+        history,
+        count: n,
+    };
+    picking::pick(model, &run)
 }
 
 // The first variable whose value is outside its ends or none, and how many values were looked at. The values alone are lent.
@@ -139,24 +159,15 @@ pub fn perform(
 {
     match call {
         Call::Check => match check(model) {
-            Checked::Refused(number) => Answer::Refused(number),
-            Checked::Accepted(sizes) => Answer::Sizes(sizes),
+            Err(refusal) => Answer::Refused(refusal.number()),
+            Ok(sizes) => Answer::Sizes(sizes),
         },
         Call::Start => start(model, values, marks, n),
         Call::Fire(transition) => fire(model, values, marks, history, n, transition),
         Call::Undo => undo(model, values, marks, history, n),
-        Call::Marks => {
-            let count = *n;
-            self::marks(model, values, marks, history, count, buffer)
-        }
-        Call::Value(variable) => {
-            let count = *n;
-            value(model, values, marks, history, count, variable)
-        }
-        Call::Pick => {
-            let count = *n;
-            pick(model, values, marks, history, count)
-        }
+        Call::Marks => self::marks(model, values, marks, history, *n, buffer),
+        Call::Value(variable) => value(model, values, marks, history, *n, variable),
+        Call::Pick => pick(model, values, marks, history, *n),
         Call::FirstOutside => first_outside(model, values),
     }
 }

@@ -1,9 +1,7 @@
 -- Proofs of crate `scanner`.
-pub mod Beginnings
-pub mod Parts
+pub mod Spellings
 pub mod Numerals
-pub mod Meanings
-pub mod Runs
-pub mod Signs
-pub mod FirstWords
 pub mod Parentheses
+pub mod Lengths
+pub mod Meanings
+pub mod FirstWords

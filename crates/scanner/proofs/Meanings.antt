@@ -1,125 +1,147 @@
--- What a word means, by the tests that the code makes.
+-- What a word means, by its first byte.
 use mathlib.Core.Path.{◌≡◌, refl, sym, ap, ◌∙◌}
-use mathlib.Core.Bool.{Bool, true, false, cond, ◌&&◌, true≢false}
+use mathlib.Core.Bool.{Bool, true, false, cond, ◌&&◌}
 use mathlib.Core.List.{List, [], ◌∷◌}
-use Prim.Native.Nat.{ℕ, ◌-◌, ◌≤◌, ◌<◌}
+use Prim.Native.Nat.{ℕ, ◌≤◌, ◌<◌}
 use native.Mathlib.Omega.{arith}
-use borrow.Author.Tests.{lt-ltb, le-leb, lt-leb, ne_eqb}
-use lib.Dec.{leb}
-use lib.ListN.{length, take, drop, get_or, length-drop}
-use lib.Seq.{take_all}
-use Rattle.ascii.specs.Ascii.{same, value_of}
-use Rattle.grammar.specs.Tokens.{token, token_of, code_among, fixed_words, is_numeral}
-use Rattle.grammar.specs.Held.{capped, word_of}
-use Rattle.scanner.specs.declared.Numeral.{Numeral}
-use Rattle.scanner.specs.declared.Numeral.TheVariants.{Value, Nothing}
+use borrow.Author.Tests.{leb-true, le-leb, lt-leb, ne_eqb}
+use lib.Dec.{T, leb, ltb, ltb→lt}
+use lib.ListN.{length}
+use Rattle.std.specs.Prelude.{Option, Some, None, MatchOption, unwrap_or}
+use Rattle.std.proofs.lemmas.Option.{MatchOption-at_some, MatchOption-at_none}
+use Rattle.ascii.specs.Ascii.{same, is_digit, are_digits, value_of}
+use Rattle.grammar.specs.declared.Token.{Token}
+use Rattle.grammar.specs.declared.Token.TheVariants.{Unknown, Number, Variable}
+use Rattle.grammar.specs.Tokens.{ordinal, token_among, fixed_words, is_numeral, other_token, token_of}
+use Rattle.grammar.specs.Held.{capped, held}
+use Rattle.grammar.proofs.Tests.{and_left, and_right, is_true, passes}
+use Rattle.grammar.proofs.Ordinals.{held_same}
 use Rattle.scanner.specs.Scanning.{numeral_of}
 
--- ---- what a numeral tells
+-- no byte
+pub empty_meaning : (w : List ℕ) → length w ≡ 0 → Unknown ≡ held (token_of w)
+unfolding held token_of other_token token_among fixed_words is_numeral are_digits same
+empty_meaning [] e = refl
+empty_meaning (b ∷ t) e = absurd (omega arith)
 
-module _ (w : List ℕ) {r : Numeral} (e : r ≡ numeral_of w) where
-  -- a value
-  pub is_number : (v : ℕ) → r ≡ Value v → (is_numeral w ≡ true) × (v ≡ capped (value_of w))
-  unfolding numeral_of
-  is_number v f = by (is_numeral w) refl (sym e ∙ f)
+-- ---- `v`, 118
+
+v_token : (t : List ℕ) → token_of (118 ∷ t) ≡ cond (is_numeral t) (Variable (value_of t)) Unknown
+unfolding token_of other_token token_among fixed_words is_numeral are_digits same
+v_token t = refl
+
+pub variable_meaning : {w : List ℕ} {b : ℕ} {t : List ℕ} → w ≡ b ∷ t → b ≡ 118 → {o : Option ℕ} {r : Token} → o ≡ numeral_of t
+    → MatchOption o (r ≡ Unknown) (λ x. r ≡ Variable x) → r ≡ held (token_of w)
+unfolding held numeral_of
+variable_meaning {t = t} is v {o} {r} e m = rw (is, v, v_token t) (by (is_numeral t) e)
+  where
+    by : (b : Bool) → o ≡ cond b (Some (capped (value_of t))) None → r ≡ held (cond b (Variable (value_of t)) Unknown)
+    by true f = MatchOption-at_some (r ≡ Unknown) (λ x. r ≡ Variable x) (capped (value_of t)) f m
+    by false f = MatchOption-at_none (r ≡ Unknown) (λ x. r ≡ Variable x) f m
+
+-- ---- a digit
+
+module _ (b : ℕ) (t : List ℕ) (d : is_digit b ≡ true) where
+  least : 48 ≤ b
+  least = leb-true 48 b (is_true (leb 48 b) (and_left (leb 48 b) (leb b 57) (passes (is_digit b) d)))
+
+  most : b ≤ 57
+  most = leb-true b 57 (is_true (leb b 57) (and_right (leb 48 b) (leb b 57) (passes (is_digit b) d)))
+
+  -- no word with a meaning of its own begins with it
+  digit_first : token_among fixed_words (b ∷ t) ≡ None
+  unfolding fixed_words token_among same
+  digit_first =
+      rw (
+        ne_eqb 116 b (λ e. omega (arith, e, most)),
+        ne_eqb 102 b (λ e. omega (arith, e, most)),
+        ne_eqb 100 b (λ e. omega (arith, e, most)),
+        ne_eqb 109 b (λ e. omega (arith, e, most)),
+        ne_eqb 105 b (λ e. omega (arith, e, most)),
+        ne_eqb 101 b (λ e. omega (arith, e, most)),
+        ne_eqb 110 b (λ e. omega (arith, e, most)),
+        ne_eqb 97 b (λ e. omega (arith, e, most)),
+        ne_eqb 111 b (λ e. omega (arith, e, most)),
+        ne_eqb 40 b (λ e. omega (arith, e, least)),
+        ne_eqb 41 b (λ e. omega (arith, e, least)),
+        ne_eqb 44 b (λ e. omega (arith, e, least)),
+        ne_eqb 43 b (λ e. omega (arith, e, least)),
+        ne_eqb 45 b (λ e. omega (arith, e, least)),
+        ne_eqb 42 b (λ e. omega (arith, e, least)),
+        ne_eqb 61 b (λ e. omega (arith, e, most)),
+        ne_eqb 33 b (λ e. omega (arith, e, least)),
+        ne_eqb 60 b (λ e. omega (arith, e, most)),
+        ne_eqb 62 b (λ e. omega (arith, e, most)),
+      )
+
+  -- so it is a number or nothing
+  digit_token : token_of (b ∷ t) ≡ cond (is_numeral (b ∷ t) && leb (value_of (b ∷ t)) 2147483647) (Number (value_of (b ∷ t))) Unknown
+  unfolding token_of other_token same
+  digit_token = rw (digit_first, ne_eqb b 118 (λ e. omega (arith, e, most)))
+
+module _ {w : List ℕ} {b : ℕ} {t : List ℕ} (is : w ≡ b ∷ t) (d : is_digit b ≡ true) {o : Option ℕ} (e : o ≡ numeral_of w) where
+  number_or_nothing : token_of w ≡ cond (is_numeral w && leb (value_of w) 2147483647) (Number (value_of w)) Unknown
+  number_or_nothing = rw is (digit_token b t d)
+
+  pub number_meaning : (n : ℕ) → o ≡ Some n → n ≤ 2147483647 → Number n ≡ held (token_of w)
+  unfolding held numeral_of
+  number_meaning n f h = rw number_or_nothing (by (is_numeral w) (sym f ∙ e))
     where
-      by : (t : Bool) → is_numeral w ≡ t → cond t (Value (capped (value_of w))) Nothing ≡ Value v → (is_numeral w ≡ true) × (v ≡ capped (value_of w))
-      by true q g = (q, cc)
-      by false q g = let z : true ≡ false = cc in absurd (true≢false z)
+      by : (s : Bool) → Some n ≡ cond s (Some (capped (value_of w))) None → Number n ≡ held (cond (s && leb (value_of w) 2147483647) (Number (value_of w)) Unknown)
+      by true g =
+          let same : n ≡ capped (value_of w) = cc in
+          let small : value_of w ≤ 2147483647 = omega (arith, same) in
+          rw (le-leb (value_of w) 2147483647 small, same)
+      by false g = cc
 
-  -- none
-  pub is_nothing : r ≡ Nothing → is_numeral w ≡ false
-  unfolding numeral_of
-  is_nothing f = by (is_numeral w) refl (sym e ∙ f)
+  -- above the greatest
+  pub great_meaning : (n : ℕ) → o ≡ Some n → 2147483647 < n → Unknown ≡ held (token_of w)
+  unfolding held numeral_of
+  great_meaning n f h = rw number_or_nothing (by (is_numeral w) (sym f ∙ e))
     where
-      by : (t : Bool) → is_numeral w ≡ t → cond t (Value (capped (value_of w))) Nothing ≡ Nothing → is_numeral w ≡ false
-      by true q g = let z : true ≡ false = cc in absurd (true≢false z)
-      by false q g = q
+      by : (s : Bool) → Some n ≡ cond s (Some (capped (value_of w))) None → Unknown ≡ held (cond (s && leb (value_of w) 2147483647) (Number (value_of w)) Unknown)
+      by true g =
+          let same : n ≡ capped (value_of w) = cc in
+          let great : 2147483647 < value_of w = omega (arith, same) in
+          rw (lt-leb (value_of w) 2147483647 great)
+      by false g = cc
 
--- ---- `v`, 118, and what follows it
+  -- no numeral
+  pub no_meaning : o ≡ None → Unknown ≡ held (token_of w)
+  unfolding held numeral_of
+  no_meaning f = rw number_or_nothing (by (is_numeral w) (sym f ∙ e))
+    where
+      by : (s : Bool) → None ≡ cond s (Some (capped (value_of w))) None → Unknown ≡ held (cond (s && leb (value_of w) 2147483647) (Number (value_of w)) Unknown)
+      by true g = cc
+      by false g = refl
 
--- no first byte
-first_none : (w : List ℕ) → length w ≡ 0 → get_or w 0 0 ≡ 0
-first_none [] h = refl
-first_none (b ∷ w) h = absurd (omega arith)
+-- ---- any other byte
 
--- another first byte
-first_other : (w : List ℕ) → (get_or w 0 0 ≡ 118 → ⊥) → same (take 1 w) (118 ∷ []) ≡ false
-unfolding same
-first_other [] h = refl
-first_other (b ∷ w) h = rw (ne_eqb b 118 h)
+-- a table without numbers and variables
+plain : List (List ℕ × Token) → Bool
+plain [] = true
+plain ((s, t) ∷ ss) = ltb 2 (ordinal t) && plain ss
 
--- this one
-first_same : (w : List ℕ) → get_or w 0 0 ≡ 118 → same (take 1 w) (118 ∷ []) ≡ true
-unfolding same
-first_same [] h = absurd (omega arith)
-first_same (b ∷ w) h = rw h
+-- its tokens are held as they are
+among_held : (ss : List (List ℕ × Token)) (w : List ℕ) → T (plain ss) → unwrap_or (token_among ss w) Unknown ≡ held (unwrap_or (token_among ss w) Unknown)
+unfolding plain token_among held
+among_held [] w h = refl
+among_held ((s, t) ∷ ss) w h = by (same s w) (among_held ss w (and_right (ltb 2 (ordinal t)) (plain ss) h))
+  where
+    by : (b : Bool) → unwrap_or (token_among ss w) Unknown ≡ held (unwrap_or (token_among ss w) Unknown)
+        → unwrap_or (cond b (Some t) (token_among ss w)) Unknown ≡ held (unwrap_or (cond b (Some t) (token_among ss w)) Unknown)
+    by true e = sym (held_same t (ltb→lt 2 (ordinal t) (and_left (ltb 2 (ordinal t)) (plain ss) h)))
+    by false e = e
 
--- all bytes after the first
-all_after : (w : List ℕ) → take (length w - 1) (drop 1 w) ≡ drop 1 w
-all_after w = take_all (length w - 1) (drop 1 w) (omega (arith, length-drop 1 w))
+module _ {w : List ℕ} {b : ℕ} {t : List ℕ} (is : w ≡ b ∷ t) (n : b ≡ 118 → ⊥) (d : is_digit b ≡ false) where
+  no_other : other_token w ≡ Unknown
+  unfolding other_token is_numeral are_digits same
+  no_other = rw (is, d, ne_eqb b 118 n)
 
--- ---- the first test that passes
-
--- a word with a meaning of its own
-pub fixed_word : (w : List ℕ) (next : ℕ) {r : ℕ} → r ≡ code_among fixed_words 3 w → (r ≡ 0 → ⊥)
-    → record { number = 0; next = next; code = r } ≡ word_of (token_of w) next
-unfolding token_of
-fixed_word w next e n = let some : 0 < code_among fixed_words 3 w = omega (arith, n, e) in rw (e, lt-ltb 0 (code_among fixed_words 3 w) some)
-
-module _ (w : List ℕ) (e : code_among fixed_words 3 w ≡ 0) where
-  -- a number
-  pub number_word : (next v : ℕ) → (is_numeral w ≡ true) × (v ≡ capped (value_of w)) → v ≤ 2147483647
-      → record { number = v; next = next; code = 1 } ≡ word_of (token_of w) next
+  fixed_only : token_of w ≡ unwrap_or (token_among fixed_words w) Unknown
   unfolding token_of
-  number_word next v n h =
-      let small : value_of w ≤ 2147483647 = omega (arith, n.1) in
-      rw (e, n.0, le-leb (value_of w) 2147483647 small, n.1)
+  fixed_only = ap (unwrap_or (token_among fixed_words w)) no_other
 
-  -- no number up to the greatest that can be typed
-  not_number : is_numeral w && leb (value_of w) 2147483647 ≡ false → (token_of w).code ≡ 1 → ⊥
-  unfolding token_of
-  not_number n c = by (same (take 1 w) (118 ∷ []) && is_numeral (drop 1 w)) (rw (e, n) at c)
-    where
-      by : (t : Bool) → (cond t (token 2 (value_of (drop 1 w))) (token 0 0)).code ≡ 1 → ⊥
-      by true g = omega arith
-      by false g = omega arith
-
-  -- a greater one
-  pub great_number : (v : ℕ) → (is_numeral w ≡ true) × (v ≡ capped (value_of w)) → 2147483647 < v → (token_of w).code ≡ 1 → ⊥
-  great_number v n h =
-      let great : 2147483647 < value_of w = omega (arith, n.1) in not_number (rw (n.0, lt-leb (value_of w) 2147483647 great))
-
-  -- none at all
-  pub no_number : is_numeral w ≡ false → (token_of w).code ≡ 1 → ⊥
-  no_number n = not_number (rw n)
-
-  module _ (next : ℕ) (n : (token_of w).code ≡ 1 → ⊥) where
-    -- a variable or unknown
-    other_word : token_of w ≡ cond (same (take 1 w) (118 ∷ []) && is_numeral (drop 1 w)) (token 2 (value_of (drop 1 w))) (token 0 0)
-    unfolding token_of
-    other_word = by (is_numeral w && leb (value_of w) 2147483647) refl
-      where
-        by : (t : Bool) → is_numeral w && leb (value_of w) 2147483647 ≡ t
-            → token_of w ≡ cond (same (take 1 w) (118 ∷ []) && is_numeral (drop 1 w)) (token 2 (value_of (drop 1 w))) (token 0 0)
-        by true q = absurd (n (rw (e, q)))
-        by false q = rw (e, q)
-
-    -- neither
-    unknown_word : same (take 1 w) (118 ∷ []) && is_numeral (drop 1 w) ≡ false → record { number = 0; next = next; code = 0 } ≡ word_of (token_of w) next
-    unknown_word q = rw (other_word, q)
-
-    pub unknown_empty : length w ≡ 0 → record { number = 0; next = next; code = 0 } ≡ word_of (token_of w) next
-    unknown_empty h = unknown_word (rw (first_other w (omega (arith, first_none w h))))
-
-    pub unknown_letter : (get_or w 0 0 ≡ 118 → ⊥) → record { number = 0; next = next; code = 0 } ≡ word_of (token_of w) next
-    unknown_letter h = unknown_word (rw (first_other w h))
-
-    -- `v`, and what follows it as a slice
-    module _ (h : get_or w 0 0 ≡ 118) where
-      pub variable_word : (v : ℕ) → (is_numeral (take (length w - 1) (drop 1 w)) ≡ true) × (v ≡ capped (value_of (take (length w - 1) (drop 1 w))))
-          → record { number = v; next = next; code = 2 } ≡ word_of (token_of w) next
-      variable_word v q = rw (other_word, q.1, all_after w, first_same w h, sym (ap is_numeral (all_after w)) ∙ q.0)
-
-      pub unknown_digits : is_numeral (take (length w - 1) (drop 1 w)) ≡ false → record { number = 0; next = next; code = 0 } ≡ word_of (token_of w) next
-      unknown_digits q = unknown_word (rw (first_same w h, sym (ap is_numeral (all_after w)) ∙ q))
+  pub fixed_meaning : {o : Option Token} {r : Token} → o ≡ token_among fixed_words w → r ≡ unwrap_or o Unknown → r ≡ held (token_of w)
+  unfolding plain fixed_words
+  fixed_meaning e f = f ∙ ap (λ u. unwrap_or u Unknown) e ∙ among_held fixed_words w tt ∙ ap held (sym fixed_only)

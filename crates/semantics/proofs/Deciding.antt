@@ -5,6 +5,7 @@ use mathlib.Core.Logic.◌⊎◌.{inl, inr}
 use mathlib.Core.Bool.{Bool, true, false, true≢false, ◌&&◌, ◌||◌}
 use mathlib.Core.List.{List, [], ◌∷◌}
 use mathlib.Core.Option.{some}
+use Rattle.std.specs.Prelude.{Some, slice_get}
 use Prim.Native.Nat.{ℕ, zero, suc, ◌<◌}
 use native.Mathlib.Nat.{not-suc-le-zero, le_of_suc-le-suc}
 use native.Mathlib.Omega.{arith}
@@ -20,6 +21,7 @@ use Rattle.evaluation.specs.declared.Operator.TheVariants.{Conjunction, Disjunct
 use Rattle.evaluation.specs.Numbers.{eq_z, boolean}
 use Rattle.evaluation.specs.Meaning.{operated, negated, calculated, decides, decision, is_unknown, is_failed, number}
 use Rattle.evaluation.proofs.Laws.{eq_z_true, cond_keeps, chosen_keeps}
+use Rattle.kinds.specs.declared.Sort.{Sort}
 use Rattle.kinds.specs.Kinds.{boolean_sort, kind_of, result_of}
 use Rattle.syntax.specs.Readings.{is_truth}
 use Rattle.model.specs.declared.Sizes.{Sizes}
@@ -56,11 +58,11 @@ truthful_calculated Disjunction e a b = truthful_boolean false
 truthful_calculated Equality e a b = truthful_boolean (eq_z a b)
 truthful_calculated Less e a b = truthful_boolean (lt_z a b)
 truthful_calculated LessOrEqual e a b = truthful_boolean (le_z a b)
-truthful_calculated Sum e a b = absurd (omega (arith, e))
-truthful_calculated Difference e a b = absurd (omega (arith, e))
-truthful_calculated Product e a b = absurd (omega (arith, e))
-truthful_calculated Quotient e a b = absurd (omega (arith, e))
-truthful_calculated Remainder e a b = absurd (omega (arith, e))
+truthful_calculated Sum e a b = cc
+truthful_calculated Difference e a b = cc
+truthful_calculated Product e a b = cc
+truthful_calculated Quotient e a b = cc
+truthful_calculated Remainder e a b = cc
 truthful_calculated Equivalence e a b = truthful_boolean (eq_z a b)
 
 truthful_decision : (op : Operator) → Truthful (Value (decision op))
@@ -90,10 +92,10 @@ truthful_negated Unknown = tt
 truthful_negated Failed = tt
 truthful_negated (Value v) = truthful_boolean (eq_z v (boolean false))
 
-module _ (sorts : List ℕ) (σ : Valuation) (booleans : (x : ℕ) → x < length sorts → get_or sorts x 0 ≡ boolean_sort → Truthful (evaluation_of (σ x))) where
+module _ (sorts : List Sort) (σ : Valuation) (booleans : (x : ℕ) → x < length sorts → slice_get sorts x ≡ boolean_sort → Truthful (evaluation_of (σ x))) where
   truthful_expression : (e : Expression) → Sorted sorts boolean_sort e → Truthful (evaluate e σ)
   unfolding evaluate Sorted Truthful
-  truthful_expression (numeral v) h = absurd (omega (arith, h.0))
+  truthful_expression (numeral v) h = cc h.0
   truthful_expression (truth v) h = h.1
   truthful_expression (variable x) h = booleans x h.0 h.1
   truthful_expression (negation a) h = truthful_negated (evaluate a σ)
@@ -103,9 +105,9 @@ module _ (sorts : List ℕ) (σ : Valuation) (booleans : (x : ℕ) → x < lengt
 
 -- ---- values within their ends
 
-sort_there : (vs : List Variable) (x : ℕ) (d : Variable) → get_elem? vs x ≡ some d → get_or (sorts_of vs) x 0 ≡ d.sort
+sort_there : (vs : List Variable) (x : ℕ) (d : Variable) → get_elem? vs x ≡ some d → slice_get (sorts_of vs) x ≡ Some d.sort
 sort_there [] x d e = let z : ◌≡◌ {A = ℕ} 0 1 = cc in absurd (omega arith)
-sort_there (v ∷ vs) zero d e = let z : v ≡ d = cc in ap (λ v. v.sort) z
+sort_there (v ∷ vs) zero d e = let z : v ≡ d = cc in ap (λ v. Some v.sort) z
 sort_there (v ∷ vs) (suc x) d e = sort_there vs x d e
 
 value_there : (values : List ℤ) (x : ℕ) → x < length values → get_elem? values x ≡ some (get_or values x (pos 0))
@@ -125,16 +127,16 @@ between_ends (pos (suc zero)) h = tt
 between_ends (pos (suc (suc n))) h = absurd (omega (arith, leb-true (suc (suc n)) 1 (second_holds (le_z (pos 0) (pos (suc (suc n)))) (le_z (pos (suc (suc n))) (pos 1)) h)))
 between_ends (negsuc n) h = absurd h
 
-within_boolean : (d : Variable) → Declared d → d.sort ≡ boolean_sort → (v : ℤ) → T (is_within (some d) v) → T (is_truth v)
+within_boolean : (d : Variable) → Declared d → Some d.sort ≡ boolean_sort → (v : ℤ) → T (is_within (some d) v) → T (is_truth v)
 unfolding Declared is_within
 within_boolean d declared b v h =
     ⊎_elim
     (λ w. between_ends v (subst (λ l. T (le_z l v && le_z v (pos 1))) w.1 (subst (λ u. T (le_z d.low v && le_z v u)) w.2 h)))
-    (λ w. absurd (omega (arith, b, w.0)))
+    (λ w. cc (b, w.0))
     declared
 
 booleans_within : (t : System) → WellFormed t → (values : List ℤ) → VariableValues t values
-    → (x : ℕ) → x < length (sorts_of (variables t)) → get_or (sorts_of (variables t)) x 0 ≡ boolean_sort → Truthful (evaluation_of (known_from values x))
+    → (x : ℕ) → x < length (sorts_of (variables t)) → slice_get (sorts_of (variables t)) x ≡ boolean_sort → Truthful (evaluation_of (known_from values x))
 unfolding evaluation_of Truthful
 booleans_within t w values inside x l b =
     let d = element_below (variables t) x (omega (arith, length-map (variables t) (λ v. v.sort))) in

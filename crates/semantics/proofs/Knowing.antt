@@ -8,6 +8,7 @@ use native.Mathlib.Omega.{arith}
 use native.Mathlib.Nat.{not-suc-le-zero, le_of_suc-le-suc}
 use lib.IntN.{ℤ, pos}
 use lib.ListN.{length, get_or, get_elem?, length-map}
+use Rattle.std.specs.Prelude.{Option as Optional, slice_get}
 use Rattle.evaluation.specs.declared.Evaluation.{Evaluation}
 use Rattle.evaluation.specs.declared.Evaluation.TheVariants.{Unknown, Failed, Value}
 use Rattle.evaluation.specs.declared.Operator.{Operator}
@@ -15,6 +16,7 @@ use Rattle.evaluation.specs.declared.Operator.TheVariants.{Conjunction, Disjunct
 use Rattle.evaluation.specs.Numbers.{representable, checked, eq_z, boolean}
 use Rattle.evaluation.specs.Meaning.{operated, negated, agree, chosen, calculated, decides, decision, divided, is_unknown, is_failed, number}
 use Rattle.evaluation.proofs.Laws.{cond_keeps}
+use Rattle.kinds.specs.declared.Sort.{Sort}
 use Rattle.kinds.specs.Kinds.{boolean_sort}
 use Rattle.model.specs.Trees.{Expression, Instruction, Instructions, Variable, Transition, System, variables, sorts_of}
 use Rattle.model.specs.Trees.Expression.{numeral, truth, variable, negation, binary, if_then_else}
@@ -95,7 +97,7 @@ known_variable none h = sym h
 known_variable (some v) h = refl
 
 module _ (vs : List Variable) (σ : Valuation) (known : AllKnown vs σ) where
-  pub known_expression : (e : Expression) (sort : ℕ) → Sorted (sorts_of vs) sort e → is_unknown (evaluate e σ) ≡ false
+  pub known_expression : (e : Expression) (sort : Optional Sort) → Sorted (sorts_of vs) sort e → is_unknown (evaluate e σ) ≡ false
   unfolding evaluate Sorted is_unknown
   known_expression (numeral v) sort h = refl
   known_expression (truth v) sort h = refl
@@ -124,7 +126,7 @@ module _ (vs : List Variable) (σ : Valuation) (known : AllKnown vs σ) where
 
       pub nothing_waits : (i : Instruction) → Scoped i s → waits i σ ≡ false
       nothing_waits skip h = refl
-      nothing_waits (assign x e) h = known_expression e _ (subst (λ l. Sorted l (get_or s.sorts x 0) e) same h.2)
+      nothing_waits (assign x e) h = known_expression e _ (subst (λ l. Sorted l (slice_get s.sorts x) e) same h.2)
       nothing_waits (if_then c i) h =
           known_under (evaluate c σ) (waits i σ) (known_expression c _ (subst (λ l. Sorted l boolean_sort c) same h.0)) (nothing_waits i h.1)
       nothing_waits (block is) h = none_waits is h

@@ -3,7 +3,7 @@ use Rattle.std.specs.Prelude.{◌≡◌, List, [], ◌∷◌, T, ℤ, pos}
 use Rattle.std.specs.Int.Signed.{le_z}
 use Rattle.evaluation.specs.declared.Operator.TheVariants.{Quotient}
 use Rattle.evaluation.specs.Rows.{RowA, RowB, RowC, RowD, RowE, RowF, RowG}
-use Rattle.kinds.specs.Kinds.{boolean_sort, number_sort}
+use Rattle.kinds.specs.declared.Sort.TheVariants.{Boolean, Number}
 use Rattle.model.specs.Trees.{Instruction, Variable, System}
 use Rattle.model.specs.Trees.Expression.{numeral, variable, negation, binary}
 use Rattle.model.specs.Trees.Instruction.{skip, assign, block}
@@ -21,10 +21,10 @@ abbrev pub both : Instruction → Instruction → Instruction
 both i j = block (more i (more j none))
 
 abbrev pub number_variable : ℤ → ℤ → ℤ → Variable
-number_variable low high first = record { sort = number_sort; low = low; high = high; first = first }
+number_variable low high first = record { sort = Number; low = low; high = high; first = first }
 
 abbrev pub boolean_variable : ℤ → Variable
-boolean_variable first = record { sort = boolean_sort; low = pos 0; high = pos 1; first = first }
+boolean_variable first = record { sort = Boolean; low = pos 0; high = pos 1; first = first }
 
 -- a model of states alone
 abbrev pub of_states : List Variable → System

@@ -1,5 +1,5 @@
 -- The laws of order; that nothing is unknown where every variable is known, and a guard then true, false or failed. Proved in proofs/.
-use Rattle.std.specs.Prelude.{◌≡◌, ◌⊎◌, Bool, true, false, cond, ◌||◌, List, ℕ, suc, ◌≤◌, ◌<◌, T, ℤ, pos, length, get_or}
+use Rattle.std.specs.Prelude.{◌≡◌, ◌⊎◌, Bool, true, false, cond, ◌||◌, List, ℕ, suc, ◌≤◌, ◌<◌, T, ℤ, pos, length, get_or, Option}
 use Rattle.std.proofs.Math.Option.{some}
 use Rattle.std.proofs.Math.ListN.{get_elem?}
 use Rattle.evaluation.specs.declared.Evaluation.{Evaluation}
@@ -7,6 +7,7 @@ use Rattle.evaluation.specs.declared.Evaluation.TheVariants.{Unknown, Failed, Va
 use Rattle.evaluation.specs.Numbers.{eq_z, boolean}
 use Rattle.evaluation.specs.Meaning.{is_unknown}
 use Rattle.evaluation.specs.Laws.{Grows}
+use Rattle.kinds.specs.declared.Sort.{Sort}
 use Rattle.model.specs.declared.Sizes.{Sizes}
 use Rattle.model.specs.Trees.{Expression, Instruction, Instructions, Variable, Transition, System, variables, sorts_of}
 use Rattle.model.specs.Trees.Instruction.{skip, assign, if_then, block}
@@ -87,7 +88,7 @@ unfoldable mutual
 -- where 01 reads over known variables nothing is unknown
 pub record NothingUnknown (t : System) : Type 0 where
   -- any expression that has its sort over the variables
-  pub expressions : (e : Expression) (sort : ℕ) → Sorted (sorts_of (variables t)) sort e
+  pub expressions : (e : Expression) (sort : Option Sort) → Sorted (sorts_of (variables t)) sort e
       → (σ : Valuation) → AllKnown (variables t) σ → is_unknown (evaluate e σ) ≡ false
   -- a mark 0 and a refusal 23 are of a guard that has a value
   pub guards : (k : ℕ) → k < length t.transitions → (values : List ℤ) → length values ≡ length (variables t)

@@ -5,26 +5,14 @@
 
 use interpreter::Fault;
 
-// Whether a fault was found.
-#[derive(Clone, Copy)]
-pub enum Finding {
-    Clear,
-    Faulty(Fault),
-}
-
-// What the assertion comes to: a fault, or the round count.
-#[derive(Clone, Copy)]
-pub enum Propagated {
-    Refused(Fault),
-    Settled(usize),
-}
-
-// What firing comes to: the guard is not true, it failed, a fault in the action or in the assertion, or the round count.
-#[derive(Clone, Copy)]
-pub enum Firing {
+// Why a transition was not fired: its guard is not true, it failed, or there is a fault in the action or in the assertion.
+#[derive(Clone, Copy, PartialEq, Eq, Debug)]
+pub enum NotFired {
     Disabled,
     GuardFailed,
     ActionFault(Fault),
     AssertionFault(Fault),
-    Fired(usize),
 }
+
+// What firing comes to: the round count, or why nothing was fired.
+pub type Firing = Result<usize, NotFired>;

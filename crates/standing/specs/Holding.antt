@@ -1,10 +1,12 @@
 -- 9, 10 and 20: does a run fit a model. 01: "every other call takes 9 and, start excepted, 20"; A4: 10 "in every call on a run". A3's
 -- check of the values takes 9 alone.
-use Rattle.std.specs.Prelude.{Bool, true, false, cond, ◌&&◌, List, [], ◌∷◌, ℕ, suc, leb, ltb, ℤ, pos, length, get_or, take}
-use Rattle.std.proofs.Math.Option.{Option, some, none}
+use Rattle.std.specs.Prelude.{◌≡◌, ◌⊎◌, ◌≤◌, ◌<◌, Bool, cond, ◌&&◌, List, [], ◌∷◌, ℕ, suc, leb, ltb, ℤ, pos, length, get_or, take, Option, Some, None, is_none}
+use Rattle.std.specs.List.{list_all}
 use Rattle.std.specs.Int.Signed.{le_z}
-use Rattle.kinds.specs.Kinds.{no_sort}
+use Rattle.kinds.specs.declared.Sort.TheVariants.{Number}
 use Rattle.model.specs.Trees.{Variable}
+use Rattle.results.specs.declared.refusal.Refusal.{Refusal}
+use Rattle.results.specs.declared.refusal.Refusal.TheVariants.{ShortValues, ShortSlice}
 use Rattle.semantics.specs.Meanings.{Meaning}
 use Rattle.standing.specs.Runs.{Run}
 
@@ -17,10 +19,15 @@ too_short m values = ltb (length values) (length m.declarations)
 abbrev pub too_few : Meaning → List ℕ → Bool
 too_few m marks = ltb (length marks) m.transitions
 
+-- 9, or else 10: too few values for these rows of variables, or too few marks for so many transitions
+abbrev pub IsShort : ℕ → List (List ℤ) → Run → Refusal → Type 0
+IsShort transitions rows r e =
+    ((e ≡ ShortValues) × (length r.values < length rows))
+    ⊎ ((e ≡ ShortSlice) × (length rows ≤ length r.values) × (length r.marks < transitions))
+
 -- every number of a list is below t
-unfoldable pub all_below : ℕ → List ℕ → Bool
-all_below t [] = true
-all_below t (k ∷ ks) = ltb k t && all_below t ks
+abbrev pub all_below : ℕ → List ℕ → Bool
+all_below t ks = list_all (λ k. ltb k t) ks
 
 -- 20, the part of the history: "n above the record's length, one of the first n entries T or above"
 abbrev pub history_holds : ℕ → ℕ → List ℕ → Bool
@@ -33,18 +40,14 @@ marks_within t marks = all_below 3 (take t marks)
 -- 20, the part of the values, "a value outside its ends": the first such variable, lowest first, counted from x; a value that is
 -- missing is outside. A3: "The first value outside its ends, lowest variable first, finishes it."
 unfoldable pub first_outside : List Variable → List ℤ → ℕ → Option ℕ
-first_outside [] values x = none
-first_outside (v ∷ vs) [] x = some x
-first_outside (v ∷ vs) (c ∷ cs) x = cond (le_z v.low c && le_z c v.high) (first_outside vs cs (suc x)) (some x)
+first_outside [] values x = None
+first_outside (v ∷ vs) [] x = Some x
+first_outside (v ∷ vs) (c ∷ cs) x = cond (le_z v.low c && le_z c v.high) (first_outside vs cs (suc x)) (Some x)
 
 -- A3: "how many values it looked at: that number plus one, or S+F". Where 9 was tried none is missing; a missing one counts too.
 unfoldable pub looked_at : ℕ → Option ℕ → ℕ
-looked_at total none = total
-looked_at total (some x) = suc x
-
-unfoldable pub is_none : Option ℕ → Bool
-is_none none = true
-is_none (some x) = false
+looked_at total None = total
+looked_at total (Some x) = suc x
 
 -- 20 as a whole, over so many transitions and these variables
 abbrev pub holds_over : ℕ → List Variable → Run → Bool
@@ -55,4 +58,4 @@ holds m r = holds_over m.transitions m.declarations r
 
 -- the variable with the ends and the first value of a row; its sort, which nothing here asks, is not in the row
 abbrev pub ends_of : List ℤ → Variable
-ends_of row = record { sort = no_sort; low = get_or row 0 (pos 0); high = get_or row 1 (pos 0); first = get_or row 2 (pos 0) }
+ends_of row = record { sort = Number; low = get_or row 0 (pos 0); high = get_or row 1 (pos 0); first = get_or row 2 (pos 0) }

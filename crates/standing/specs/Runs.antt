@@ -1,8 +1,8 @@
 -- 01, "The calls on a run": "A run is a values slice [..], a record slice of transition numbers (bytes), and a count n of recorded
 -- steps." The record slice is called the history here. A4: "The run shall hold its marks".
-use Rattle.std.specs.Prelude.{List, ℕ, ℤ}
-use Rattle.std.proofs.Math.Option.{Option}
+use Rattle.std.specs.Prelude.{List, ℕ, ℤ, Option}
 use Rattle.model.specs.declared.Sizes.{Sizes}
+use Rattle.standing.specs.declared.Run.{Run as Lent}
 use Rattle.results.specs.Results.{Answered}
 pub use Rattle.results.specs.Results.{answered}
 
@@ -19,6 +19,10 @@ pub record Store : Type 0 where
 
 abbrev pub run : List ℤ → List ℕ → List ℕ → ℕ → Run
 run values marks history count = record { values = values; marks = marks; history = history; count = count }
+
+-- the run that is lent as slices and a count
+abbrev pub run_in : Lent → Run
+run_in r = run r.values.now r.marks.now r.history.now r.count
 
 abbrev pub store : Run → List ℕ → Store
 store r buffer = record { run = r; buffer = buffer }

@@ -2,44 +2,56 @@
 
 #![tactic(auto)]
 
-ghost use Rattle.std.specs.Prelude.{◌≡◌, map, length, take};
-ghost use Rattle.results.specs.Results.{found};
-ghost use Rattle.standing.specs.Runs.{run};
-ghost use Rattle.standing.specs.Holding.{ends_of, first_outside, looked_at, all_below, history_holds, holds_over};
+ghost use Rattle.std.specs.Prelude.{◌≡◌, ◌≤◌, ◌<◌, IfSome, IfOk, IfErr, map, length, take};
+ghost use Rattle.standing.specs.Runs.{run_in};
+ghost use Rattle.standing.specs.Holding.{ends_of, first_outside, looked_at, all_below, history_holds, holds_over, IsShort};
 
-use results::Found;
+use results::Refusal;
 
 // How many marks there are: 0, 1 and 2.
 const MARKS: usize = 3;
 
-// What a check of values found: the first variable outside its ends or none, and how many values it looked at.
+// A run as it is lent: its values, the marks it holds, the transitions recorded, and how many of these count.
 #[derive(Clone, Copy)]
+pub struct Run<'a> {
+    pub values: &'a [i32],
+    pub marks: &'a [u8],
+    pub history: &'a [u8],
+    pub count: usize,
+}
+
+// What a check of values found: the first variable outside its ends or none, and how many values it looked at.
+#[derive(Clone, Copy, PartialEq, Eq, Debug)]
 pub struct RangeCheck {
-    pub outside: Found,
+    pub outside: Option<usize>,
     pub looked: usize,
 }
 
-// The first variable outside its ends finishes the check; no value after that one is looked at. A value that is missing is outside.
-pub fn check_ranges(variables: &[[i32; 3]], values: &[i32]) -> RangeCheck
-    ensures { (found result.outside ≡ first_outside (map ends_of variables.now) values.now 0)
-        × (result.looked ≡ looked_at (length variables.now) (first_outside (map ends_of variables.now) values.now 0)) }
+// The first variable outside its ends, or none; no value after that one is looked at. A value that is missing is outside.
+fn first_outside(variables: &[[i32; 3]], values: &[i32]) -> Option<usize>
+    ensures first { result ≡ first_outside (map ends_of variables.now) values.now 0 }
+    ensures declared { IfSome result (λ x. x < length variables.now) }
 {
-    let mut looked = 0;
-    while looked < variables.len() {
-        let variable = looked;
-        looked += 1; // this one too, whatever its value is
+    for variable in 0..variables.len() {
         if values.len() <= variable
             || !variables::is_within(variables, variable, values[variable])
         {
-            return RangeCheck {
-                outside: Found::At(variable),
-                looked,
-            };
+            return Some(variable);
         }
     }
+    None
+}
+
+// The first variable outside its ends, and how many values were looked at to find it: its own too, or all.
+#[tactic(auto, unfolding(crate::specs::Holding::looked_at))]
+pub fn check_ranges(variables: &[[i32; 3]], values: &[i32]) -> RangeCheck
+    ensures outside { result.outside ≡ first_outside (map ends_of variables.now) values.now 0 }
+    ensures looked { result.looked ≡ looked_at (length variables.now) (first_outside (map ends_of variables.now) values.now 0) }
+{
+    let outside = first_outside(variables, values);
     RangeCheck {
-        outside: Found::Nothing,
-        looked,
+        outside,
+        looked: outside.map_or(variables.len(), |variable| variable + 1),
     }
 }
 
@@ -47,50 +59,41 @@ pub fn check_ranges(variables: &[[i32; 3]], values: &[i32]) -> RangeCheck
 fn all_below(bound: usize, count: usize, cells: &[u8]) -> bool
     ensures { result ≡ all_below bound (take count cells.now) }
 {
-    let mut i = 0;
-    while i < count {
-        if cells.len() <= i {
-            return true;
-        }
-        if bound <= cells[i] as usize {
-            return false;
-        }
-        i += 1;
-    }
-    true
+    cells
+        .iter()
+        .take(count)
+        .all(|cell| usize::from(*cell) < bound)
 }
 
-// Is the count within the history, and is every recorded entry a transition.
-fn history_holds(transitions: usize, n: usize, history: &[u8]) -> bool
-    ensures { result ≡ history_holds transitions n history.now }
-{
-    if history.len() < n {
-        return false;
+impl Run<'_> {
+    // Are there a value for each variable and a mark for each transition.
+    pub fn measure(&self, transitions: usize, variables: &[[i32; 3]]) -> Result<(), Refusal>
+        ensures enough { IfOk result (λ _. (length variables.now ≤ length self.now.values.now) × (transitions ≤ length self.now.marks.now)) }
+        ensures short { IfErr result (λ e. IsShort transitions variables.now (run_in self.now) e) }
+    {
+        if self.values.len() < variables.len() {
+            return Err(Refusal::ShortValues);
+        }
+        if self.marks.len() < transitions {
+            return Err(Refusal::ShortSlice);
+        }
+        Ok(())
     }
-    all_below(transitions, n, history)
-}
 
-// Does a run hold, over so many transitions and the rows of the variables.
-pub fn holds(
-    transitions: usize,
-    variables: &[[i32; 3]],
-    values: &[i32],
-    marks: &[u8],
-    history: &[u8],
-    n: usize,
-) -> bool
-    ensures { result ≡ holds_over transitions (map ends_of variables.now) (run values.now marks.now history.now n) }
-{
-    if !history_holds(transitions, n, history) {
-        return false;
+    // Is the count within the history, and is every recorded entry a transition.
+    #[tactic(auto, unfolding(crate::specs::Holding::history_holds))]
+    fn history_holds(&self, transitions: usize) -> bool
+        ensures { result ≡ history_holds transitions self.now.count self.now.history.now }
+    {
+        self.count <= self.history.len() && all_below(transitions, self.count, self.history)
     }
-    if !all_below(MARKS, transitions, marks) {
-        return false;
-    }
-    let check = check_ranges(variables, values);
-    let outside = check.outside;
-    match outside {
-        Found::At(_) => false,
-        Found::Nothing => true,
+
+    // Does the run hold, over so many transitions and the rows of the variables.
+    pub fn holds(&self, transitions: usize, variables: &[[i32; 3]]) -> bool
+        ensures { result ≡ holds_over transitions (map ends_of variables.now) (run_in self.now) }
+    {
+        self.history_holds(transitions)
+            && all_below(MARKS, transitions, self.marks)
+            && check_ranges(variables, self.values).outside.is_none()
     }
 }

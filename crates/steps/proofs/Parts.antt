@@ -6,8 +6,9 @@ use lib.ListN.{take}
 use Rattle.model.specs.declared.Model.{Model}
 use Rattle.model.specs.Sizes.{byte_layout}
 use Rattle.model.specs.Check.{verdict, kinds_in}
-use Rattle.decoding.specs.declared.Prepared.{Prepared}
-use Rattle.decoding.specs.declared.Prepared.TheVariants.{Refused}
+use Rattle.std.proofs.Common.{Result, Err}
+use Rattle.results.specs.declared.refusal.Refusal.{Refusal}
+use Rattle.results.specs.Refusals.{number_of}
 use Rattle.decoding.specs.Decoding.{Arrays, prepared_by}
 use Rattle.decoding.proofs.InUse.{InUse, refused_verdict}
 use Rattle.semantics.specs.Meanings.{Meaning, meaning_of}
@@ -17,8 +18,8 @@ use Rattle.standing.specs.Runs.Answer.{refused}
 use Rattle.steps.specs.Answers.{on_file}
 
 -- a refused file leaves what is lent
-pub refused_file : (m : List ℕ) (old new : Arrays) (r : Prepared) (k : ℕ) → answered r new ≡ prepared_by m old (verdict m) → r ≡ Refused k
-    → {A : Type 0} (f : Meaning → Done A) (lent : A) → answered (refused k) lent ≡ on_file (verdict m) f lent
+pub refused_file : (m : List ℕ) (old new : Arrays) (r : Result Model Refusal) (k : Refusal) → answered r new ≡ prepared_by m old (verdict m) → r ≡ Err k
+    → {A : Type 0} (f : Meaning → Done A) (lent : A) → answered (refused (number_of k)) lent ≡ on_file (verdict m) f lent
 unfolding on_file
 refused_file m old new r k e refuses f lent = rw (refused_verdict m old new r k (verdict m) e refuses)
 

@@ -10,23 +10,26 @@ use lib.Dec.{leb, ltb, eqb}
 use lib.IntN.{ℤ}
 use lib.ListN.{length, take, drop, drop_of_length-le, take-append-drop}
 use lib.Seq.{length-take-le}
+use mathlib.Core.Logic.{inl, inr}
+use Rattle.results.specs.declared.refusal.Refusal.{Refusal}
+use Rattle.results.specs.Refusals.{number_of}
 use Rattle.results.specs.Results.{over}
-use Rattle.semantics.specs.declared.Firing.{Firing}
+use Rattle.semantics.specs.Firing.{Firing}
 use Rattle.semantics.specs.Meanings.{Meaning}
 use Rattle.semantics.specs.Firing.{fired, begun}
 use Rattle.standing.specs.Runs.{Run, Answer, Done, answered}
 use Rattle.standing.specs.Runs.Answer.{refused, done}
-use Rattle.standing.specs.Holding.{too_short, too_few, holds, history_holds}
+use Rattle.standing.specs.Holding.{IsShort, too_short, too_few, holds, history_holds}
 use Rattle.marking.specs.Marks.{marks_over}
 use Rattle.replaying.specs.declared.Move.{Move}
 use Rattle.replaying.specs.declared.Move.TheVariants.{Start, Fire, Undo}
 use Rattle.replaying.specs.Replays.{is_fired, initial, replay}
-use Rattle.replaying.specs.Moves.{is_beginning, entries, entry_count, fired_all, moved}
+use Rattle.replaying.specs.Moves.{HasEntries, moved}
 use Rattle.replaying.proofs.Written.{Complete}
 use Rattle.replaying.proofs.Longer.{longer, moved_longer}
 use Rattle.replaying.proofs.Refiring.{outcome_of, refired}
 use Rattle.steps.specs.Calls.{answer_of, started_by, start, fired_by, fire, undone_by, undo, step_on}
-use Rattle.steps.specs.Lent.{refused_by, refused_before, answer_to, Cells, cells_left}
+use Rattle.steps.specs.Lent.{refused_at, refused_by, refused_before, answer_to, Cells, cells_left}
 
 -- ---- the tests
 
@@ -45,41 +48,42 @@ module _ (m : Meaning) (r : Run) where
       unfolding refused_before
       both_enough room o e = rw (le-ltb (length r.values) (length m.declarations) enough, le-ltb (length r.marks) m.transitions room) e
 
+    pub measured : (transitions : ℕ) (rows : List (List ℤ)) {e : Refusal} → length rows ≡ length m.declarations → transitions ≡ m.transitions
+        → IsShort transitions rows r e → some (number_of e) ≡ refused_before m s r
+    unfolding number_of
+    measured transitions rows declared counted short =
+        elim short [
+          | inl h ↦ rw h.0 (values_short (omega (arith, declared, h.1)))
+          | inr h ↦ rw h.0 (marks_few (omega (arith, declared, h.1)) (omega (arith, counted, h.2)))
+        ]
+
   pub start_passed : none ≡ refused_by m Start r
   unfolding refused_by
   start_passed = refl
+
+  module _ (end k : ℕ) where
+    pub history_stale : holds m r ≡ false → some 20 ≡ refused_at m end k r
+    history_stale h = rw h
+
+    module _ (held : holds m r ≡ true) where
+      pub history_ends : r.count ≡ end → some k ≡ refused_at m end k r
+      history_ends h = rw (held, eq-eqb r.count end h)
+
+      pub history_goes : (r.count ≡ end → ⊥) → none ≡ refused_at m end k r
+      history_goes h = rw (held, ne_eqb r.count end h)
 
   module _ (t : ℕ) where
     pub fire_unknown : m.transitions ≤ t → some 11 ≡ refused_by m (Fire t) r
     unfolding refused_by
     fire_unknown h = rw (le-ltb t m.transitions h)
 
-    module _ (known : t < m.transitions) where
-      pub fire_stale : holds m r ≡ false → some 20 ≡ refused_by m (Fire t) r
-      unfolding refused_by
-      fire_stale h = rw (lt-ltb t m.transitions known, h)
+    pub fire_tested : t < m.transitions → (o : Option ℕ) → o ≡ refused_at m (length r.history) 21 r → o ≡ refused_by m (Fire t) r
+    unfolding refused_by
+    fire_tested h o e = rw (lt-ltb t m.transitions h) e
 
-      module _ (held : holds m r ≡ true) where
-        pub fire_full : r.count ≡ length r.history → some 21 ≡ refused_by m (Fire t) r
-        unfolding refused_by
-        fire_full h = rw (lt-ltb t m.transitions known, held, eq-eqb r.count (length r.history) h)
-
-        pub fire_passed : (r.count ≡ length r.history → ⊥) → none ≡ refused_by m (Fire t) r
-        unfolding refused_by
-        fire_passed h = rw (lt-ltb t m.transitions known, held, ne_eqb r.count (length r.history) h)
-
-  pub undo_stale : holds m r ≡ false → some 20 ≡ refused_by m Undo r
+  pub undo_tested : (o : Option ℕ) → o ≡ refused_at m 0 22 r → o ≡ refused_by m Undo r
   unfolding refused_by
-  undo_stale h = rw h
-
-  module _ (held : holds m r ≡ true) where
-    pub undo_empty : r.count ≡ 0 → some 22 ≡ refused_by m Undo r
-    unfolding refused_by
-    undo_empty h = rw (held, eq-eqb r.count 0 h)
-
-    pub undo_passed : (r.count ≡ 0 → ⊥) → none ≡ refused_by m Undo r
-    unfolding refused_by
-    undo_passed h = rw (held, ne_eqb r.count 0 h)
+  undo_tested o e = e
 
 -- ---- what the tests come to
 
@@ -167,7 +171,7 @@ module _ (m : Meaning) (r : Run) where
         ≡ cells_left (last s)
 
     moved_to : (s : Move) → answered f left ≡ moved m s r.history r.count r.values → Concluded s
-    unfolding answer_to is_beginning entries fired_all is_fired undone_by replay last
+    unfolding answer_to moved undone_by replay last
     moved_to Start e = left_by (is_fired f) (answer_of f) left _ _ refl refl ∙ ap (λ l. cells_left (started_by m r l)) e
     moved_to (Fire t) e = left_by (is_fired f) (answer_of f) left _ _ refl refl ∙ ap (λ l. cells_left (fired_by m t r l)) e
     moved_to Undo e =
@@ -194,11 +198,6 @@ chosen_new b new old e = rw e
 
 pub chosen_old : {A : Type 0} (b : Bool) (new old : A) → b ≡ false → old ≡ cond b new old
 chosen_old b new old e = rw e
-
--- the answer of an undo
-pub undo_answered : (s : Move) (f : Firing) {b : Bool} → s ≡ Undo → is_fired f ≡ b → cond b done (refused 31) ≡ answer_to s f
-unfolding answer_to
-undo_answered s f e g = rw (e, g)
 
 pub over_all : {A : Type 0} (new old : List A) → length old ≡ length new → over new old ≡ new
 over_all new old e = ap (λ l. new ++ l) (drop_of_length-le old {i = length new} (omega (arith, e))) ∙ append-nil new
@@ -230,17 +229,17 @@ module _ (m : Meaning) (r : Run) (s : Move) (passed : none ≡ refused_before m 
   own_passed : none ≡ refused_by m s r
   own_passed = (not_refused (too_few m r.marks) 10 _ tests_passed.1).1
 
-  -- the move has as many entries to fire as n tells
-  pub passed_entries : entry_count s r.count ≡ length (entries s r.history r.count)
-  unfolding entry_count entries refused_by
+  -- the history has the entries that the move fires
+  pub passed_entries : HasEntries s (length r.history) r.count
+  unfolding HasEntries refused_by
   passed_entries = go s own_passed
     where
-      go : (s : Move) → none ≡ refused_by m s r → entry_count s r.count ≡ length (entries s r.history r.count)
-      go Start e = refl
-      go (Fire t) e = refl
+      go : (s : Move) → none ≡ refused_by m s r → HasEntries s (length r.history) r.count
+      go Start e = tt
+      go (Fire t) e = tt
       go Undo e =
           let held : holds m r ≡ true = not-false (holds m r) (not_refused (not (holds m r)) 20 _ e).0 in
-          sym (length-take-le (r.count - 1) r.history (omega (arith, count_within m r held)))
+          omega (arith, count_within m r held)
 
   -- the move was made on a copy of the values in use, and what it left there is stored if it was fired
   module _ (complete : Complete m) (f : Firing) (new : List ℤ) (size : length new ≡ length m.declarations)

@@ -1,11 +1,11 @@
 -- Start, fire and undo over the meaning of an accepted model and a run. 01: "Every call goes 1 to 8, 9, 10, 11, 12, 20, 21, 22, 23 up,
 -- skipping those foreign to it". "A refusal answers its number alone; values, record, n and marks keep their content."
-use Rattle.std.specs.Prelude.{cond, not, List, ℕ, suc, ◌-◌, eqb, ltb, ℤ, length, take, set}
+use Rattle.std.specs.Prelude.{cond, not, List, ℕ, suc, ◌-◌, eqb, ltb, ℤ, length, take, set, Ok, Err}
 use Rattle.std.proofs.Math.Option.{Option, some, none}
 use Rattle.interpreter.specs.Instructions.{number_of}
 use Rattle.interpreter.specs.Instructions.Place.{action, assertion}
-use Rattle.semantics.specs.declared.Firing.{Firing}
-use Rattle.semantics.specs.declared.Firing.TheVariants.{Disabled, GuardFailed, ActionFault, AssertionFault, Fired}
+use Rattle.semantics.specs.Firing.{Firing}
+use Rattle.semantics.specs.declared.NotFired.TheVariants.{Disabled, GuardFailed, ActionFault, AssertionFault}
 use Rattle.semantics.specs.Meanings.{Meaning}
 use Rattle.semantics.specs.Firing.{Left, fired, begun}
 use Rattle.standing.specs.Runs.{Run, Answer, Done, answered, with_history, with_count}
@@ -18,11 +18,11 @@ use Rattle.replaying.specs.declared.Move.TheVariants.{Start, Fire, Undo}
 
 -- 23, 24 "guard false, guard failed", 25 to 30, or the round count
 unfoldable pub answer_of : Firing → Answer
-answer_of Disabled = refused 23
-answer_of GuardFailed = refused 24
-answer_of (ActionFault f) = refused (number_of action f)
-answer_of (AssertionFault f) = refused (number_of assertion f)
-answer_of (Fired n) = rounds n
+answer_of (Err Disabled) = refused 23
+answer_of (Err GuardFailed) = refused 24
+answer_of (Err (ActionFault f)) = refused (number_of action f)
+answer_of (Err (AssertionFault f)) = refused (number_of assertion f)
+answer_of (Ok n) = rounds n
 
 -- the answer of firing, with what is new if it was fired and what was there if it was refused
 abbrev pub fired_into : {A : Type 0} → A → A → Firing → Done A

@@ -1,8 +1,10 @@
 -- How the code goes about start, fire and undo: what refuses them before anything is done, the answer to what was done, and what is lent.
-use Rattle.std.specs.Prelude.{cond, not, List, ℕ, eqb, ltb, ℤ, length}
+use Rattle.std.specs.Prelude.{cond, not, List, ℕ, eqb, ltb, ℤ, length, Result, Ok, Err}
 use Rattle.std.proofs.Math.Option.{Option, some, none}
 use Rattle.results.specs.Results.{answered}
-use Rattle.semantics.specs.declared.Firing.{Firing}
+use Rattle.results.specs.declared.refusal.Refusal.{Refusal}
+use Rattle.results.specs.Refusals.{number_of}
+use Rattle.semantics.specs.Firing.{Firing}
 use Rattle.semantics.specs.Meanings.{Meaning}
 use Rattle.standing.specs.Runs.{Run, Answer, Done}
 use Rattle.standing.specs.Runs.Answer.{refused, done}
@@ -10,8 +12,6 @@ use Rattle.standing.specs.Holding.{too_short, too_few, holds}
 use Rattle.replaying.specs.declared.Move.{Move}
 use Rattle.replaying.specs.declared.Move.TheVariants.{Start, Fire, Undo}
 use Rattle.replaying.specs.Replays.{is_fired}
-use Rattle.steps.specs.declared.Test.{Test}
-use Rattle.steps.specs.declared.Test.TheVariants.{Refused, Passed}
 use Rattle.steps.specs.Calls.{answer_of}
 
 -- 11, 20, 21 for fire, 20, 22 for undo
@@ -27,10 +27,14 @@ refused_by m Undo r = cond (not (holds m r)) (some 20) (cond (eqb r.count 0) (so
 unfoldable pub refused_before : Meaning → Move → Run → Option ℕ
 refused_before m s r = cond (too_short m r.values) (some 9) (cond (too_few m r.marks) (some 10) (refused_by m s r))
 
+-- 20, then this number where n is at this end of the history
+abbrev pub refused_at : Meaning → ℕ → ℕ → Run → Option ℕ
+refused_at m end k r = cond (not (holds m r)) (some 20) (cond (eqb r.count end) (some k) none)
+
 -- the code's outcome of the tests
-unfoldable pub tested : Test → Option ℕ
-tested (Refused n) = some n
-tested Passed = none
+unfoldable pub tested : Result (Unit {0}) Refusal → Option ℕ
+tested (Err r) = some (number_of r)
+tested (Ok u) = none
 
 -- the answer to what was fired last
 unfoldable pub answer_to : Move → Firing → Answer

@@ -5,7 +5,6 @@
 pub mod moves; // moves.rt: the tests, and the answer to a move
 
 use model::Sizes;
-use results::Found;
 use standing::RangeCheck;
 
 // What a call answers: the number of a refusal, the round count, that it was done, a value, the five sizes, the transition
@@ -17,13 +16,6 @@ pub enum Answer {
     Done,
     Number(i32),
     Sizes(Sizes),
-    Picked(Found),
+    Picked(Option<usize>),
     Outside(RangeCheck),
-}
-
-// What the tests before a move come to.
-#[derive(Clone, Copy)]
-pub enum Test {
-    Refused(u8),
-    Passed,
 }

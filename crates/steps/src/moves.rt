@@ -1,40 +1,50 @@
 // The tests before start, fire and undo (01: take back), and the answer to what was done.
 
-ghost use Rattle.std.specs.Prelude.{◌≡◌};
-ghost use Rattle.interpreter.specs.Instructions.{number_of};
-ghost use Rattle.interpreter.specs.Instructions.Place.{action, assertion};
+ghost use Rattle.std.specs.Prelude.{◌≡◌, ◌≤◌, Err};
+ghost use Rattle.interpreter.specs.Instructions.{Place, number_of};
+ghost use Rattle.interpreter.specs.declared.Fault.TheVariants.{Failure};
 ghost use Rattle.semantics.specs.Meanings.{Meaning};
-ghost use Rattle.standing.specs.Runs.{run};
-ghost use Rattle.replaying.specs.declared.Move.TheVariants.{Fire, Undo};
+ghost use Rattle.results.specs.Refusals as refusals;
+ghost use Rattle.standing.specs.Runs.{run_in};
+ghost use Rattle.standing.specs.Runs.Answer.{refused};
 ghost use Rattle.steps.specs.Calls as calls;
 ghost use Rattle.steps.specs.Declarations.{Declares};
-ghost use Rattle.steps.specs.Lent.{refused_by, refused_before, tested, answer_to};
+ghost use Rattle.steps.specs.Lent.{refused_at, refused_before, tested, answer_to};
 ghost use Rattle.steps.specs.Answers.{seen};
 
-use super::{Answer, Test};
+use super::Answer;
 use interpreter::Fault;
 use replaying::Move;
-use semantics::Firing;
+use results::Refusal;
+use semantics::{Firing, NotFired};
+use standing::Run;
 
-// The numbers of an action's faults.
-fn action_number(fault: Fault) -> u8
-    ensures { result ≡ number_of action fault }
+// The numbers of a failure in an action and in the assertion.
+const ACTION: u8 = 25;
+
+const ASSERTION: u8 = 28;
+
+// The number of a fault at a place whose failures have the first number.
+fn fault_number(first: u8, fault: Fault) -> u8
+    requires { first ≤ 28 }
+    ensures { (p : Place) → first ≡ number_of p Failure → result ≡ number_of p fault }
 {
     match fault {
-        Fault::Failure => 25,
-        Fault::Outside => 26,
-        Fault::Conflict => 27,
+        Fault::Failure => first,
+        Fault::Outside => first + 1,
+        Fault::Conflict => first + 2,
     }
 }
 
-// The numbers of the assertion's faults.
-fn assertion_number(fault: Fault) -> u8
-    ensures { result ≡ number_of assertion fault }
+// 23 to 30.
+fn number_of(reason: NotFired) -> u8
+    ensures { refused result ≡ calls.answer_of (Err reason) }
 {
-    match fault {
-        Fault::Failure => 28,
-        Fault::Outside => 29,
-        Fault::Conflict => 30,
+    match reason {
+        NotFired::Disabled => 23,
+        NotFired::GuardFailed => 24,
+        NotFired::ActionFault(fault) => fault_number(ACTION, fault),
+        NotFired::AssertionFault(fault) => fault_number(ASSERTION, fault),
     }
 }
 
@@ -43,107 +53,65 @@ fn answer_of(firing: Firing) -> Answer
     ensures { seen result ≡ calls.answer_of firing }
 {
     match firing {
-        Firing::Disabled => Answer::Refused(23),
-        Firing::GuardFailed => Answer::Refused(24),
-        Firing::ActionFault(fault) => Answer::Refused(action_number(fault)),
-        Firing::AssertionFault(fault) => Answer::Refused(assertion_number(fault)),
-        Firing::Fired(count) => Answer::Rounds(count),
+        Ok(count) => Answer::Rounds(count),
+        Err(reason) => Answer::Refused(number_of(reason)),
     }
 }
 
 // The answer to what was fired last: of an undo it tells only that it was done, or 31.
+#[tactic(auto, unfolding(crate::specs::Lent::answer_to, crate::specs::Answers::seen))]
 pub fn answer_to(step: Move, firing: Firing) -> Answer
     ensures { seen result ≡ answer_to step firing }
 {
     match step {
-        Move::Start => answer_of(firing),
-        Move::Fire(_) => answer_of(firing),
-        Move::Undo => {
-            if replaying::is_fired(firing) {
-                Answer::Done
-            } else {
-                Answer::Refused(31)
-            }
-        }
+        Move::Start | Move::Fire(_) => answer_of(firing),
+        Move::Undo => match firing {
+            Ok(_) => Answer::Done,
+            Err(_) => Answer::Refused(31),
+        },
     }
 }
 
-// 11, 20, 21.
-fn test_fire(
+// 20, and this refusal where n is at this end of the history.
+fn test_history(
     transitions: usize,
     variables: &[[i32; 3]],
-    values: &[i32],
-    marks: &[u8],
-    history: &[u8],
-    n: usize,
-    transition: usize,
-) -> Test
+    run: &Run<'_>,
+    end: usize,
+    at_end: Refusal,
+) -> Result<(), Refusal>
     ensures { (m : Meaning) → Declares m transitions variables.now
-        → tested result ≡ refused_by m (Fire transition) (run values.now marks.now history.now n) }
+        → tested result ≡ refused_at m end (refusals.number_of at_end) (run_in run.now) }
 {
-    if transitions <= transition {
-        return Test::Refused(11);
+    if !run.holds(transitions, variables) {
+        return Err(Refusal::InvalidRun);
     }
-    if !standing::holds(transitions, variables, values, marks, history, n) {
-        return Test::Refused(20);
+    if run.count == end {
+        return Err(at_end);
     }
-    if n == history.len() {
-        return Test::Refused(21);
-    }
-    Test::Passed
+    Ok(())
 }
 
-// 20, 22.
-fn test_undo(
-    transitions: usize,
-    variables: &[[i32; 3]],
-    values: &[i32],
-    marks: &[u8],
-    history: &[u8],
-    n: usize,
-) -> Test
-    ensures { (m : Meaning) → Declares m transitions variables.now
-        → tested result ≡ refused_by m Undo (run values.now marks.now history.now n) }
-{
-    if !standing::holds(transitions, variables, values, marks, history, n) {
-        return Test::Refused(20);
-    }
-    if n == 0 {
-        return Test::Refused(22);
-    }
-    Test::Passed
-}
-
-// 9, 10, then what is tried for the move.
+// 9, 10, then what is tried for the move: 11, 20, 21 for fire, 20, 22 for undo.
 pub fn test(
     transitions: usize,
     variables: &[[i32; 3]],
-    values: &[i32],
-    marks: &[u8],
-    history: &[u8],
-    n: usize,
+    run: &Run<'_>,
     step: Move,
-) -> Test
+) -> Result<(), Refusal>
     ensures { (m : Meaning) → Declares m transitions variables.now
-        → tested result ≡ refused_before m step (run values.now marks.now history.now n) }
+        → tested result ≡ refused_before m step (run_in run.now) }
 {
-    if values.len() < variables.len() {
-        return Test::Refused(9);
-    }
-    if marks.len() < transitions {
-        return Test::Refused(10);
-    }
+    run.measure(transitions, variables)?;
     match step {
-        Move::Start => Test::Passed,
-        Move::Fire(transition) => test_fire(
-            transitions,
-            variables,
-            values,
-            marks,
-            history,
-            n,
-            transition,
-        ),
-        Move::Undo => test_undo(transitions, variables, values, marks, history, n),
+        Move::Start => Ok(()),
+        Move::Fire(transition) => {
+            if transitions <= transition {
+                return Err(Refusal::NoSuchTransition);
+            }
+            let end = run.history.len();
+            test_history(transitions, variables, run, end, Refusal::FullRecord)
+        }
+        Move::Undo => test_history(transitions, variables, run, 0, Refusal::EmptyRecord),
     }
 }

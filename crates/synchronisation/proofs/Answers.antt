@@ -128,7 +128,7 @@ both-empty (k ∷ ms) os e = clash (sym e)
 
 -- where a number is not below, they are not
 missing-given : (n : ℕ) (ms os : List ℕ) → (all_below n ms && all_below n os) ≡ false → (is_empty ms && is_empty os) ≡ false
-unfolding all_below is_empty
+unfolding is_empty
 missing-given n [] [] h = clash h
 missing-given n [] (o ∷ os) h = refl
 missing-given n (k ∷ ms) os h = refl

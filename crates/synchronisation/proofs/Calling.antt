@@ -7,13 +7,15 @@ use Prim.Native.Nat.{ℕ, ◌+◌}
 use lib.IntN.{ℤ}
 use lib.ListN.{length, take, length-map}
 use Rattle.results.specs.Results.{Answered, answered, over}
+use Rattle.kinds.specs.declared.Sort.{Sort}
 use Rattle.model.specs.declared.Model.{Model}
 use Rattle.model.specs.Trees.{Transition, System, variables, sorts_of}
 use Rattle.model.specs.Sizes.{byte_layout}
 use Rattle.model.specs.Check.{verdict, kinds_in, parameters_in}
 use Rattle.standing.specs.Holding.{all_below}
-use Rattle.decoding.specs.declared.Prepared.{Prepared}
-use Rattle.decoding.specs.declared.Prepared.TheVariants as prepared
+use Rattle.std.proofs.Common.{Result, Err}
+use Rattle.results.specs.declared.refusal.Refusal.{Refusal}
+use Rattle.results.specs.Refusals.{number_of}
 use Rattle.decoding.specs.Decoding.{Arrays, VariablesRead, prepared_by}
 use Rattle.decoding.proofs.Decoded.{decoded_variables}
 use Rattle.decoding.proofs.Preparing.{variables_read}
@@ -84,8 +86,8 @@ module _ (t : System) (ms os old : List ℕ) where
 
 -- ---- the model's check
 
-pub model_refused : (m : List ℕ) (before after : Arrays) (r : Prepared) → answered r after ≡ prepared_by m before (verdict m)
-    → {n : ℕ} → r ≡ prepared.Refused n → (ms os old : List ℕ) → answered (Refused n) old ≡ synchronised_by (verdict m) ms os old
+pub model_refused : (m : List ℕ) (before after : Arrays) (r : Result Model Refusal) → answered r after ≡ prepared_by m before (verdict m)
+    → {n : Refusal} → r ≡ Err n → (ms os old : List ℕ) → answered (Refused (number_of n)) old ≡ synchronised_by (verdict m) ms os old
 unfolding synchronised_by
 model_refused m before after r e {n} h ms os old = rw (refused_verdict m before after r n (verdict m) e h)
 
@@ -106,7 +108,7 @@ module _ (m : List ℕ) (a : Arrays) (d : Model) (x : DecodedIn m a d) where
     pub sorts_asked : (ps : List ℤ) × VariablesRead kinds ps count
     sorts_asked = (parameters_in byte_layout d.sizes.nodes m, declared)
 
-    module _ (old sorts : List ℕ) (read : (ps : List ℤ) (r : VariablesRead kinds ps count) → sorts ≡ over (sorts_of r.variables) old) where
+    module _ (old sorts : List Sort) (read : (ps : List ℤ) (r : VariablesRead kinds ps count) → sorts ≡ over (sorts_of r.variables) old) where
       sorts_count : length (sorts_of (variables x.system)) ≡ count
       sorts_count = length-map (variables x.system) (λ v. v.sort) ∙ decoded_variables m d _ _ _ _ _ x
 

@@ -8,6 +8,8 @@ use lib.IntN.{ℤ, pos}
 use lib.ListN.{length, length-append, length-map}
 use Rattle.evaluation.specs.Numbers.{representable}
 use Rattle.kinds.specs.Kinds.{boolean_sort}
+use Rattle.kinds.specs.declared.Sort.{Sort}
+use Rattle.std.specs.Prelude.{Option}
 use Rattle.model.specs.Trees.{Expression, Instruction, Transition, System, variables, sorts_of, depth_of_expression, depth_of}
 use Rattle.model.specs.Nodes.{nodes_of_expression, nodes_of, nodes_of_variable, nodes_of_transition, nodes_of_system}
 use Rattle.model.specs.Walk.{Scope, transition_at}
@@ -29,7 +31,7 @@ use Rattle.synchronisation.proofs.NewNodes.{extended_nodes}
 -- ---- a tree that stands among the nodes is the only one that stands there
 
 module _ (ks : List ℕ) (ps : List ℤ) where
-  same_expression : (sorts : List ℕ) (wanted at : ℕ) (e e' : Expression) → ExpressionAt ks ps e at → ExpressionAt ks ps e' at
+  same_expression : (sorts : List Sort) (wanted : Option Sort) (at : ℕ) (e e' : Expression) → ExpressionAt ks ps e at → ExpressionAt ks ps e' at
       → Sorted sorts wanted e → Sorted sorts wanted e' → e ≡ e'
   same_expression sorts wanted at e e' h h' s s' =
       let left = max (depth_of_expression e) (depth_of_expression e') in

@@ -10,9 +10,10 @@ use lib.IntN.{ℤ, pos}
 use lib.ListN.{length, length-append, length-map}
 use Rattle.syntax.specs.declared.Cursor.{Cursor}
 use Rattle.results.specs.Results.{answered, over}
+use Rattle.kinds.specs.declared.Sort.{Sort}
 use Rattle.model.specs.declared.Sizes.{Sizes}
-use Rattle.model.specs.declared.Walked.{Walked}
-use Rattle.model.specs.declared.Walked.TheVariants as walked
+use Rattle.std.proofs.Common.{Result, Ok, Err}
+use Rattle.results.specs.declared.refusal.Refusal.{Refusal}
 use Rattle.model.specs.Trees.{Transition, System, variables}
 use Rattle.model.specs.Nodes.{Node, nodes_of_expression, nodes_of, nodes_of_variable, nodes_of_transition, nodes_of_system}
 use Rattle.model.specs.Sizes.{byte_layout, header_bytes}
@@ -79,7 +80,7 @@ module _ (t : System) (ts os : List Transition) (s : Sizes) (m o : ℕ) where
 
 -- ---- the nodes that have been put
 
-module _ {sizes : Sizes} {assertion : ℕ} {ks : List ℕ} {ps : List ℤ} {sorts : List ℕ} (e : ExtensionStands sizes assertion ks ps sorts) (old : List ℕ) where
+module _ {sizes : Sizes} {assertion : ℕ} {ks : List ℕ} {ps : List ℤ} {sorts : List Sort} (e : ExtensionStands sizes assertion ks ps sorts) (old : List ℕ) where
   abbrev t : System
   t = e.system
 
@@ -166,17 +167,17 @@ module _ {sizes : Sizes} {assertion : ℕ} {ks : List ℕ} {ps : List ℤ} {sort
 
   -- ---- what the check answered
 
-  module _ {w : Walked} (checked : w ≡ outcome (transition_at ks ps sizes.events (scope_of sorts 0 sizes.states) max_depth assertion)) where
+  module _ {w : Result Cursor Refusal} (checked : w ≡ outcome (transition_at ks ps sizes.events (scope_of sorts 0 sizes.states) max_depth assertion)) where
     walked_as : w ≡ outcome walk
     walked_as = checked ∙ ap outcome walk_same
 
     -- too deep
-    pub walk_refused : {n : ℕ} → w ≡ walked.Refused n → answered (Refused 36) old ≡ extended_into t u old
+    pub walk_refused : {n : Refusal} → w ≡ Err n → answered (Refused 36) old ≡ extended_into t u old
     unfolding outcome
     walk_refused h =
         not_fitting t u old (λ f. split h (walked_as ∙ ap outcome (found_by_lem (f.guard_depth, f.action_depth))))
 
-    walk_found : {c : Cursor} → w ≡ walked.Next c → Shallow u
+    walk_found : {c : Cursor} → w ≡ Ok c → Shallow u
     unfolding outcome
     walk_found h = by walk refl walked_as
       where
@@ -195,7 +196,7 @@ module _ {sizes : Sizes} {assertion : ℕ} {ks : List ℕ} {ps : List ℤ} {sort
         (λ i. file_bytes (e.sizes_held i) (e.kinds_held i) (e.parameters_held i))
         ∙ ap (λ (l : List ℕ). header_bytes byte_layout (sizes_of (extended_by t u)) ++ (kinds ++ l)) (sym (parameters_map ns))
 
-    pub model_written : {c : Cursor} {new : List ℕ} {r : ℕ} → w ≡ walked.Next c → 6 + 5 * sizes.nodes ≤ length old
+    pub model_written : {c : Cursor} {new : List ℕ} {r : ℕ} → w ≡ Ok c → 6 + 5 * sizes.nodes ≤ length old
         → tape new r ≡ put_all (file_bytes sizes ks ps) (tape old 0) → answered (Length (6 + 5 * sizes.nodes)) new ≡ extended_into t u old
     model_written {new = new} h room put =
         let d = walk_found h in

@@ -1,4 +1,5 @@
 -- FiresTogether.
+use Rattle.std.specs.Prelude.{Err}
 use mathlib.Core.Path.{◌≡◌, refl, ap, ap₂, ◌∙◌}
 use mathlib.Core.Bool.{true, false, cond}
 use mathlib.Core.List.{List, [], ◌∷◌, ◌++◌}
@@ -14,7 +15,7 @@ use Rattle.evaluation.specs.Numbers.{eq_z, boolean}
 use Rattle.results.specs.Results.{answered}
 use Rattle.model.specs.Trees.{Transition, System, variables}
 use Rattle.expressions.specs.Expressions.{evaluate, known_from}
-use Rattle.semantics.specs.declared.Firing.TheVariants.{Disabled}
+use Rattle.semantics.specs.declared.NotFired.TheVariants.{Disabled}
 use Rattle.semantics.specs.Actions.{Acted, act}
 use Rattle.semantics.specs.Propagation.{settle}
 use Rattle.semantics.specs.Meanings.{Meaning, meaning_of, guard_in, action_in}
@@ -30,7 +31,7 @@ use Rattle.synchronisation.proofs.Members.{last_is, one_more}
 
 -- firing by a guard and an action given as values; nothing happens where the values are too few
 unfoldable pub fired_as : Meaning → Evaluation → Acted → List ℤ → Left
-fired_as m g a old = cond (ltb (length old) (length m.declarations)) (answered Disabled old) (by_guard m old a g)
+fired_as m g a old = cond (ltb (length old) (length m.declarations)) (answered (Err Disabled) old) (by_guard m old a g)
 
 module _ (m m' : Meaning) (same : length m'.declarations ≡ length m.declarations)
     (acting : (old : List ℤ) (a : Acted) → left_by_acting m' old a ≡ left_by_acting m old a) where
@@ -40,14 +41,14 @@ module _ (m m' : Meaning) (same : length m'.declarations ≡ length m.declaratio
   unfolding left_by_guard by_guard
   by_guard_lem k old Unknown = refl
   by_guard_lem k old Failed = refl
-  by_guard_lem k old (Value v) = ap (λ (l : Left). cond (eq_z v (boolean true)) l (answered Disabled old)) (acting old _)
+  by_guard_lem k old (Value v) = ap (λ (l : Left). cond (eq_z v (boolean true)) l (answered (Err Disabled) old)) (acting old _)
 
   -- m' fires as m would with the guard and the action of m'
   fired_as_lem : (k : ℕ) (old : List ℤ)
       → fired m' k old
       ≡ fired_as m (m'.guard k (take (length m.declarations) old)) (m'.action k (take (length m.declarations) old)) old
   unfolding fired fired_as
-  fired_as_lem k old = rw (← same) (ap (λ (l : Left). cond (ltb (length old) (length m'.declarations)) (answered Disabled old) l) (by_guard_lem k old _))
+  fired_as_lem k old = rw (← same) (ap (λ (l : Left). cond (ltb (length old) (length m'.declarations)) (answered (Err Disabled) old) l) (by_guard_lem k old _))
 
 -- the values of the variables
 abbrev pub used : System → List ℤ → List ℤ

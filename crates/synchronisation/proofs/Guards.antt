@@ -8,6 +8,7 @@ use mathlib.Core.Option.{some}
 use Prim.Native.Nat.{ℕ}
 use lib.Dec.{eqb}
 use lib.IntN.{ℤ, pos}
+use Rattle.std.specs.Prelude.{Some}
 use Rattle.evaluation.specs.declared.Evaluation.{Evaluation}
 use Rattle.evaluation.specs.declared.Evaluation.TheVariants.{Failed, Value}
 use Rattle.evaluation.specs.declared.Operator.{Operator}
@@ -116,7 +117,7 @@ any_more x ks = by (any (λ k. eqb k 1) ks) (any (λ k. eqb k 2) ks)
 -- an operator that makes a Boolean of Booleans, with the mark of two guards that it joins and that of several
 record Joins (op : Operator) (two : ℕ → ℕ → ℕ) (several : List ℕ → ℕ) : Type 0 where
   result : boolean_sort ≡ result_of (kind_of op)
-  operands : operand_sort (kind_of op) ≡ boolean_sort
+  operands : Some (operand_sort (kind_of op)) ≡ boolean_sort
   of_two : {a b : Evaluation} → Three a → Three b → mark_of (operated op a b) ≡ two (mark_of a) (mark_of b)
   of_one : {a : Evaluation} → Three a → mark_of a ≡ several (mark_of a ∷ [])
   of_more : (x : ℕ) (ks : List ℕ) → two x (several ks) ≡ several (x ∷ ks)

@@ -9,6 +9,7 @@ use lib.Dec.{ltb}
 use lib.IntN.{ℤ, pos}
 use lib.ListN.{length, take, replicate, length-replicate, length-map}
 use Rattle.results.specs.Results.{over}
+use Rattle.kinds.specs.declared.Sort.{Sort}
 use Rattle.model.specs.declared.Model.{Model}
 use Rattle.model.specs.declared.Sizes.{Sizes}
 use Rattle.model.specs.Trees.{Transition, System, variables, sorts_of}
@@ -112,7 +113,7 @@ module _ {model : Model} {ks : List ℕ} {ps : List ℤ} {nexts guards ms os : L
       parameters_counted = same_nodes ∙ sym (ap length parameters_held_lem ∙ length-map ns (λ n. n.parameter))
 
       -- all that is asked but the depth
-      module _ (fit : may_fit model.sizes (length ms) (length os) ≡ true) {sorts : List ℕ} (held : sorts ≡ sorts_of (variables t)) where
+      module _ (fit : may_fit model.sizes (length ms) (length os) ≡ true) {sorts : List Sort} (held : sorts ≡ sorts_of (variables t)) where
         abbrev new_sizes : Sizes
         new_sizes =
             record {

@@ -108,6 +108,6 @@ first_there (some t) (some ts) = refl
 
 -- numbers that are all below the length have members
 pub members_there : (ts : List Transition) (ks : List ℕ) → is_there (members_of ts ks) ≡ all_below (length ts) ks
-unfolding members_of is_there all_below
+unfolding members_of is_there
 members_there ts [] = refl
 members_there ts (k ∷ ks) = first_there (get_elem? ts k) (members_of ts ks) ∙ rw (place_there ts k, members_there ts ks)

@@ -16,7 +16,8 @@ use Rattle.semantics.specs.Meanings.{Meaning, meaning_of}
 use Rattle.semantics.specs.Firing.{fired, begun}
 use Rattle.standing.specs.Runs.{Run}
 use Rattle.standing.specs.Runs.Answer.{done}
-use Rattle.standing.specs.Holding.{too_short, too_few, holds, all_below, history_holds, marks_within, is_none, first_outside}
+use Rattle.std.specs.Prelude.{is_none}
+use Rattle.standing.specs.Holding.{too_short, too_few, holds, all_below, history_holds, marks_within, first_outside}
 use Rattle.replaying.specs.Replays.{initial, go_on, refire, replay}
 use Rattle.steps.specs.Calls.{start, undone_by, undo}
 use Rattle.replaying.proofs.Tests.{clash, below_take}
@@ -53,7 +54,7 @@ module _ (t : System) (u : Transition) where
 
   -- so do old transitions that are fired again
   refire_stays : (ks : List ℕ) → all_below T ks ≡ true → (values : List ℤ) → refire m' ks values ≡ refire m ks values
-  unfolding refire all_below
+  unfolding refire
   refire_stays [] e values = refl
   refire_stays (k ∷ ks) e values =
       let h = (and-eq-true_iff (ltb k T) (all_below T ks)).0 e in

@@ -1,4 +1,5 @@
 -- OldTransitionsStay.
+use Rattle.std.specs.Prelude.{Ok, Err}
 use mathlib.Core.Path.{◌≡◌, refl, sym, ap, ap₂, ◌∙◌}
 use mathlib.Core.Bool.{Bool, true, false, false≢true, cond, not}
 use mathlib.Core.List.{List, [], ◌∷◌, ◌++◌}
@@ -13,8 +14,8 @@ use lib.ListN.{length, take, drop, set, get_elem?}
 use lib.Seq.{take_at, drop_at, drop-drop, take-append-le, drop-append-add}
 use Rattle.model.specs.Trees.{Transition, System}
 use Rattle.expressions.specs.Expressions.{known_from}
-use Rattle.semantics.specs.declared.Firing.{Firing}
-use Rattle.semantics.specs.declared.Firing.TheVariants.{Disabled, GuardFailed, ActionFault, AssertionFault, Fired}
+use Rattle.semantics.specs.Firing.{Firing}
+use Rattle.semantics.specs.declared.NotFired.TheVariants.{Disabled, GuardFailed, ActionFault, AssertionFault}
 use Rattle.semantics.specs.Actions.{act}
 use Rattle.semantics.specs.Meanings.{Meaning, meaning_of, guard_in, action_in}
 use Rattle.semantics.specs.Firing.{fired}
@@ -24,7 +25,6 @@ use Rattle.standing.specs.Holding.{too_short, too_few, holds}
 use Rattle.marking.specs.Marks.{mark_of, marks_from, marks_over}
 use Rattle.marking.proofs.MarksWritten.{length_marks}
 use Rattle.steps.specs.Calls.{answer_of, fired_into, fire}
-use Rattle.replaying.specs.Replays.{is_fired}
 use Rattle.replaying.proofs.Tests.{clash}
 use Rattle.synchronisation.specs.Synchronisations.{extended_by, together}
 use Rattle.synchronisation.specs.Theorems.{SameButLastMark, NeitherRefuses, Stays, OldTransitionsStay}
@@ -150,12 +150,12 @@ module _ (t : System) (u : Transition) where
   pub by_firing : (r : Run) (values : List ℤ) (history : List ℕ) (count : ℕ) (f : Firing)
       → SameButLastMark T (fired_into r (run values (marks_over m values r.marks) history count) f)
       (fired_into r (run values (marks_over m' values r.marks) history count) f)
-  unfolding answer_of is_fired
-  by_firing r values history count Disabled = same_done T _
-  by_firing r values history count GuardFailed = same_done T _
-  by_firing r values history count (ActionFault f) = same_done T _
-  by_firing r values history count (AssertionFault f) = same_done T _
-  by_firing r values history count (Fired n) = accepted_same (rounds n) (no_refusal n) values r.marks history count
+  unfolding answer_of
+  by_firing r values history count (Err Disabled) = same_done T _
+  by_firing r values history count (Err GuardFailed) = same_done T _
+  by_firing r values history count (Err (ActionFault f)) = same_done T _
+  by_firing r values history count (Err (AssertionFault f)) = same_done T _
+  by_firing r values history count (Ok n) = accepted_same (rounds n) (no_refusal n) values r.marks history count
 
   -- the call comes to the same
   old_fires : (k : ℕ) → k < T → Stays t (extended_by t u) (λ x. fire x k)

@@ -9,6 +9,7 @@ use lib.Dec.{ltb}
 use lib.ListN.{length, take, drop}
 use lib.Seq.{take_at}
 use Rattle.results.specs.Results.{Answered, answered, over}
+use Rattle.results.specs.Refusals.{number_of}
 use Rattle.model.specs.declared.Sizes.{Sizes}
 use Rattle.model.specs.Trees.{Transition, System}
 use Rattle.model.specs.Check.{Verdict, verdict}
@@ -66,7 +67,7 @@ joined z t ms os old given (some ts) (some us) e f =
 -- what the call comes to
 pub outcome : (v : Verdict) (ms os old : List ℕ) → Outcome (FileOf v ms os) old (synchronised_by v ms os old)
 unfolding synchronised_by
-outcome (refusal n) ms os old = refuses n
+outcome (refusal r) ms os old = refuses (number_of r)
 outcome (accepted z t) ms os old =
     by_test (Outcome (FileOf (accepted z t) ms os) old) (is_empty ms && is_empty os) _ _ (λ c. refuses 35)
     (λ c. joined z t ms os old c (members_of t.transitions ms) (members_of t.transitions os) refl refl)

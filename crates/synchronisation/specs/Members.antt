@@ -3,6 +3,7 @@ use Rattle.std.specs.Prelude.{◌≡◌, List, [], ◌∷◌, map, Bool, false, 
 use Rattle.std.proofs.Math.Option.{some}
 use Rattle.std.proofs.Math.Seq.{slice}
 use Rattle.kinds.specs.Kinds.{boolean_sort}
+use Rattle.kinds.specs.declared.Sort.{Sort}
 use Rattle.model.specs.declared.Model.{Model}
 use Rattle.model.specs.declared.Sizes.{Sizes}
 use Rattle.model.specs.Trees.{Transition, System, variables, sorts_of}
@@ -66,7 +67,7 @@ module _ (ks : List ℕ) (ps : List ℤ) where
     MembersStand (k ∷ rest) (t ∷ ts) = MemberStands k t × MembersStand rest ts
 
 -- the slices are the decoding of an accepted file, the sorts of its variables among them
-pub record SystemStands (model : Model) (ks : List ℕ) (ps : List ℤ) (sorts nexts guards : List ℕ) : Type 0 where
+pub record SystemStands (model : Model) (ks : List ℕ) (ps : List ℤ) (sorts : List Sort) (nexts guards : List ℕ) : Type 0 where
   pub rows : List (List ℤ)
   pub loaded : Loaded model ks ps rows nexts guards
   pub sorts_held : sorts ≡ sorts_of (variables loaded.decoded.system)
@@ -89,7 +90,7 @@ abbrev pub joined_system : {model : Model} {ks : List ℕ} {ps : List ℤ} {next
 joined_system j = j.loaded.decoded.system
 
 -- a model with one transition more, written as these kinds and parameters: its depth and the room in the slice are not known yet
-pub record ExtensionStands (sizes : Sizes) (assertion : ℕ) (ks : List ℕ) (ps : List ℤ) (sorts : List ℕ) : Type 0 where
+pub record ExtensionStands (sizes : Sizes) (assertion : ℕ) (ks : List ℕ) (ps : List ℤ) (sorts : List Sort) : Type 0 where
   pub system : System
   pub transition : Transition
   pub well_formed : WellFormed system

@@ -6,6 +6,7 @@ use Rattle.std.proofs.Math.ListN.{get_elem?}
 use Rattle.evaluation.specs.declared.Operator.{Operator}
 use Rattle.evaluation.specs.declared.Operator.TheVariants.{Conjunction, Disjunction}
 use Rattle.results.specs.Results.{Answered, answered, over}
+use Rattle.results.specs.Refusals.{number_of}
 use Rattle.model.specs.Trees.{Expression, Instructions, Transition, System, depth_of, depth_of_expression}
 use Rattle.model.specs.Trees.Expression.{truth, binary}
 use Rattle.model.specs.Trees.Instruction.{if_then, block}
@@ -102,5 +103,5 @@ synchronised_in t ms os old =
 
 -- 02: "Errors: 35 both lists empty, right after the model's check; then 11 for a member; 36 [..] last". A refusal writes nothing.
 unfoldable pub synchronised_by : Verdict → List ℕ → List ℕ → List ℕ → Answered Synchronised (List ℕ)
-synchronised_by (refusal n) ms os old = answered (Refused n) old
+synchronised_by (refusal r) ms os old = answered (Refused (number_of r)) old
 synchronised_by (accepted z t) ms os old = synchronised_in t ms os old

@@ -1,5 +1,5 @@
 -- The statements on synchronised transitions. Proved in proofs/.
-use Rattle.std.specs.Prelude.{◌≡◌, ◌↔◌, true, false, cond, ◌&&◌, ℕ, suc, ◌≤◌, ◌<◌, eqb, ℤ, length, take, drop}
+use Rattle.std.specs.Prelude.{◌≡◌, ◌↔◌, true, false, cond, ◌&&◌, ℕ, suc, ◌≤◌, ◌<◌, eqb, ℤ, length, take, drop, Err}
 use mathlib.Core.List.{List, [], ◌∷◌, ◌++◌, map, flat_map}
 use Rattle.std.proofs.Math.Option.{some}
 use Rattle.std.proofs.Math.ListN.{get_elem?}
@@ -16,7 +16,7 @@ use Rattle.model.specs.WellFormed.{All, WellFormed, encode, sizes_of}
 use Rattle.model.specs.Theorems.{Bytes, ShuffledFile}
 use Rattle.expressions.specs.Expressions.{Valuation, evaluate, known_from}
 use Rattle.interpreter.specs.Instructions.{any, under, effects}
-use Rattle.semantics.specs.declared.Firing.TheVariants.{Disabled, GuardFailed}
+use Rattle.semantics.specs.declared.NotFired.TheVariants.{Disabled, GuardFailed}
 use Rattle.semantics.specs.Actions.{Acted, act}
 use Rattle.semantics.specs.Meanings.{Meaning, meaning_of}
 use Rattle.semantics.specs.Theorems.{VariableValues}
@@ -120,9 +120,9 @@ OneTransitionMore =
 
 -- firing by a guard and an action given as values, in a model's own terms
 unfoldable pub by_guard : Meaning → List ℤ → Acted → Evaluation → Left
-by_guard m old a Unknown = answered Disabled old
-by_guard m old a Failed = answered GuardFailed old
-by_guard m old a (Value v) = cond (eq_z v (boolean true)) (left_by_acting m old a) (answered Disabled old)
+by_guard m old a Unknown = answered (Err Disabled) old
+by_guard m old a Failed = answered (Err GuardFailed) old
+by_guard m old a (Value v) = cond (eq_z v (boolean true)) (left_by_acting m old a) (answered (Err Disabled) old)
 
 -- the meaning of the new model, and the number of its new transition
 abbrev pub new_meaning : {m ms os m' : List ℕ} → SynchronisedFile m ms os m' → Meaning

@@ -10,8 +10,7 @@ ghost use Rattle.standing.specs.Holding.{all_below};
 ghost use Rattle.synchronisation.specs.Synchronisations.{is_empty, together, extended_into, synchronised_in, synchronised_by};
 ghost use Rattle.synchronisation.specs.Members.{may_fit, SystemStands, JoinStands, ExtensionStands, joined_system};
 
-use decoding::Prepared;
-use model::{Layout, Model, Sizes, Walked, check};
+use model::{Layout, Model, Sizes, Sort, check};
 
 mod nodes; // nodes.rt: the nodes of the new model
 
@@ -23,43 +22,29 @@ pub enum Synchronised {
 }
 
 // Are both lists empty?
+#[tactic(auto, using(crate::proofs::Lists::is_empty_lem))]
 fn both_empty(mandatory: &[usize], optional: &[usize]) -> bool
     ensures { result ≡ (is_empty mandatory.now && is_empty optional.now) }
 {
-    if 0 < mandatory.len() {
-        return false;
-    }
-    optional.len() == 0
+    mandatory.is_empty() && optional.is_empty()
 }
 
 // Is every member the number of a transition?
 fn all_below(members: &[usize], transitions: usize) -> bool
     ensures { result ≡ all_below transitions members.now }
 {
-    let mut i = 0;
-    while i < members.len() {
-        if transitions <= members[i] {
-            return false;
-        }
-        i += 1;
-    }
-    true
+    members.iter().all(|member| *member < transitions)
 }
 
 // Can the new model keep the limits, by the sizes of the old one and the numbers of members? Each member has at least one node.
+#[tactic(auto, unfolding(crate::specs::Members::may_fit))]
 fn may_fit(sizes: Sizes, mandatory: &[usize], optional: &[usize]) -> bool
     ensures { result ≡ may_fit sizes (length mandatory.now) (length optional.now) }
 {
-    if Model::SIZE_BOUND - 1 <= sizes.events {
-        return false;
-    }
-    if Model::SIZE_BOUND - 1 <= sizes.transitions {
-        return false;
-    }
-    if Model::MAX_NODES < mandatory.len() {
-        return false;
-    }
-    optional.len() <= Model::MAX_NODES
+    sizes.events < Model::SIZE_BOUND - 1
+        && sizes.transitions < Model::SIZE_BOUND - 1
+        && mandatory.len() <= Model::MAX_NODES
+        && optional.len() <= Model::MAX_NODES
 }
 
 // Writes the new model, whose nodes are given, if its new transition is not too deep and the slice has room.
@@ -68,7 +53,7 @@ fn write(
     assertion: usize,
     kinds: &[u8],
     parameters: &[i32],
-    sorts: &[u8],
+    sorts: &[Sort],
     out: &mut [u8],
 ) -> Synchronised
     requires { ExtensionStands sizes assertion kinds.now parameters.now sorts.now }
@@ -83,8 +68,8 @@ fn write(
         sizes.states,
         assertion,
     ) {
-        Walked::Refused(_) => Synchronised::Refused(36),
-        Walked::Next(_) => {
+        Err(_) => Synchronised::Refused(36),
+        Ok(_) => {
             let length = Model::HEADER + Layout::NODE_WIDTH * sizes.nodes;
             if out.len() < length {
                 return Synchronised::Refused(36);
@@ -100,7 +85,7 @@ fn extend(
     model: Model,
     kinds: &[u8],
     parameters: &[i32],
-    sorts: &[u8],
+    sorts: &[Sort],
     nexts: &[u16],
     guards: &[u16],
     mandatory: &[usize],
@@ -155,7 +140,7 @@ fn join(
     model: Model,
     kinds: &[u8],
     parameters: &[i32],
-    sorts: &[u8],
+    sorts: &[Sort],
     nexts: &[u16],
     guards: &[u16],
     mandatory: &[usize],
@@ -202,13 +187,13 @@ pub fn synchronise(
         &mut nexts,
         &mut guards,
     ) {
-        Prepared::Refused(number) => Synchronised::Refused(number),
-        Prepared::Ready(ready) => {
+        Err(refusal) => Synchronised::Refused(refusal.number()),
+        Ok(ready) => {
             let nodes = ready.sizes.nodes;
             let count = ready.sizes.states + ready.sizes.flows;
             let transitions = ready.sizes.transitions;
             let kinds = decoding::kinds_of(model, nodes);
-            let mut sorts = [0u8; Model::MAX_VARIABLES];
+            let mut sorts = [Sort::Boolean; Model::MAX_VARIABLES];
             decoding::sorts_in(kinds, count, &mut sorts);
             join(
                 ready,

@@ -66,10 +66,8 @@ fn copy(
         return at;
     }
     let mut place = at;
-    let mut i = from;
-    while i < past {
+    for i in from..past {
         place = put(new_kinds, new_parameters, place, kinds[i], parameters[i]);
-        i += 1;
     }
     place
 }
@@ -152,9 +150,8 @@ fn join_guards(
         ≡ put_nodes (nodes_of_expression (nested op t ts)) (sheet new_kinds.old new_parameters.old at) }
 {
     let mut place = at;
-    let mut i = 0;
     let last = members.len() - 1;
-    while i < last {
+    for i in 0..last {
         let left = put(new_kinds, new_parameters, place, operator, 0);
         place = put_guard(
             kinds,
@@ -166,14 +163,13 @@ fn join_guards(
             new_parameters,
             left,
         );
-        i += 1;
     }
     put_guard(
         kinds,
         parameters,
         nexts,
         guards,
-        members[i],
+        members[last],
         new_kinds,
         new_parameters,
         place,
@@ -245,19 +241,17 @@ fn put_actions(
         ≡ put_nodes (nodes_of_all (branches_of ts [])) (sheet new_kinds.old new_parameters.old at) }
 {
     let mut place = at;
-    let mut i = 0;
-    while i < members.len() {
+    for member in members {
         place = put_action(
             kinds,
             parameters,
             nexts,
             guards,
-            members[i],
+            *member,
             new_kinds,
             new_parameters,
             place,
         );
-        i += 1;
     }
     place
 }
@@ -280,16 +274,14 @@ fn put_guarded_actions(
         ≡ put_nodes (nodes_of_all (optional_branches ts)) (sheet new_kinds.old new_parameters.old at) }
 {
     let mut place = at;
-    let mut i = 0;
-    while i < members.len() {
-        let member = members[i];
+    for member in members {
         let test = put(new_kinds, new_parameters, place, IF_THEN, 0);
         let body = put_guard(
             kinds,
             parameters,
             nexts,
             guards,
-            member,
+            *member,
             new_kinds,
             new_parameters,
             test,
@@ -299,12 +291,11 @@ fn put_guarded_actions(
             parameters,
             nexts,
             guards,
-            member,
+            *member,
             new_kinds,
             new_parameters,
             body,
         );
-        i += 1;
     }
     place
 }

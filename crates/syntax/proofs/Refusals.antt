@@ -1,76 +1,69 @@
--- What a cursor hands back of the node that is due, for any rules of kinds and parameters: one law for each answer.
-use mathlib.Core.Path.{◌≡◌, sym, ap, ◌∙◌}
-use mathlib.Core.Bool.{Bool, true, false, not}
+-- What a cursor hands back of the node that is due, for any rules of kinds and parameters.
+use mathlib.Core.Path.{◌≡◌, refl, sym, ap, ◌∙◌}
+use mathlib.Core.Bool.{Bool, true, false, not, cond}
 use mathlib.Core.List.{List}
-use Prim.Native.Nat.{ℕ, ◌+◌, ◌≤◌, ◌<◌, ◌^◌}
+use Prim.Native.Nat.{ℕ, ◌<◌}
 use native.Mathlib.Omega.{arith}
-use borrow.Author.Tests.{le-leb, lt-leb, eq-eqb, ne_eqb, not-true, not-false}
-use lib.Dec.{leb}
+use borrow.Author.Tests.{eqb-false}
+use lib.Dec.{leb, eqb}
 use lib.IntN.{ℤ}
-use lib.Signed.{mag}
 use lib.ListN.{length}
-use mir.Syntax.{w32}
-use mir.Val.{to_z, of_z}
-use Rattle.evaluation.proofs.Signed.{read_back}
-use Rattle.syntax.specs.declared.Reading.{Reading}
-use Rattle.syntax.specs.declared.Reading.TheVariants.{Refused, Node}
-use Rattle.syntax.specs.Readings.{kind_at, parameter_at, refusal_at, reading_at}
+use Rattle.std.specs.Prelude.{◌≢◌, Result, Ok, Err, OnOk, Some, None}
+use Rattle.results.specs.declared.refusal.Refusal.{Refusal}
+use Rattle.results.specs.declared.refusal.Refusal.TheVariants.{MissingNode, TooDeep, KindNotAllowed, ParameterNotAllowed}
+use Rattle.syntax.specs.declared.Node.{Node}
+use Rattle.syntax.specs.Readings.{kind_at, parameter_at, node_at, refusal_at, reading_at, due_at, checked}
 
--- a test of a parameter that was read, as its flag tells
-module _ (g : ℤ → Bool) (p : ℤ) (f : mag p < 2 ^ 31) {b : Bool} (e : b ≡ g (to_z w32 (of_z w32 p))) where
-  tested : b ≡ g p
-  tested = e ∙ ap g (read_back p f)
+-- what holds anyway holds of an answer
+pub on_ok_always : {T E P : Type 0} (r : Result T E) → P → OnOk r P
+on_ok_always (Ok x) p = p
+on_ok_always (Err e) p = tt
 
-  pub test_failed : not b ≡ true → g p ≡ false
-  test_failed h = sym tested ∙ not-true b h
+module _ (ks : List ℕ) (ps : List ℤ) (left at : ℕ) where
+  -- how a node that is due was read
+  pub record Read (n : Node) : Type 0 where
+    pub within : leb (length ks) at ≡ false
+    pub depth : eqb left 0 ≡ false
+    pub node : n ≡ node_at ks ps at
 
-  pub test_passed : not b ≡ false → g p ≡ true
-  test_passed h = sym tested ∙ not-false b h
+  pub read : {n : Node} → due_at ks ps left at ≡ Ok n → Read n
+  unfolding due_at refusal_at reading_at
+  read {n} e = by (leb (length ks) at) (eqb left 0) refl refl e
+    where
+      by : (t u : Bool) → leb (length ks) at ≡ t → eqb left 0 ≡ u
+          → reading_at ks ps (cond t (Some MissingNode) (cond u (Some TooDeep) None)) at ≡ Ok n → Read n
+      by true u p q h = cc
+      by false true p q h = cc
+      by false false p q h = record { within = p; depth = q; node = cc }
 
--- variables and transitions always have a level left
-pub one_left : ◌≡◌ {A = ℕ} 1 0 → ⊥
-one_left e = omega arith
+  module _ (allowed : ℕ → Bool) (fits : ℕ → ℤ → Bool) where
+    abbrev reading : Result Node Refusal
+    reading = reading_at ks ps (refusal_at ks ps allowed fits left at) at
 
--- a node that is due: the nodes, the rules for its kind and its parameter, the depth that is left, its place
-pub record Due : Type 0 where
-  pub kinds : List ℕ
-  pub parameters : List ℤ
-  pub allowed : ℕ → Bool
-  pub fits : ℕ → ℤ → Bool
-  pub left : ℕ
-  pub at : ℕ
+    pub not_due : {r : Refusal} → due_at ks ps left at ≡ Err r → Err r ≡ reading
+    unfolding due_at refusal_at reading_at
+    not_due {r} e = by (leb (length ks) at) (eqb left 0) refl refl e
+      where
+        by : (t u : Bool) → leb (length ks) at ≡ t → eqb left 0 ≡ u
+            → reading_at ks ps (cond t (Some MissingNode) (cond u (Some TooDeep) None)) at ≡ Err r → Err r ≡ reading
+        by true u p q h = rw p (sym h)
+        by false true p q h = rw (p, q) (sym h)
+        by false false p q h = cc
 
-module _ (d : Due) where
-  abbrev pub kind : ℕ
-  kind = kind_at d.kinds d.parameters d.at
+    pub tested : {n : Node} → due_at ks ps left at ≡ Ok n → {a f : Bool} → a ≡ allowed n.kind → f ≡ fits n.kind n.parameter
+        → checked a f n ≡ reading
+    unfolding refusal_at reading_at checked
+    tested {n} e {a} {f} x y =
+        let r = read e in
+        let a' : a ≡ allowed (kind_at ks ps at) = x ∙ ap (λ (m : Node). allowed m.kind) r.node in
+        let f' : f ≡ fits (kind_at ks ps at) (parameter_at ks ps at) = y ∙ ap (λ (m : Node). fits m.kind m.parameter) r.node in
+        rw (r.within, r.depth, ← a', ← f') (by a f r.node)
+      where
+        by : (a f : Bool) → {n : Node} → n ≡ node_at ks ps at
+            → checked a f n ≡ reading_at ks ps (cond (not a) (Some KindNotAllowed) (cond (not f) (Some ParameterNotAllowed) None)) at
+        by true true q = ap Ok q
+        by true false q = refl
+        by false f q = refl
 
-  abbrev reading : Reading
-  reading = reading_at d.kinds d.parameters (refusal_at d.kinds d.parameters d.allowed d.fits d.left d.at) d.at
-
-  pub refused_4 : length d.kinds ≤ d.at → Refused 4 ≡ reading
-  unfolding refusal_at reading_at
-  refused_4 h = rw (le-leb (length d.kinds) d.at h)
-
-  module _ (h : d.at < length d.kinds) where
-    here : leb (length d.kinds) d.at ≡ false
-    here = lt-leb (length d.kinds) d.at h
-
-    pub refused_5 : d.left ≡ 0 → Refused 5 ≡ reading
-    unfolding refusal_at reading_at
-    refused_5 e = rw (here, eq-eqb d.left 0 e)
-
-    module _ (n : d.left ≡ 0 → ⊥) {b : Bool} (a : b ≡ d.allowed kind) where
-      pub refused_6 : not b ≡ true → Refused 6 ≡ reading
-      unfolding refusal_at reading_at
-      refused_6 e = rw (here, ne_eqb d.left 0 n, sym a ∙ not-true b e)
-
-      module _ (t : not b ≡ false) {p : ℤ} (q : p ≡ parameter_at d.kinds d.parameters d.at) where
-        pub refused_7 : d.fits kind p ≡ false → Refused 7 ≡ reading
-        unfolding refusal_at reading_at
-        refused_7 e = rw (here, ne_eqb d.left 0 n, sym a ∙ not-false b t, ← q, e)
-
-        pub node_found : mag p < 2 ^ 31 → d.fits kind p ≡ true → Node kind (to_z w32 (of_z w32 p)) (record { at = d.at + 1 }) ≡ reading
-        unfolding refusal_at reading_at
-        node_found f e =
-            rw (read_back p f, here, ne_eqb d.left 0 n, sym a ∙ not-false b t, ← q, e)
-            (ap (λ z. Node kind z (record { at = d.at + 1 })) q)
+  pub depth_left : {n : Node} → due_at ks ps left at ≡ Ok n → 0 < left
+  depth_left e = let r = read e in let q : left ≢ 0 = eqb-false left 0 r.depth in omega arith

@@ -4,15 +4,23 @@
 
 pub mod nodes; // nodes.rt: the node that is due, with the moved cursor
 
-// A place among the nodes.
+// A tree as its nodes in prefix order: the kind of each, and its parameter.
 #[derive(Clone, Copy)]
+pub struct Tree<'a> {
+    pub kinds: &'a [u8],
+    pub parameters: &'a [i32],
+}
+
+// A place among the nodes.
+#[derive(Clone, Copy, PartialEq, Eq, Debug)]
 pub struct Cursor {
     pub at: usize,
 }
 
-// The node that is due, with its kind, its parameter and the place of the next; or the refusal's number.
-#[derive(Clone, Copy)]
-pub enum Reading {
-    Refused(u8),
-    Node(u8, i32, Cursor),
+// A node that was read: its kind, its parameter and the place of the next.
+#[derive(Clone, Copy, PartialEq, Eq, Debug)]
+pub struct Node {
+    pub kind: u8,
+    pub parameter: i32,
+    pub next: Cursor,
 }

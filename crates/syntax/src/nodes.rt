@@ -1,123 +1,125 @@
-// The node that is due, read with the cursor moved on. 4, 5, 6, 7 are tried in this order.
+// The node that is due, read with the cursor moved on. Refusals 4, 5, 6, 7 are tried in this order.
 
-ghost use Rattle.std.specs.Prelude.{◌≡◌, nat_abs, pos, get_or};
-ghost use Rattle.kinds.specs.Kinds.{row_in};
-ghost use Rattle.syntax.specs.Readings.{is_truth, is_target, is_of_sort, stands_at, expression_allowed, expression_fits, instruction_fits, DepthLeft, expression_reading, instruction_reading, variable_reading, end_reading, transition_reading};
+ghost use Rattle.std.specs.Prelude.{◌≡◌, ◌<◌, ◌&&◌, nat_abs, OnOk};
+ghost use Rattle.syntax.specs.Readings.{checked, due_at, end_reading, expression_allowed, expression_fits, expression_reading, instruction_fits, instruction_reading, is_of_sort, is_target, is_truth, stands_at, transition_reading, variable_fits, variable_reading};
+ghost use Rattle.std.specs.Int.Signed.{le_z};
 
-use super::{Cursor, Reading};
+use super::{Cursor, Node, Tree};
+use kinds::{Kind, Place, Sort};
+use results::Refusal;
 
 // The parameter without its sign.
 pub fn magnitude(parameter: i32) -> usize
     ensures { result ≡ nat_abs parameter }
 {
-    if parameter < 0 {
-        (0 - (parameter as i64)) as usize
-    } else {
-        parameter as usize
-    }
-}
-
-// Is the parameter 0 or 1.
-fn is_truth(parameter: i32) -> bool
-    ensures { result ≡ is_truth parameter }
-{
-    if parameter == 0 {
-        return true;
-    }
-    parameter == 1
-}
-
-// Is the parameter a number from `from` up to `past`.
-fn is_between(parameter: i32, from: usize, past: usize) -> bool
-    ensures { result ≡ is_target from past parameter }
-{
-    if parameter < 0 {
-        return false;
-    }
-    let number = magnitude(parameter);
-    if number < from {
-        return false;
-    }
-    number < past
+    parameter.unsigned_abs() as usize
 }
 
 // Does the kind stand at this place of the table.
-fn stands_at(rows: &[u8; 256], kind: u8, place: u8) -> bool
-    ensures { result ≡ stands_at (row_in rows.now) place kind }
+fn stands_at(kind: u8, place: Place) -> bool
+    ensures { result ≡ stands_at place kind }
 {
-    let row = kinds::row_of(rows, kind);
-    row.place == place
+    kinds::row_of(kind).place == place
 }
 
-// May the kind stand where an expression of the wanted sort is due.
-fn expression_allowed(rows: &[u8; 256], wanted: u8, kind: u8) -> bool
-    ensures { result ≡ expression_allowed (row_in rows.now) wanted kind }
+// May the kind stand where an expression of the wanted sort is due. A variable has its own sort, an if-then-else the wanted one.
+fn expression_allowed(wanted: Option<Sort>, kind: u8) -> bool
+    ensures { result ≡ expression_allowed wanted kind }
 {
-    let row = kinds::row_of(rows, kind);
-    if row.place != kinds::EXPRESSION {
+    if !stands_at(kind, Place::Expression) {
         return false;
     }
-    // A variable has its own sort, an if-then-else the wanted one.
-    if kind == 34 {
+    if kind == Kind::Variable as u8 || kind == Kind::Conditional as u8 {
         return true;
     }
-    if kind == 46 {
-        return true;
-    }
-    row.result == wanted
+    kinds::row_of(kind).result == wanted
 }
 
-// Has the variable with this number the wanted sort.
-fn has_sort(sorts: &[u8], wanted: u8, parameter: i32) -> bool
-    ensures { result ≡ is_of_sort sorts.now wanted parameter }
-{
-    if parameter < 0 {
-        return false;
+impl Node {
+    // The parameter without its sign.
+    pub fn magnitude(self) -> usize
+        ensures { result ≡ nat_abs self.parameter }
+    {
+        self.parameter.unsigned_abs() as usize
     }
-    let number = magnitude(parameter);
-    if sorts.len() <= number {
-        return false;
-    }
-    sorts[number] == wanted
-}
 
-// Does the parameter fit an expression: a number, a Boolean, a variable, any other.
-fn expression_fits(sorts: &[u8], wanted: u8, kind: u8, parameter: i32) -> bool
-    ensures { result ≡ expression_fits sorts.now wanted kind parameter }
-{
-    if kind == 32 {
-        return true;
+    // Is the parameter 0 or 1.
+    fn is_truth(self) -> bool
+        ensures { result ≡ is_truth self.parameter }
+    {
+        self.parameter == 0 || self.parameter == 1
     }
-    if kind == 33 {
-        return is_truth(parameter);
-    }
-    if kind == 34 {
-        return has_sort(sorts, wanted, parameter);
-    }
-    parameter == 0
-}
 
-// Does the parameter fit an instruction: an assignment, a block, any other.
-fn instruction_fits(from: usize, past: usize, kind: u8, parameter: i32) -> bool
-    ensures { result ≡ instruction_fits from past kind parameter }
-{
-    if kind == 17 {
-        return is_between(parameter, from, past);
+    // Is the parameter a number from `from` up to `past`.
+    fn is_between(self, from: usize, past: usize) -> bool
+        ensures { result ≡ is_target from past self.parameter }
+    {
+        usize::try_from(self.parameter).is_ok_and(|number| from <= number && number < past)
     }
-    if kind == 19 {
-        return 0 <= parameter;
-    }
-    parameter == 0
-}
 
-// The parameter of a node; 0 past the end.
-fn parameter_at(parameters: &[i32], at: usize) -> i32
-    ensures { result ≡ get_or parameters.now at (pos 0) }
-{
-    if at < parameters.len() {
-        parameters[at]
-    } else {
-        0
+    // Is the parameter the number of a variable of the wanted sort.
+    fn has_sort(self, sorts: &[Sort], wanted: Option<Sort>) -> bool
+        ensures { result ≡ is_of_sort sorts.now wanted self.parameter }
+    {
+        if !self.is_between(0, sorts.len()) {
+            return false;
+        }
+        Some(sorts[self.magnitude()]) == wanted
+    }
+
+    // Does the parameter fit an expression: a number, a Boolean, a variable, any other.
+    fn fits_expression(self, sorts: &[Sort], wanted: Option<Sort>) -> bool
+        ensures { result ≡ expression_fits sorts.now wanted self.kind self.parameter }
+    {
+        if self.kind == Kind::Numeral as u8 {
+            true
+        } else if self.kind == Kind::Truth as u8 {
+            self.is_truth()
+        } else if self.kind == Kind::Variable as u8 {
+            self.has_sort(sorts, wanted)
+        } else {
+            self.parameter == 0
+        }
+    }
+
+    // Does the parameter fit an instruction: an assignment, a block, any other.
+    fn fits_instruction(self, from: usize, past: usize) -> bool
+        ensures { result ≡ instruction_fits from past self.kind self.parameter }
+    {
+        if self.kind == Kind::Assignment as u8 {
+            self.is_between(from, past)
+        } else if self.kind == Kind::Block as u8 {
+            0 <= self.parameter
+        } else {
+            self.parameter == 0
+        }
+    }
+
+    // Does the parameter fit the first node of a variable: the low end of a number, any number, or a Boolean's first value.
+    fn fits_variable(self) -> bool
+        ensures { result ≡ variable_fits self.kind self.parameter }
+    {
+        self.kind == Kind::LowEnd as u8 || self.is_truth()
+    }
+
+    // Is the parameter within these ends.
+    fn is_within(self, low: i32, high: i32) -> bool
+        ensures { result ≡ (le_z low self.parameter && le_z self.parameter high) }
+    {
+        low <= self.parameter && self.parameter <= high
+    }
+
+    // The node, where its kind and its parameter are allowed.
+    fn checked(self, allowed: bool, fits: bool) -> Result<Node, Refusal>
+        ensures { result ≡ checked allowed fits self }
+    {
+        if !allowed {
+            return Err(Refusal::KindNotAllowed);
+        }
+        if !fits {
+            return Err(Refusal::ParameterNotAllowed);
+        }
+        Ok(self)
     }
 }
 
@@ -129,140 +131,85 @@ impl Cursor {
         Cursor { at: 0 }
     }
 
+    // Whatever node is due, with this depth left; a parameter past the end is 0.
+    fn node(self, tree: &Tree, left: usize) -> Result<Node, Refusal>
+        ensures { result ≡ due_at tree.now.kinds.now tree.now.parameters.now left self.at }
+    {
+        let at = self.at;
+        if tree.kinds.len() <= at {
+            return Err(Refusal::MissingNode);
+        }
+        if left == 0 {
+            return Err(Refusal::TooDeep);
+        }
+        Ok(Node {
+            kind: tree.kinds[at],
+            parameter: tree.parameters.get(at).copied().unwrap_or(0),
+            next: Cursor { at: at + 1 },
+        })
+    }
+
     // An expression node of the wanted sort, with this depth left.
     pub fn expression_node(
         self,
-        rows: &[u8; 256],
-        kinds: &[u8],
-        parameters: &[i32],
-        sorts: &[u8],
+        tree: &Tree,
+        sorts: &[Sort],
         left: usize,
-        wanted: u8,
-    ) -> Reading
-        ensures { (result ≡ expression_reading (row_in rows.now) kinds.now parameters.now sorts.now left wanted self.at) × DepthLeft left result }
+        wanted: Option<Sort>,
+    ) -> Result<Node, Refusal>
+        ensures reading { result ≡ expression_reading tree.now.kinds.now tree.now.parameters.now sorts.now left wanted self.at }
+        ensures depth { OnOk result (0 < left) }
     {
-        let at = self.at;
-        if kinds.len() <= at {
-            return Reading::Refused(4);
-        }
-        if left == 0 {
-            return Reading::Refused(5);
-        }
-        let kind = kinds[at];
-        if !expression_allowed(rows, wanted, kind) {
-            return Reading::Refused(6);
-        }
-        let parameter = parameter_at(parameters, at);
-        if !expression_fits(sorts, wanted, kind, parameter) {
-            return Reading::Refused(7);
-        }
-        Reading::Node(kind, parameter, Cursor { at: at + 1 })
+        let node = self.node(tree, left)?;
+        let allowed = expression_allowed(wanted, node.kind);
+        let fits = node.fits_expression(sorts, wanted);
+        node.checked(allowed, fits)
     }
 
     // An instruction node whose target is a variable from `from` up to `past`, with this depth left.
     pub fn instruction_node(
         self,
-        rows: &[u8; 256],
-        kinds: &[u8],
-        parameters: &[i32],
+        tree: &Tree,
         from: usize,
         past: usize,
         left: usize,
-    ) -> Reading
-        ensures { (result ≡ instruction_reading (row_in rows.now) kinds.now parameters.now from past left self.at) × DepthLeft left result }
+    ) -> Result<Node, Refusal>
+        ensures reading { result ≡ instruction_reading tree.now.kinds.now tree.now.parameters.now from past left self.at }
+        ensures depth { OnOk result (0 < left) }
     {
-        let at = self.at;
-        if kinds.len() <= at {
-            return Reading::Refused(4);
-        }
-        if left == 0 {
-            return Reading::Refused(5);
-        }
-        let kind = kinds[at];
-        if !stands_at(rows, kind, kinds::INSTRUCTION) {
-            return Reading::Refused(6);
-        }
-        let parameter = parameter_at(parameters, at);
-        if !instruction_fits(from, past, kind, parameter) {
-            return Reading::Refused(7);
-        }
-        Reading::Node(kind, parameter, Cursor { at: at + 1 })
+        let node = self.node(tree, left)?;
+        let allowed = stands_at(node.kind, Place::Instruction);
+        let fits = node.fits_instruction(from, past);
+        node.checked(allowed, fits)
     }
 
-    // The first node of a variable.
-    pub fn variable_node(self, rows: &[u8; 256], kinds: &[u8], parameters: &[i32]) -> Reading
-        ensures { result ≡ variable_reading (row_in rows.now) kinds.now parameters.now self.at }
+    // The first node of a variable: the low end of a number, any number, or a Boolean's first value.
+    pub fn variable_node(self, tree: &Tree) -> Result<Node, Refusal>
+        ensures { result ≡ variable_reading tree.now.kinds.now tree.now.parameters.now self.at }
     {
-        let at = self.at;
-        if kinds.len() <= at {
-            return Reading::Refused(4);
-        }
-        let kind = kinds[at];
-        if !stands_at(rows, kind, kinds::VARIABLE) {
-            return Reading::Refused(6);
-        }
-        let parameter = parameter_at(parameters, at);
-        // Kind 2 is a number's low end, any number; kind 1 a Boolean's first value.
-        if kind != 2 {
-            if !is_truth(parameter) {
-                return Reading::Refused(7);
-            }
-        }
-        Reading::Node(kind, parameter, Cursor { at: at + 1 })
+        let node = self.node(tree, 1)?;
+        let allowed = stands_at(node.kind, Place::Variable);
+        let fits = node.fits_variable();
+        node.checked(allowed, fits)
     }
 
     // The node of a number's high end or first value: `place` of the table, within `low` and `high`.
-    pub fn end_node(
-        self,
-        rows: &[u8; 256],
-        kinds: &[u8],
-        parameters: &[i32],
-        place: u8,
-        low: i32,
-        high: i32,
-    ) -> Reading
-        ensures { result ≡ end_reading (row_in rows.now) kinds.now parameters.now place low high self.at }
+    pub fn end_node(self, tree: &Tree, place: Place, low: i32, high: i32) -> Result<Node, Refusal>
+        ensures { result ≡ end_reading tree.now.kinds.now tree.now.parameters.now place low high self.at }
     {
-        let at = self.at;
-        if kinds.len() <= at {
-            return Reading::Refused(4);
-        }
-        let kind = kinds[at];
-        if !stands_at(rows, kind, place) {
-            return Reading::Refused(6);
-        }
-        let parameter = parameter_at(parameters, at);
-        if parameter < low {
-            return Reading::Refused(7);
-        }
-        if high < parameter {
-            return Reading::Refused(7);
-        }
-        Reading::Node(kind, parameter, Cursor { at: at + 1 })
+        let node = self.node(tree, 1)?;
+        let allowed = stands_at(node.kind, place);
+        let fits = node.is_within(low, high);
+        node.checked(allowed, fits)
     }
 
     // The node of a transition.
-    pub fn transition_node(
-        self,
-        rows: &[u8; 256],
-        kinds: &[u8],
-        parameters: &[i32],
-        events: usize,
-    ) -> Reading
-        ensures { result ≡ transition_reading (row_in rows.now) kinds.now parameters.now events self.at }
+    pub fn transition_node(self, tree: &Tree, events: usize) -> Result<Node, Refusal>
+        ensures { result ≡ transition_reading tree.now.kinds.now tree.now.parameters.now events self.at }
     {
-        let at = self.at;
-        if kinds.len() <= at {
-            return Reading::Refused(4);
-        }
-        let kind = kinds[at];
-        if !stands_at(rows, kind, kinds::TRANSITION) {
-            return Reading::Refused(6);
-        }
-        let parameter = parameter_at(parameters, at);
-        if !is_between(parameter, 0, events) {
-            return Reading::Refused(7);
-        }
-        Reading::Node(kind, parameter, Cursor { at: at + 1 })
+        let node = self.node(tree, 1)?;
+        let allowed = stands_at(node.kind, Place::Transition);
+        let fits = node.is_between(0, events);
+        node.checked(allowed, fits)
     }
 }

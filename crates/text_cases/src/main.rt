@@ -8,201 +8,132 @@
 
 #![tactic(auto)]
 
-ghost use Rattle.std.specs.Prelude.{◌<◌};
+ghost use Rattle.std.specs.Prelude.{◌≡◌, ◌+◌, ◌*◌, ◌<◌, length};
 
-use cases::{Outcome, Tally};
+use results::Refusal;
 use std::io;
 use std::io::Read;
-use texts::Typed;
 
 // The most cells of a slice lent.
 const CELLS: usize = 512;
 
-// How many nodes are wanted.
-fn nodes_of(head: &[u8; 16]) -> usize
-    ensures { result < 65536 }
-{
-    cases::two(head, 10)
+// The header of a case.
+#[derive(Clone, Copy)]
+struct Head {
+    refusal: u8,
+    kind: u8,
+    model: usize,
+    text: usize,
+    kinds: usize,
+    parameters: usize,
+    nodes: usize,
+    parameter: i32,
+    ghost two_bytes: { (model < 65536) × (text < 65536) × (nodes < 65536) },
 }
 
-// The number that every cell of parameters holds before.
-fn fill_of(head: &[u8; 16]) -> i32 {
-    cases::signed(head, 12)
-}
-
-// The length of the body.
-fn body_length(head: &[u8; 16]) -> usize {
-    cases::two(head, 2) + cases::two(head, 4) + 5 * nodes_of(head)
-}
-
-fn is_refusal(head: &[u8; 16], number: u8) -> bool {
-    if number == 0 {
-        return false;
+impl From<[u8; 16]> for Head {
+    fn from(bytes: [u8; 16]) -> Head {
+        Head {
+            refusal: bytes[0],
+            kind: bytes[1],
+            model: cases::number::<2>(&bytes, 2),
+            text: cases::number::<2>(&bytes, 4),
+            kinds: cases::number::<2>(&bytes, 6),
+            parameters: cases::number::<2>(&bytes, 8),
+            nodes: cases::number::<2>(&bytes, 10),
+            parameter: cases::signed(&bytes, 12),
+        }
     }
-    head[0] == number
 }
 
-fn is_count(head: &[u8; 16], count: usize) -> bool {
-    if head[0] != 0 {
-        return false;
+impl Head {
+    // The length of the body.
+    fn body_length(self) -> usize
+        ensures { result ≡ self.model + self.text + 5 * self.nodes }
+    {
+        self.model + self.text + 5 * self.nodes
     }
-    nodes_of(head) == count
+
+    // The wanted answer.
+    fn wanted(self) -> Result<usize, u8> {
+        match self.refusal {
+            0 => Ok(self.nodes),
+            number => Err(number),
+        }
+    }
 }
 
-fn is_answer(head: &[u8; 16], typed: Typed) -> bool {
+// The answer of a call: how many nodes, or the number of a refusal.
+fn answer_of(typed: Result<usize, Refusal>) -> Result<usize, u8> {
     match typed {
-        Typed::Refused(number) => is_refusal(head, number),
-        Typed::Nodes(count) => is_count(head, count),
+        Ok(count) => Ok(count),
+        Err(refusal) => Err(refusal.number()),
     }
-}
-
-// Prints a word and a number.
-fn tell(rt: &impl Print, word: &str, number: u64) -> io::Result<()> {
-    print!(rt; "{word}{number}")
-}
-
-// Prints an answer.
-fn tell_answer(rt: &impl Print, typed: Typed) -> io::Result<()> {
-    match typed {
-        Typed::Refused(number) => tell(rt, " refusal ", number as u64),
-        Typed::Nodes(count) => tell(rt, " nodes ", count as u64),
-    }
-}
-
-// The wanted answer.
-fn wanted(head: &[u8; 16]) -> Typed {
-    if head[0] == 0 {
-        Typed::Nodes(nodes_of(head))
-    } else {
-        Typed::Refused(head[0])
-    }
-}
-
-// Is the answer the stored one? If not, both are told.
-fn is_wanted(rt: &impl Print, head: &[u8; 16], typed: Typed) -> io::Result<bool> {
-    if is_answer(head, typed) {
-        return Ok(true);
-    }
-    print!(rt; "wanted")?;
-    tell_answer(rt, wanted(head))?;
-    print!(rt; ", came")?;
-    tell_answer(rt, typed)?;
-    print!(rt; "; ")?;
-    Ok(false)
 }
 
 // Are all cells as stored? If not, that is told.
 fn is_same_cells(
     rt: &impl Print,
-    head: &[u8; 16],
-    nodes: &[u8],
+    head: Head,
+    stored: &[u8],
     kinds: &[u8],
     parameters: &[i32],
-) -> io::Result<bool> {
-    let count = nodes_of(head);
-    if nodes.len() < count {
-        return Ok(false);
-    }
-    if !cases::is_same_bytes(kinds, &nodes[0..count], head[1]) {
+) -> io::Result<bool>
+    requires { length stored.now ≡ 5 * head.nodes }
+{
+    let mut wanted = [0i32; CELLS];
+    let count = head.nodes;
+    if CELLS < count || !cases::is_same(kinds, &stored[..count], head.kind) {
         print!(rt; "a kind is another; ")?;
         return Ok(false);
     }
-    if !cases::is_same_values(parameters, &nodes[count..], fill_of(head)) {
+    cases::load_values(&stored[count..], &mut wanted[..count]);
+    if !cases::is_same(parameters, &wanted[..count], head.parameter) {
         print!(rt; "a parameter is another; ")?;
         return Ok(false);
     }
     Ok(true)
 }
 
-// Types a text into the two slices, whose cells hold the stored numbers before.
-fn typed_over(
-    head: &[u8; 16],
-    model: &[u8],
-    text: &[u8],
-    kinds: &mut [u8],
-    parameters: &mut [i32],
-) -> Typed {
-    cases::fill_bytes(kinds, head[1]);
-    cases::fill_values(parameters, fill_of(head));
-    texts::write_nodes(model, text, kinds, parameters)
-}
-
-// Are the answer and every cell of the two slices as stored?
-fn is_equal(
-    rt: &impl Print,
-    head: &[u8; 16],
-    model: &[u8],
-    text: &[u8],
-    nodes: &[u8],
-    kinds: &mut [u8],
-    parameters: &mut [i32],
-) -> io::Result<bool> {
-    let typed = typed_over(head, model, text, kinds, parameters);
-    if !is_wanted(rt, head, typed)? {
+// Types the text of a case into two slices of the stored lengths, whose cells hold the stored numbers before: are the answer and
+// every cell as stored? False where there is no such case.
+fn is_equal(rt: &impl Print, head: Head, body: &[u8]) -> io::Result<bool>
+    requires { length body.now ≡ head.model + head.text + 5 * head.nodes }
+{
+    if CELLS < head.kinds || CELLS < head.parameters {
         return Ok(false);
     }
-    is_same_cells(rt, head, nodes, kinds, parameters)
-}
-
-// The same of a case, with slices of the stored lengths; false where there is no such case.
-fn is_case_equal(rt: &impl Print, head: &[u8; 16], body: &[u8]) -> io::Result<bool> {
-    let model = cases::two(head, 2);
-    let text = model + cases::two(head, 4);
-    let nodes = text + 5 * nodes_of(head);
-    if body.len() < nodes {
+    let mut kinds = [head.kind; CELLS];
+    let mut parameters = [head.parameter; CELLS];
+    let kinds = &mut kinds[..head.kinds];
+    let parameters = &mut parameters[..head.parameters];
+    let (model, rest) = body.split_at(head.model);
+    let (text, stored) = rest.split_at(head.text);
+    let answer = answer_of(texts::write_nodes(model, text, kinds, parameters));
+    if !cases::is_wanted(rt, "nodes", head.wanted(), answer)? {
         return Ok(false);
     }
-    let first = cases::two(head, 6);
-    let second = cases::two(head, 8);
-    if CELLS < first {
-        return Ok(false);
-    }
-    if CELLS < second {
-        return Ok(false);
-    }
-    let mut kinds = [0u8; CELLS];
-    let mut parameters = [0i32; CELLS];
-    is_equal(
-        rt,
-        head,
-        &body[0..model],
-        &body[model..text],
-        &body[text..nodes],
-        &mut kinds[0..first],
-        &mut parameters[0..second],
-    )
+    is_same_cells(rt, head, stored, kinds, parameters)
 }
 
-// Reads one case and runs it.
-fn next_case(rt: &impl Print, file: &mut impl Read, buffer: &mut [u8]) -> io::Result<Outcome> {
-    let mut head = [0u8; 16];
-    if !cases::is_read(file, &mut head, 16)? {
-        return Ok(Outcome::End);
+// Reads one case and runs it; none at the end of the file.
+fn next_case(rt: &impl Print, file: &mut impl Read, buffer: &mut [u8]) -> io::Result<Option<bool>> {
+    let Some(bytes): Option<[u8; 16]> = cases::next_bytes(file)? else {
+        return Ok(None);
+    };
+    let head = Head::from(bytes);
+    let length = head.body_length();
+    if !cases::is_read(file, buffer, length)? {
+        return Ok(None);
     }
-    if !cases::is_read(file, buffer, body_length(&head))? {
-        return Ok(Outcome::End);
+    match buffer.get(..length) {
+        Some(body) => Ok(Some(is_equal(rt, head, body)?)),
+        None => Ok(None),
     }
-    Ok(Outcome::Equal(is_case_equal(rt, &head, buffer)?))
-}
-
-// All cases of the file.
-fn run(rt: &impl Print, file: &mut impl Read, buffer: &mut [u8]) -> io::Result<Tally> {
-    let mut tally = Tally::empty();
-    for _ in 0..u64::MAX {
-        match next_case(rt, file, buffer)? {
-            Outcome::End => return Ok(tally),
-            Outcome::Equal(is_same) => {
-                tally = cases::counted(tally, is_same);
-                cases::tell(rt, &tally, is_same)?;
-            }
-        }
-    }
-    Ok(tally)
 }
 
 fn main(rt: HostRuntime) -> io::Result<()> {
     let mut file = cases::open(&rt)?;
     let mut buffer = [0u8; 16384];
-    let tally = run(&rt, &mut file, &mut buffer)?;
-    cases::print(&rt, tally, b"texts")
+    cases::run(&rt, "texts", || next_case(&rt, &mut file, &mut buffer))
 }

@@ -3,8 +3,7 @@ use mathlib.Core.Path.{◌≡◌, refl, sym, ap, ◌∙◌}
 use mathlib.Core.Bool.{true, false, true≢false}
 use mathlib.Core.List.{List}
 use Prim.Native.Nat.{ℕ}
-use native.Mathlib.Omega.{arith}
-use borrow.Author.Tests.{le-ltb, ne_eqb}
+use borrow.Author.Tests.{le-ltb}
 use lib.ListN.{length}
 use Rattle.model.specs.Trees.{Expression, depth_of_expression}
 use Rattle.model.specs.Nodes.{nodes_of_expression}
@@ -13,7 +12,9 @@ use Rattle.grammar.specs.Reading.{phrase_of}
 use Rattle.grammar.proofs.Tests.{is_true}
 use Rattle.grammar.proofs.Readings.{reading_exact}
 use Rattle.composition.specs.Typing.{sort_in, variables_below, expression_of}
-use Rattle.texts.specs.declared.Typed.TheVariants.{Refused, Nodes}
+use Rattle.results.specs.declared.refusal.Refusal.{Refusal}
+use Rattle.kinds.specs.declared.Sort.{Sort}
+use Rattle.std.proofs.Common.{is_some, Ok, Err}
 use Rattle.texts.specs.Texts.{Meant, meant_by, Slices, written_into, typed_over}
 use Rattle.texts.specs.Texts.Meant.{refused, meant}
 use Rattle.texts.specs.Theorems.{AcceptedAs, TextAccepted}
@@ -21,7 +22,7 @@ use Rattle.texts.proofs.Limits.{within_read, answer_within}
 use Rattle.texts.proofs.Meanings.{meant_phrase}
 
 -- a refusal is no count
-not_nodes : {k n : ℕ} → Refused k ≡ Nodes n → ⊥
+not_nodes : {r : Refusal} {n : ℕ} → Err r ≡ Ok n → ⊥
 not_nodes h = let z : true ≡ false = cc in true≢false z
 
 -- nodes are written for what is meant
@@ -30,16 +31,16 @@ record WrittenFor (m : Meant) (n : ℕ) : Type 0 where
   is : m ≡ meant what
   counted : n ≡ length (nodes_of_expression what)
 
-written_for : (s : Slices) (m : Meant) (n : ℕ) → (written_into s m).answer ≡ Nodes n → WrittenFor m n
+written_for : (s : Slices) (m : Meant) (n : ℕ) → (written_into s m).answer ≡ Ok n → WrittenFor m n
 unfolding written_into
 written_for s (refused k) n h = absurd (not_nodes h)
 written_for s (meant x) n h = record { what = x; is = refl; counted = cc }
 
-module _ (vs text : List ℕ) (s : Slices) (n : ℕ) where
+module _ (vs : List Sort) (text : List ℕ) (s : Slices) (n : ℕ) where
   -- from the answer
-  accepted_as : (typed_over vs text s).answer ≡ Nodes n → AcceptedAs vs text s n
+  accepted_as : (typed_over vs text s).answer ≡ Ok n → AcceptedAs vs text s n
   accepted_as h =
-      let b = answer_within vs text s (Nodes n) not_nodes not_nodes h in
+      let b = answer_within vs text s (Ok n) not_nodes not_nodes h in
       let w = written_for s (meant_by vs (phrase_of text)) n (sym (ap (λ a. a.answer) (within_read vs text s b)) ∙ h) in
       let (p, o, m) = meant_phrase vs (phrase_of text) w.what w.is in
       record {
@@ -63,14 +64,14 @@ module _ (vs text : List ℕ) (s : Slices) (n : ℕ) where
         within_read vs text s (record { short = a.short; kinds = a.kinds; parameters = a.parameters }),
         (reading_exact text p).1 a.reads,
         is_true (variables_below (length vs) p) a.below,
-        ne_eqb (sort_in vs p) 0 (omega (arith, a.fits)),
+        is_true (is_some (sort_in vs p)) a.fits,
         le-ltb max_depth (depth_of_expression (expression_of vs p)) a.deep,
       )
 
   -- to the answer
-  as_accepted : AcceptedAs vs text s n → (typed_over vs text s).answer ≡ Nodes n
+  as_accepted : AcceptedAs vs text s n → (typed_over vs text s).answer ≡ Ok n
   unfolding written_into
-  as_accepted a = ap (λ r. r.answer) (accepted_written a) ∙ ap Nodes (sym a.counted)
+  as_accepted a = ap (λ r. r.answer) (accepted_written a) ∙ ap Ok (sym a.counted)
 
 -- both ways
 pub text_accepted : TextAccepted

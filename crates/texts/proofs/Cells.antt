@@ -7,6 +7,7 @@ use native.Mathlib.Omega.{arith}
 use lib.ListN.{length, take, drop, length-append, length-drop, length-map}
 use lib.Seq.{take_at, drop_at}
 use Rattle.results.specs.Results.{over}
+use Rattle.kinds.specs.declared.Sort.{Sort}
 use Rattle.model.specs.Trees.{variables, sorts_of}
 use Rattle.model.specs.Nodes.{Node, nodes_of_expression}
 use Rattle.model.specs.Check.Verdict.{refusal, accepted}
@@ -36,7 +37,7 @@ begun f l old n e room =
 
 -- ---- both
 
-module _ (vs text : List ℕ) (s : Slices) (n : ℕ) (a : AcceptedAs vs text s n) where
+module _ (vs : List Sort) (text : List ℕ) (s : Slices) (n : ℕ) (a : AcceptedAs vs text s n) where
   abbrev nodes : List Node
   nodes = nodes_of_expression (expression_of vs a.phrase)
 

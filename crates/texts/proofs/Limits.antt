@@ -8,8 +8,10 @@ use lib.Dec.{ltb}
 use lib.ListN.{length}
 use Rattle.results.specs.Results.{answered}
 use Rattle.grammar.specs.Reading.{phrase_of}
-use Rattle.texts.specs.declared.Typed.{Typed}
-use Rattle.texts.specs.declared.Typed.TheVariants.{Refused}
+use Rattle.results.specs.declared.refusal.Refusal.{Refusal}
+use Rattle.results.specs.declared.refusal.Refusal.TheVariants.{TooLarge, ShortSlice}
+use Rattle.kinds.specs.declared.Sort.{Sort}
+use Rattle.std.proofs.Common.{Result, Err}
 use Rattle.texts.specs.Texts.{meant_by, Slices, written_into, typed_over, max_text, min_nodes}
 
 -- neither 34 nor 10 is due
@@ -18,7 +20,7 @@ pub record Within (text : List ℕ) (s : Slices) : Type 0 where
   pub kinds : min_nodes ≤ length s.kinds
   pub parameters : min_nodes ≤ length s.parameters
 
-module _ (vs text : List ℕ) (s : Slices) where
+module _ (vs : List Sort) (text : List ℕ) (s : Slices) where
   -- then the text is read
   pub within_read : Within text s → typed_over vs text s ≡ written_into s (meant_by vs (phrase_of text))
   unfolding typed_over
@@ -30,13 +32,13 @@ module _ (vs text : List ℕ) (s : Slices) where
       )
 
   -- any other answer than these two
-  pub answer_within : (r : Typed) → (Refused 34 ≡ r → ⊥) → (Refused 10 ≡ r → ⊥) → (typed_over vs text s).answer ≡ r → Within text s
+  pub answer_within : (r : Result ℕ Refusal) → (Err TooLarge ≡ r → ⊥) → (Err ShortSlice ≡ r → ⊥) → (typed_over vs text s).answer ≡ r → Within text s
   unfolding typed_over
   answer_within r f g =
       by (ltb max_text (length text)) (ltb (length s.kinds) min_nodes) (ltb (length s.parameters) min_nodes) refl refl refl
     where
       by : (t u v : Bool) → ltb max_text (length text) ≡ t → ltb (length s.kinds) min_nodes ≡ u → ltb (length s.parameters) min_nodes ≡ v
-          → (cond t (answered (Refused 34) s) (cond (u || v) (answered (Refused 10) s) (written_into s (meant_by vs (phrase_of text))))).answer ≡ r → Within text s
+          → (cond t (answered (Err TooLarge) s) (cond (u || v) (answered (Err ShortSlice) s) (written_into s (meant_by vs (phrase_of text))))).answer ≡ r → Within text s
       by true u v a b c h = absurd (f h)
       by false true v a b c h = absurd (g h)
       by false false true a b c h = absurd (g h)

@@ -10,7 +10,8 @@ use Rattle.model.specs.Check.{verdict}
 use Rattle.model.specs.Theorems.{Bytes, ShuffledFile}
 use Rattle.model.proofs.Shuffling.{shuffled_accepted}
 use Rattle.results.specs.Results.{Answered}
-use Rattle.texts.specs.declared.Typed.{Typed}
+use Rattle.results.specs.declared.refusal.Refusal.{Refusal}
+use Rattle.std.proofs.Common.{Result}
 use Rattle.texts.specs.Texts.{Slices, typed_in, typed_over}
 use Rattle.texts.specs.Theorems.{typed_all, TextsOrderIndependent}
 
@@ -36,5 +37,5 @@ unfolding typed_all
 texts_order_independent m m' b f [] s = refl
 texts_order_independent m m' b f (text ∷ texts) s =
     let e = typed_alike m m' b f text s in
-    ap₂ (λ (r : Answered Typed Slices) (rs : List (Answered Typed Slices)). r ∷ rs) e
-    (texts_order_independent m m' b f texts (typed_in (verdict m) text s).left ∙ ap (λ (r : Answered Typed Slices). typed_all m' texts r.left) e)
+    ap₂ (λ (r : Answered (Result ℕ Refusal) Slices) (rs : List (Answered (Result ℕ Refusal) Slices)). r ∷ rs) e
+    (texts_order_independent m m' b f texts (typed_in (verdict m) text s).left ∙ ap (λ (r : Answered (Result ℕ Refusal) Slices). typed_all m' texts r.left) e)

@@ -3,7 +3,6 @@ use mathlib.Core.Path.{◌≡◌}
 use mathlib.Core.List.{List, [], ◌∷◌, ◌++◌, map}
 use Prim.Native.Nat.{ℕ, ◌+◌, ◌*◌, ◌≤◌, ◌<◌}
 use native.Mathlib.Omega.{arith}
-use lib.Dec.{eqb}
 use lib.ListN.{length, length-append, length-map}
 use Rattle.evaluation.specs.declared.Operator.{Operator}
 use Rattle.model.specs.Trees.{Expression}
@@ -12,11 +11,15 @@ use Rattle.model.specs.Standing.{size_of_expression}
 use Rattle.model.proofs.NodeTrees.{expression_size}
 use Rattle.grammar.specs.Words.{Spelled, is_word, is_run, is_among, two_byte_signs}
 use Rattle.grammar.specs.Words.Spelled.{nothing, space, word as spelt}
-use Rattle.grammar.specs.Tokens.{Token, token_of, close_code, comma_code, then_code, else_code, not_code, plus_code, minus_code, times_code, and_code, or_code, equal_code, unequal_code, less_code, greater_code, greater_or_equal_code}
-use Rattle.grammar.specs.Phrases.{Phrase, Derives, word}
+use Rattle.std.proofs.Common.{Option, Some, None}
+use Rattle.kinds.specs.declared.Sort.{Sort}
+use Rattle.kinds.specs.declared.Sort.TheVariants.{Boolean, Number}
+use Rattle.grammar.specs.declared.Token.{Token}
+use Rattle.grammar.specs.declared.Token.TheVariants.{Close, Comma, Then, Else, Not, Minus, Equal, Unequal, Greater, GreaterOrEqual}
+use Rattle.grammar.specs.Tokens.{token_of}
+use Rattle.grammar.specs.Phrases.{Phrase, Derives}
 use Rattle.grammar.specs.Phrases.Derives.{by_tighter, by_number, by_variable, by_true, by_false, by_parentheses, by_call, by_chain, by_sign, by_relation, by_negation, by_conditional}
-use Rattle.composition.specs.Typing.{sort_in, prefixed_by, operated_by, expression_of}
-use Rattle.composition.proofs.Branches.{either}
+use Rattle.composition.specs.Typing.{equal, sort_in, prefixed_by, operated_by, expression_of}
 use Rattle.texts.specs.Theorems.{RoomEnough}
 
 -- ---- a word has a byte
@@ -50,31 +53,37 @@ module _ (a b : Expression) where
   unfolding size_of_expression
   negated op = record { size = omega arith }
 
+  equal_size : (o : Option Sort) → AtMost most (equal o a b)
+  unfolding equal
+  equal_size (Some Number) = pair _
+  equal_size (Some Boolean) = pair _
+  equal_size None = pair _
+
+  negated_size : (o : Option Sort) → AtMost most (negation (equal o a b))
+  unfolding equal
+  negated_size (Some Number) = negated _
+  negated_size (Some Boolean) = negated _
+  negated_size None = negated _
+
   -- an operator between operands
-  operated_size : (c sort : ℕ) → AtMost most (operated_by c sort a b)
+  operated_size : (c : Token) (sort : Option Sort) → AtMost most (operated_by c sort a b)
   unfolding operated_by
-  operated_size c sort =
-      either (AtMost most) (eqb c plus_code) (pair _)
-      (either (AtMost most) (eqb c minus_code) (pair _)
-      (either (AtMost most) (eqb c times_code) (pair _)
-      (either (AtMost most) (eqb c and_code) (pair _)
-      (either (AtMost most) (eqb c or_code) (pair _)
-      (either (AtMost most) (eqb c equal_code) (pair _)
-      (either (AtMost most) (eqb c unequal_code) (negated _)
-      (either (AtMost most) (eqb c greater_code) (swapped _)
-      (either (AtMost most) (eqb c greater_or_equal_code) (swapped _)
-      (either (AtMost most) (eqb c less_code) (pair _) (pair _))))))))))
+  operated_size Equal sort = equal_size sort
+  operated_size Unequal sort = negated_size sort
+  operated_size Greater sort = swapped _
+  operated_size GreaterOrEqual sort = swapped _
+  operated_size _ sort = pair _
 
 -- a sign, or not
-prefixed_size : (c : ℕ) (a : Expression) → AtMost (2 + size_of_expression a) (prefixed_by c a)
+prefixed_size : (c : Token) (a : Expression) → AtMost (2 + size_of_expression a) (prefixed_by c a)
 unfolding prefixed_by size_of_expression
-prefixed_size c a =
-    either (AtMost (2 + size_of_expression a)) (eqb c not_code) (record { size = omega arith })
-    (either (AtMost (2 + size_of_expression a)) (eqb c minus_code) (record { size = omega arith }) (record { size = omega arith }))
+prefixed_size Not a = record { size = omega arith }
+prefixed_size Minus a = record { size = omega arith }
+prefixed_size _ a = record { size = omega arith }
 
 -- ---- fewer than two nodes for a word, and for a byte
 
-module _ (vs : List ℕ) where
+module _ (vs : List Sort) where
   abbrev nodes : Phrase → ℕ
   nodes p = size_of_expression (expression_of vs p)
 
@@ -86,26 +95,26 @@ module _ (vs : List ℕ) where
   derived_size by_variable = omega arith
   derived_size by_true = omega arith
   derived_size by_false = omega arith
-  derived_size (by_parentheses ts p d) = let g = derived_size d in omega (arith, length-append ts (word close_code ∷ []))
+  derived_size (by_parentheses ts p d) = let g = derived_size d in omega (arith, length-append ts (Close ∷ []))
   derived_size (by_call c ts us p q t d e) =
       let g = derived_size d in
       let h = derived_size e in
-      omega (arith, length-append ts (word comma_code ∷ us ++ (word close_code ∷ [])), length-append us (word close_code ∷ []))
+      omega (arith, length-append ts (Comma ∷ us ++ (Close ∷ [])), length-append us (Close ∷ []))
   derived_size (by_chain l c ts us p q t d e) =
       let g = derived_size d in
       let h = derived_size e in
-      omega (arith, length-append ts (word c ∷ us), (operated_size (expression_of vs p) (expression_of vs q) c (sort_in vs p)).size)
+      omega (arith, length-append ts (c ∷ us), (operated_size (expression_of vs p) (expression_of vs q) c (sort_in vs p)).size)
   derived_size (by_sign c ts p t d) = let g = derived_size d in omega (arith, (prefixed_size c (expression_of vs p)).size)
   derived_size (by_relation c ts us p q t d e) =
       let g = derived_size d in
       let h = derived_size e in
-      omega (arith, length-append ts (word c ∷ us), (operated_size (expression_of vs p) (expression_of vs q) c (sort_in vs p)).size)
-  derived_size (by_negation ts p d) = let g = derived_size d in omega (arith, (prefixed_size not_code (expression_of vs p)).size)
+      omega (arith, length-append ts (c ∷ us), (operated_size (expression_of vs p) (expression_of vs q) c (sort_in vs p)).size)
+  derived_size (by_negation ts p d) = let g = derived_size d in omega (arith, (prefixed_size Not (expression_of vs p)).size)
   derived_size (by_conditional ts us ws p q r d e f) =
       let g = derived_size d in
       let h = derived_size e in
       let i = derived_size f in
-      omega (arith, length-append ts (word then_code ∷ us ++ (word else_code ∷ ws)), length-append us (word else_code ∷ ws))
+      omega (arith, length-append ts (Then ∷ us ++ (Else ∷ ws)), length-append us (Else ∷ ws))
 
 -- by the words of the text
 pub room_enough : RoomEnough

@@ -4,18 +4,21 @@ use mathlib.Core.List.{List, [], ◌∷◌, map, nil≢cons, head-eq_of_cons-eq}
 use Prim.Native.Nat.{ℕ}
 use lib.Dec.{T, lit≤}
 use Rattle.ascii.specs.Ascii.{same, are_digits, value_after}
+use Rattle.kinds.specs.declared.Sort.TheVariants.{Boolean}
 use Rattle.model.specs.Trees.{depth_of_expression}
 use Rattle.grammar.specs.Words.{words_after, is_word, is_run, is_letter_or_digit, is_among, two_byte_signs, Longest, Spelled}
 use Rattle.grammar.specs.Words.Spelled.{nothing, space, word as spelt}
-use Rattle.grammar.specs.Tokens.{Token, token, token_of, code_among, fixed_words, is_numeral, variable_code, if_code, then_code, else_code}
-use Rattle.grammar.specs.Phrases.{Phrase, Derives, word, is_chained, whole_level}
+use Rattle.grammar.specs.declared.Token.{Token}
+use Rattle.grammar.specs.declared.Token.TheVariants.{Variable, If, Then, Else}
+use Rattle.grammar.specs.Tokens.{token_of, token_among, other_token, fixed_words, is_numeral}
+use Rattle.grammar.specs.Phrases.{Phrase, Derives, is_chained, whole_level}
 use Rattle.grammar.specs.Phrases.Phrase.{variable, conditional}
 use Rattle.grammar.specs.Phrases.Derives.{by_tighter, by_variable, by_conditional}
 use Rattle.grammar.specs.Reading.{phrase_of, entire, read_at, level_by, whole_by, chain_by, call_by, arguments_by, prefix_by, related_by, chain, and_then, is_next, after_next}
 use Rattle.grammar.specs.Theorems.{Reads}
 use Rattle.grammar.proofs.Scanning.{run_longest}
 use Rattle.grammar.proofs.Readings.{reading_exact}
-use Rattle.composition.specs.Typing.{operation_sort, sort_in, variables_below, prefixed_by, operated_by, expression_of}
+use Rattle.composition.specs.Typing.{equal, operation_sort, prefix_sort, sort_in, variables_below, prefixed_by, operated_by, call_operator, expression_of}
 use Rattle.texts.specs.Texts.{meant_by, typed_over}
 use Rattle.texts.specs.Rows.{OrderRows, ConditionalRow, TextRows}
 
@@ -47,12 +50,12 @@ choice_spelled =
 
 -- what they mean
 choice_tokens : map token_of choice_words
-    ≡ word if_code ∷ token variable_code 0 ∷ word then_code ∷ token variable_code 1 ∷ word else_code ∷ token variable_code 0 ∷ []
-unfolding same are_digits value_after token_of code_among fixed_words is_numeral
+    ≡ If ∷ Variable 0 ∷ Then ∷ Variable 1 ∷ Else ∷ Variable 0 ∷ []
+unfolding same are_digits value_after token_of token_among other_token fixed_words is_numeral
 choice_tokens = refl
 
 -- a variable is a whole phrase
-whole_variable : (n : ℕ) → Derives whole_level (token variable_code n ∷ []) (variable n)
+whole_variable : (n : ℕ) → Derives whole_level (Variable n ∷ []) (variable n)
 whole_variable n =
     by_tighter (lit≤ tt) (by_tighter (lit≤ tt) (by_tighter (lit≤ tt) (by_tighter (lit≤ tt)
     (by_tighter (lit≤ tt) (by_tighter (lit≤ tt) (by_tighter (lit≤ tt) (by_tighter (lit≤ tt) by_variable)))))))
@@ -72,7 +75,7 @@ choice_reads =
 
 conditional_row : ConditionalRow
 unfolding meant_by sort_in variables_below expression_of depth_of_expression
-conditional_row = ap (meant_by (1 ∷ 1 ∷ [])) ((reading_exact choice_text choice).1 choice_reads)
+conditional_row = ap (meant_by (Boolean ∷ Boolean ∷ [])) ((reading_exact choice_text choice).1 choice_reads)
 
 -- ---- the others
 
@@ -83,6 +86,6 @@ order_rows = (refl, refl)
 
 -- one by one
 pub text_rows : TextRows
-unfolding meant_by phrase_of entire read_at level_by whole_by chain_by call_by arguments_by prefix_by related_by chain and_then is_next after_next is_chained words_after is_word is_run is_among two_byte_signs same are_digits value_after token_of code_among fixed_words is_numeral operation_sort sort_in variables_below prefixed_by operated_by expression_of depth_of_expression
+unfolding meant_by phrase_of entire read_at level_by whole_by chain_by call_by arguments_by prefix_by related_by chain and_then is_next after_next is_chained words_after is_word is_run is_among two_byte_signs same are_digits value_after token_of token_among other_token fixed_words is_numeral operation_sort prefix_sort sort_in variables_below prefixed_by equal operated_by call_operator expression_of depth_of_expression
 text_rows =
     ((refl, refl, refl, refl, refl, refl), (refl, refl, refl), (refl, refl, refl, refl), (refl, refl, refl, refl, refl), (refl, refl), order_rows, conditional_row)

@@ -46,9 +46,7 @@ pub fn first_values(variables: &[[i32; 3]], values: &mut [i32])
     requires { length variables.now ≤ length values.old }
     ensures { values.new ≡ over (firsts_in variables.now) values.old }
 {
-    let mut x = 0;
-    while x < variables.len() {
+    for x in 0..variables.len() {
         values[x] = first(variables, x);
-        x += 1;
     }
 }

@@ -11,7 +11,7 @@ use lib.Seq.{get_or-set_same, get_or-set_other}
 use Rattle.evaluation.specs.declared.Evaluation.{Evaluation}
 use Rattle.evaluation.specs.declared.Evaluation.TheVariants.{Unknown, Failed, Value}
 use Rattle.evaluation.specs.Numbers.{eq_z, boolean}
-use Rattle.model.specs.Trees.{Expression, Instruction, Instructions}
+use Rattle.model.specs.Trees.{Instruction, Instructions}
 use Rattle.model.specs.Trees.Instruction.{skip, assign, if_then, block}
 use Rattle.model.specs.Trees.Instructions.{none as no_branch, more}
 use Rattle.model.specs.Standing.{size_of_expression, size_of, size_of_all}

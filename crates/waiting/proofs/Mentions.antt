@@ -1,14 +1,13 @@
 -- A variable that an instruction's own expression mentions has a node there, and that node's owner is the instruction.
 use mathlib.Core.Path.{◌≡◌, refl, sym, ap, subst, ◌∙◌}
 use mathlib.Core.Logic.{◌⊎◌, inl, inr, ⊎_elim}
-use mathlib.Core.Bool.{Bool, true, false, true≢false, false≢true, ◌||◌}
+use mathlib.Core.Bool.{Bool, true, false, false≢true, ◌||◌}
 use mathlib.Core.List.{List}
 use Prim.Native.Nat.{ℕ, zero, suc, ◌+◌, ◌≤◌, ◌<◌}
 use native.Mathlib.Omega.{arith}
 use borrow.Author.Tests.{eqb-true}
-use lib.Dec.{eqb}
-use lib.IntN.{ℤ, pos, nat_abs}
-use lib.ListN.{length, get_or}
+use lib.IntN.{ℤ, nat_abs}
+use lib.ListN.{get_or}
 use Rattle.evaluation.specs.declared.Operator.{Operator}
 use Rattle.evaluation.specs.declared.Operator.TheVariants.{Conjunction, Disjunction, Equality, Less, LessOrEqual, Sum, Difference, Product, Quotient, Remainder, Equivalence}
 use Rattle.kinds.specs.Kinds.{kind_of}
@@ -18,7 +17,7 @@ use Rattle.model.specs.Trees.Instruction.{skip, assign, if_then, block}
 use Rattle.model.specs.Standing.{NodeAt, ExpressionAt, InstructionAt, size_of_expression}
 use Rattle.expressions.specs.Expressions.{Valuation}
 use Rattle.waiting.specs.Waiting.{mentions, Waits, Untouched}
-use Rattle.waiting.specs.Index.{Mention, OwnerOf, Owning}
+use Rattle.waiting.specs.Index.{Mention, OwnerOf}
 
 operator_kind_lem : (op : Operator) → 32 ≤ kind_of op
 unfolding kind_of

@@ -1,21 +1,21 @@
 -- The flows that effects make known: every cell that changes is among them, each is one more that is known, and node by node.
-use mathlib.Core.Path.{◌≡◌, refl, sym, ap, ap₂, subst, ◌∙◌}
+use mathlib.Core.Path.{◌≡◌, refl, sym, ap, subst, ◌∙◌}
 use mathlib.Core.Logic.{◌⊎◌, inl, inr, ⊎_elim}
 use mathlib.Core.Bool.{Bool, true, false, true≢false, cond}
 use mathlib.Core.List.Memᴰ
-use mathlib.Core.List.{List, [], ◌∷◌, ◌++◌, append-nil, append_assoc, Memᴰ}
-use mathlib.Core.Option.{Option, some, none}
-use Prim.Native.Nat.{ℕ, suc, ◌+◌, ◌≤◌, ◌<◌}
+use mathlib.Core.List.{List, [], ◌∷◌, ◌++◌, append-nil, Memᴰ}
+use mathlib.Core.Option.{some, none}
+use Prim.Native.Nat.{ℕ, ◌<◌}
 use native.Mathlib.Omega.{arith}
 use borrow.Author.Tests.{eqb-true, eqb-false}
-use lib.Dec.{T, eqb}
+use lib.Dec.{eqb}
 use lib.IntN.{ℤ, pos}
-use lib.ListN.{length, get_or, set, length-set, get_elem?}
+use lib.ListN.{length, get_or, set, length-set}
 use lib.Seq.{get_or-set_other}
 use Rattle.evaluation.specs.declared.Evaluation.{Evaluation}
 use Rattle.evaluation.specs.declared.Evaluation.TheVariants.{Unknown, Failed, Value}
 use Rattle.evaluation.specs.Numbers.{representable, eq_z, boolean}
-use Rattle.model.specs.Trees.{Instruction, Instructions}
+use Rattle.model.specs.Trees.{Instruction}
 use Rattle.model.specs.Trees.Instruction.{skip, assign, if_then, block}
 use Rattle.model.specs.Trees.Instructions.{none as no_branch, more}
 use Rattle.model.specs.WellFormed.{All}
@@ -23,11 +23,11 @@ use Rattle.expressions.specs.Expressions.{Valuation, evaluate}
 use Rattle.interpreter.specs.Instructions.{Effect, effects, effects_of_all, under}
 use Rattle.interpreter.specs.Instructions.Effect.{fails, gives}
 use Rattle.expressions.specs.Cells.{cell_value, valuation_of}
-use Rattle.interpreter.specs.Gathering.{Gathering, gathering, gather, gather_all, at_once, due_after, chosen_branch}
+use Rattle.interpreter.specs.Gathering.{Gathering, gather, gather_all, at_once, due_after, chosen_branch}
 use Rattle.expressions.proofs.Cells.{known_cell, element_set, element_set_other}
 use Rattle.semantics.specs.Theorems.{Extends}
 use Rattle.semantics.specs.Counting.{unknowns}
-use Rattle.semantics.proofs.Counting.{unknowns_keep, unknowns_fall}
+use Rattle.semantics.proofs.Counting.{unknowns_fall}
 use Rattle.waiting.proofs.Gathering.{Admissible}
 use Rattle.waiting.specs.News.{news_of, open_cells}
 

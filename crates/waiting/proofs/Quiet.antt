@@ -1,7 +1,6 @@
 -- Effects whose values are all known, within their ends, bring no fault and nothing new beside others.
-use mathlib.Core.Path.{◌≡◌, refl, sym, ap, ap₂, subst, fun_ext, ◌∙◌}
-use mathlib.Core.Logic.{⊎_elim}
-use mathlib.Core.Bool.{Bool, true, false, true≢false, false≢true, cond, not, ◌||◌, or-true, or_assoc, or-false}
+use mathlib.Core.Path.{◌≡◌, refl, sym, ap, subst, fun_ext, ◌∙◌}
+use mathlib.Core.Bool.{Bool, true, false, true≢false, false≢true, cond, not, ◌||◌, or-true}
 use mathlib.Core.List.{List, [], ◌∷◌, ◌++◌, Memᴰ}
 use mathlib.Core.Option.{Option, some, none}
 use Prim.Native.Nat.{ℕ}
@@ -16,7 +15,6 @@ use Rattle.interpreter.specs.Instructions.{Effect, any, effects, is_failure, is_
 use Rattle.interpreter.specs.Instructions.Effect.{fails, gives}
 use Rattle.interpreter.specs.declared.Fault.{Fault}
 use Rattle.semantics.specs.Propagation.{Reached, is_known, is_new, extended, round_by}
-use Rattle.semantics.specs.Theorems.{Extends}
 use Rattle.semantics.proofs.Effects.{any_false, false_at, witness, faultless, given_member, member_given, given_known}
 use Rattle.semantics.proofs.Alike.{Alike, any_append, any_mono, faults_alike, given_alike, no_conflict}
 use Rattle.waiting.specs.Waiting.{waiting, effects_of_each}

@@ -3,6 +3,7 @@ use mathlib.Core.Path.{◌≡◌, refl, sym, subst}
 use mathlib.Core.Bool.{Bool, true, false, cond, ◌||◌}
 use mathlib.Core.List.{List, [], ◌∷◌, ◌++◌}
 use mathlib.Core.Option.{Option, some, none}
+use Rattle.std.specs.Prelude.{Option as Optional, slice_get}
 use Prim.Native.Nat.{ℕ, ◌≤◌, ◌<◌}
 use native.Mathlib.Omega.{arith}
 use lib.Dec.{T}
@@ -16,6 +17,7 @@ use Rattle.evaluation.specs.declared.Operator.TheVariants.{Conjunction, Disjunct
 use Rattle.evaluation.specs.Numbers.{representable, checked, eq_z, boolean}
 use Rattle.evaluation.specs.Meaning.{operated, negated, calculated, decides, decision, divided, is_unknown, is_failed, number}
 use Rattle.evaluation.proofs.Laws.{eq_z_true, cond_keeps, chosen_keeps}
+use Rattle.kinds.specs.declared.Sort.{Sort}
 use Rattle.model.specs.Trees.{Expression, Instruction, Instructions}
 use Rattle.model.specs.Trees.Expression.{numeral, truth, variable, negation, binary, if_then_else}
 use Rattle.model.specs.Trees.Instruction.{skip, assign, if_then, block}
@@ -109,7 +111,7 @@ proper_truth v h = by (eq_z v (pos 0)) (eq_z v (pos 1)) refl refl h
     by false false p q k = absurd k
 
 module _ (σ : Valuation) (known : ProperValues σ) where
-  pub proper_evaluation : (e : Expression) (sorts : List ℕ) (wanted : ℕ) → Sorted sorts wanted e → Proper (evaluate e σ)
+  pub proper_evaluation : (e : Expression) (sorts : List Sort) (wanted : Optional Sort) → Sorted sorts wanted e → Proper (evaluate e σ)
   unfolding evaluate Sorted Proper
   proper_evaluation (numeral v) sorts wanted h = h.1
   proper_evaluation (truth v) sorts wanted h = proper_truth v h.1
@@ -154,7 +156,7 @@ module _ (σ : Valuation) (known : ProperValues σ) where
     pub effects_in_scope : (i : Instruction) (s : Scope) → Scoped i s → All (InScope s) (effects i σ)
     effects_in_scope skip s h = tt
     effects_in_scope (assign x e) s h =
-        assigned_in_scope s x h.0 h.1 (evaluate e σ) (proper_evaluation σ known e s.sorts (get_or s.sorts x 0) h.2)
+        assigned_in_scope s x h.0 h.1 (evaluate e σ) (proper_evaluation σ known e s.sorts (slice_get s.sorts x) h.2)
     effects_in_scope (if_then c i) s h = under_in_scope s (evaluate c σ) (effects i σ) (effects_in_scope i s h.1)
     effects_in_scope (block is) s h = all_effects_in_scope is s h
 

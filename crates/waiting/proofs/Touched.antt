@@ -1,9 +1,8 @@
 -- Of the instructions that wait only those need be read that mention what became known; order and repetition do not count.
-use mathlib.Core.Path.{◌≡◌, refl, sym, subst, ◌∙◌}
+use mathlib.Core.Path.{refl, subst}
 use mathlib.Core.Logic.{◌⊎◌, ⊎_elim}
-use mathlib.Core.Bool.{Bool, true, false}
 use mathlib.Core.List.Memᴰ
-use mathlib.Core.List.{List, [], ◌∷◌, ◌++◌, Memᴰ}
+use mathlib.Core.List.{List, [], ◌∷◌, Memᴰ}
 use Rattle.model.specs.Trees.{Instruction}
 use Rattle.expressions.specs.Expressions.{Valuation}
 use Rattle.interpreter.specs.Instructions.{Effect, any, effects}

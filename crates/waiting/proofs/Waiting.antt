@@ -1,16 +1,16 @@
 -- Over a larger valuation an instruction has the effects that it had and those of what waited in it, and what waits then is what
 -- waits in what waited. An instruction that waits and none of whose variables became known has no effect, and waits.
 use mathlib.Core.Path.{◌≡◌, refl, sym, ap, ap₂, ◌∙◌}
-use mathlib.Core.Bool.{Bool, true, false, true≢false, cond, ◌||◌, or-true, or_assoc, or-false}
+use mathlib.Core.Bool.{Bool, true, false, cond, ◌||◌, or-true}
 use mathlib.Core.List.{List, [], ◌∷◌, ◌++◌}
 use Prim.Native.Nat.{ℕ}
 use borrow.Author.Tests.{eq-eqb}
 use Rattle.evaluation.specs.declared.Evaluation.{Evaluation}
 use Rattle.evaluation.specs.declared.Evaluation.TheVariants.{Unknown, Failed, Value}
 use Rattle.evaluation.specs.Numbers.{eq_z, boolean}
-use Rattle.evaluation.specs.Meaning.{operated, negated, chosen}
+use Rattle.evaluation.specs.Meaning.{operated, negated}
 use Rattle.evaluation.specs.Laws.{Grows}
-use Rattle.evaluation.specs.Laws.Grows.{stays, known}
+use Rattle.evaluation.specs.Laws.Grows.{stays}
 use Rattle.model.specs.Trees.{Expression, Instruction, Instructions}
 use Rattle.model.specs.Trees.Expression.{numeral, truth, variable, negation, binary, if_then_else}
 use Rattle.model.specs.Trees.Instruction.{skip, assign, if_then, block}
@@ -19,7 +19,7 @@ use Rattle.expressions.specs.Expressions.{Valuation, evaluation_of, evaluate}
 use Rattle.interpreter.specs.Instructions.{Effect, any, assigned, under, effects, effects_of_all}
 use Rattle.semantics.specs.Theorems.{Extends}
 use Rattle.semantics.proofs.Growth.{growth}
-use Rattle.semantics.proofs.Alike.{Alike, any_append}
+use Rattle.semantics.proofs.Alike.{any_append}
 use Rattle.waiting.specs.Waiting.{mentions, AgreeOn, waits_by, waits_under, waiting, waiting_in, effects_of_each, waiting_of_each, Waits, Untouched}
 
 -- ---- an evaluation depends on the variables mentioned alone

@@ -5,7 +5,7 @@ use mathlib.Core.Logic.{◌⊎◌, inl, inr, ⊎_elim}
 use mathlib.Core.Bool.{Bool, true, false}
 use mathlib.Core.List.Memᴰ
 use mathlib.Core.List.{List, [], ◌∷◌, ◌++◌, Memᴰ}
-use Prim.Native.Nat.{ℕ, suc, ◌+◌, ◌≤◌, ◌<◌}
+use Prim.Native.Nat.{ℕ, ◌+◌, ◌≤◌, ◌<◌}
 use native.Mathlib.Omega.{arith}
 use borrow.Author.Tests.{eqb-true, eqb-false}
 use lib.Dec.{eqb}
@@ -21,7 +21,7 @@ use Rattle.waiting.specs.Spots.{Spot, spot, spots, instructions_of}
 use Rattle.waiting.specs.Marks.{marked}
 use Rattle.waiting.specs.Waking.{Old, Spotted, Marked, Woken, Passed}
 use Rattle.waiting.proofs.Touched.{Enough}
-use Rattle.waiting.proofs.Spots.{Within, Apart, spot_waits, spot_stands, spot_within, spots_apart, spots_waiting, From, spot_from, from_spot, still_spot}
+use Rattle.waiting.proofs.Spots.{Apart, spot_waits, spot_stands, spot_within, spots_apart, spots_waiting, spot_from, from_spot, still_spot}
 use Rattle.waiting.proofs.Marks.{Mark, mark_cases, length_marked, marked_outside, marked_spot, own_mark}
 use Rattle.waiting.proofs.Mentions.{untouched}
 

@@ -2,13 +2,3 @@
 // index by which it is found. Definitions and laws, with what the crates above speak of. There are no functions.
 
 #![tactic(auto)]
-
-use interpreter::Gathered;
-
-// What was found so far, how many flows are queued, and how many instructions are marked.
-#[derive(Clone, Copy)]
-pub struct Progress {
-    pub found: Gathered,
-    pub queued: usize,
-    pub pending: usize,
-}

@@ -1,7 +1,7 @@
 -- `advance` meets its contract: the check's refusal, or the move on a model of its size.
 use mathlib.Core.Path.{sym, ap, ◌∙◌}
 use native.Mathlib.Omega.{arith}
-use Rattle.decoding.proofs.Preparing.{answer_fits}
+use Rattle.decoding.proofs.Preparing.{answer_fits, answer_sizes}
 use Rattle.standing.specs.Runs.{run}
 use Rattle.steps.specs.Calls.{step_on}
 use Rattle.steps.specs.Lent.{cells_left}
@@ -9,20 +9,37 @@ use Rattle.steps.specs.Answers.{seen}
 use Rattle.advancing.proofs.Parts.{refused_file}
 use Rattle.advancing.proofs.advance.Goals as goal
 
-pub overflow_add-sizes : goal.overflow_add-sizes
-overflow_add-sizes c =
-    let f = answer_fits _ _ c.shared_slice_known-1.given (sym c.check.ensures ∙ c.in-Accepted.is) in
+pub overflow_add-count : goal.overflow_add-count
+overflow_add-count c =
+    let f = answer_fits _ _ c.shared_slice_known-1.given (sym c.check.ensures ∙ c.in-Ok.is) in
     omega (arith, f.states, f.flows)
 
-pub advance_small-requires : goal.advance_small-requires
-advance_small-requires c = (sym c.check.ensures ∙ c.in-Accepted.is, c.if-sizes-le-FEW_NODES.true, c.if-sizes-le-FEW_VARIABLES.true)
+pub advance_within-requires : goal.advance_within-requires
+advance_within-requires c =
+    record {
+      accepted = sym c.check.ensures ∙ c.in-Ok.is;
+      bounds = (omega arith, omega arith, omega arith);
+      nodes = omega arith;
+      links = omega arith;
+      variables = omega arith;
+    }
 
-pub advance_large-requires : goal.advance_large-requires
-advance_large-requires c = sym c.check.ensures ∙ c.in-Accepted.is
+pub advance_within-requires-else-sizes-le-FEW_NODES : goal.advance_within-requires-else-sizes-le-FEW_NODES
+advance_within-requires-else-sizes-le-FEW_NODES c =
+    let accepted = sym c.check.ensures ∙ c.in-Ok.is in
+    let few = (answer_sizes _ _ accepted).few in
+    let f = answer_fits _ _ c.shared_slice_known-1.given accepted in
+    record {
+      accepted = accepted;
+      bounds = (omega arith, omega arith, omega arith);
+      nodes = few;
+      links = omega (arith, few);
+      variables = omega (arith, f.states, f.flows);
+    }
 
-pub returns-in-Refused : goal.returns-in-Refused
+pub returns-in-Err : goal.returns-in-Err
 unfolding seen
-returns-in-Refused c =
+returns-in-Err c =
     let a = c.args in
     let r = run a.values.now a.marks.now a.history.now a.n in
-    ap cells_left (refused_file a.model.now c.in-Refused.number (sym c.check.ensures ∙ c.in-Refused.is) (λ m. step_on m a.step r) r)
+    rw c.number.ensures (ap cells_left (refused_file a.model.now c.in-Err.refusal (sym c.check.ensures ∙ c.in-Err.is) (λ m. step_on m a.step r) r))

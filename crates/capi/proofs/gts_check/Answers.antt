@@ -8,64 +8,64 @@ pub returns-then-sizes-lt-SIZE_CELLS : goal.returns-then-sizes-lt-SIZE_CELLS
 returns-then-sizes-lt-SIZE_CELLS c =
     let start = c.args in
     let called = c.check in
-    check_short start.model.now start.sizes.now called.result called.ensures c.in-Accepted.found c.in-Accepted.is c.if-sizes-lt-SIZE_CELLS.true
+    check_short start.model.now start.sizes.now called.result called.ensures c.in-Ok.found c.in-Ok.is c.if-sizes-lt-SIZE_CELLS.true
 
 pub overflow_cast-sizes : goal.overflow_cast-sizes
 overflow_cast-sizes c =
     let m = c.args.model.now in
     let called = c.check in
-    record { fits = omega (arith, (sizes_fit m c.shared_slice_known-1.given called.result c.in-Accepted.found c.in-Accepted.is called.ensures).states) }
+    record { fits = omega (arith, (sizes_fit m c.shared_slice_known-1.given called.result c.in-Ok.found c.in-Ok.is called.ensures).states) }
 
-pub overflow_cast-sizes-in-Accepted : goal.overflow_cast-sizes-in-Accepted
-overflow_cast-sizes-in-Accepted c =
+pub overflow_cast-sizes-in-Ok : goal.overflow_cast-sizes-in-Ok
+overflow_cast-sizes-in-Ok c =
     let m = c.args.model.now in
     let called = c.check in
-    record { fits = omega (arith, (sizes_fit m c.shared_slice_known-1.given called.result c.in-Accepted.found c.in-Accepted.is called.ensures).flows) }
+    record { fits = omega (arith, (sizes_fit m c.shared_slice_known-1.given called.result c.in-Ok.found c.in-Ok.is called.ensures).flows) }
 
 pub bounds-sizes-1 : goal.bounds-sizes-1
 bounds-sizes-1 c =
     let start = c.args in
-    let z = c.in-Accepted.found in
+    let z = c.in-Ok.found in
     omega (arith, c.if-sizes-lt-SIZE_CELLS.false, length-set start.sizes.now 0 z.states)
 
-pub overflow_cast-sizes-in-Accepted-2 : goal.overflow_cast-sizes-in-Accepted-2
-overflow_cast-sizes-in-Accepted-2 c =
+pub overflow_cast-sizes-in-Ok-2 : goal.overflow_cast-sizes-in-Ok-2
+overflow_cast-sizes-in-Ok-2 c =
     let m = c.args.model.now in
     let called = c.check in
-    record { fits = omega (arith, (sizes_fit m c.shared_slice_known-1.given called.result c.in-Accepted.found c.in-Accepted.is called.ensures).events) }
+    record { fits = omega (arith, (sizes_fit m c.shared_slice_known-1.given called.result c.in-Ok.found c.in-Ok.is called.ensures).events) }
 
 pub bounds-sizes-2 : goal.bounds-sizes-2
 bounds-sizes-2 c =
     let start = c.args in
-    let z = c.in-Accepted.found in
+    let z = c.in-Ok.found in
     omega (arith, c.if-sizes-lt-SIZE_CELLS.false, length-set start.sizes.now 0 z.states, length-set (set start.sizes.now 0 z.states) 1 z.flows)
 
-pub overflow_cast-sizes-in-Accepted-3 : goal.overflow_cast-sizes-in-Accepted-3
-overflow_cast-sizes-in-Accepted-3 c =
+pub overflow_cast-sizes-in-Ok-3 : goal.overflow_cast-sizes-in-Ok-3
+overflow_cast-sizes-in-Ok-3 c =
     let m = c.args.model.now in
     let called = c.check in
-    record { fits = omega (arith, (sizes_fit m c.shared_slice_known-1.given called.result c.in-Accepted.found c.in-Accepted.is called.ensures).transitions) }
+    record { fits = omega (arith, (sizes_fit m c.shared_slice_known-1.given called.result c.in-Ok.found c.in-Ok.is called.ensures).transitions) }
 
 pub bounds-sizes-3 : goal.bounds-sizes-3
 bounds-sizes-3 c =
     let start = c.args in
-    let z = c.in-Accepted.found in
+    let z = c.in-Ok.found in
     omega (arith, c.if-sizes-lt-SIZE_CELLS.false, length-set start.sizes.now 0 z.states, length-set (set start.sizes.now 0 z.states) 1 z.flows, length-set (set (set start.sizes.now 0 z.states) 1 z.flows) 2 z.events)
 
-pub overflow_cast-sizes-in-Accepted-4 : goal.overflow_cast-sizes-in-Accepted-4
-overflow_cast-sizes-in-Accepted-4 c =
+pub overflow_cast-sizes-in-Ok-4 : goal.overflow_cast-sizes-in-Ok-4
+overflow_cast-sizes-in-Ok-4 c =
     let m = c.args.model.now in
     let called = c.check in
-    record { fits = omega (arith, (sizes_fit m c.shared_slice_known-1.given called.result c.in-Accepted.found c.in-Accepted.is called.ensures).nodes) }
+    record { fits = omega (arith, (sizes_fit m c.shared_slice_known-1.given called.result c.in-Ok.found c.in-Ok.is called.ensures).nodes) }
 
-pub returns-in-Refused : goal.returns-in-Refused
-returns-in-Refused c =
+pub returns-in-Err : goal.returns-in-Err
+returns-in-Err c =
     let start = c.args in
     let called = c.check in
-    check_refused start.model.now start.sizes.now called.result called.ensures c.in-Refused.number c.in-Refused.is
+    rw c.number.ensures (check_refused start.model.now start.sizes.now called.result called.ensures c.in-Err.refusal c.in-Err.is)
 
 pub returns-else-sizes-lt-SIZE_CELLS : goal.returns-else-sizes-lt-SIZE_CELLS
 returns-else-sizes-lt-SIZE_CELLS c =
     let start = c.args in
     let called = c.check in
-    check_written start.model.now start.sizes.now called.result called.ensures c.in-Accepted.found c.in-Accepted.is c.if-sizes-lt-SIZE_CELLS.false
+    check_written start.model.now start.sizes.now called.result called.ensures c.in-Ok.found c.in-Ok.is c.if-sizes-lt-SIZE_CELLS.false

@@ -1,13 +1,14 @@
 -- `gts_text` meets its contract: the code and the count of the answer.
-use Rattle.texts.specs.declared.Typed.TheVariants.{Refused, Nodes}
+use Rattle.std.proofs.Common.{Ok, Err}
 use Rattle.capi.specs.Codes.{code_of_text, nodes_or}
 use Rattle.capi.proofs.Results.{result_coded}
 use Rattle.capi.proofs.gts_text.Goals as goal
 
-pub returns-in-Refused : goal.returns-in-Refused
+pub returns-in-Err : goal.returns-in-Err
 unfolding code_of_text nodes_or
-returns-in-Refused c = result_coded code_of_text nodes_or c.args.count.now c.write_nodes.ensures (Refused c.in-Refused.number) c.in-Refused.is
+returns-in-Err c =
+    rw c.number.ensures (result_coded code_of_text nodes_or c.args.count.now c.write_nodes.ensures (Err c.in-Err.refusal) c.in-Err.is)
 
-pub returns-in-Nodes : goal.returns-in-Nodes
+pub returns-in-Ok : goal.returns-in-Ok
 unfolding code_of_text nodes_or
-returns-in-Nodes c = result_coded code_of_text nodes_or c.args.count.now c.write_nodes.ensures (Nodes c.in-Nodes.written) c.in-Nodes.is
+returns-in-Ok c = result_coded code_of_text nodes_or c.args.count.now c.write_nodes.ensures (Ok c.in-Ok.written) c.in-Ok.is

@@ -1,29 +1,25 @@
--- The line's length decides first, then its first two bytes, then its digits.
-use mathlib.Core.Path.{◌∙◌}
-use Rattle.commands.proofs.Commands.{one_byte, short_line, long_line, other_word, no_space, fire_line}
+-- The line's length and its first two bytes tell, then its digits.
+use Rattle.std.proofs.Common.{arith}
+use Rattle.commands.proofs.Commands.{undo_line, marks_line, other_letter, empty_line, other_word, no_space, fire_line}
 use Rattle.commands.proofs.command_of.Goals as goal
 
-pub returns-then-line-eq1 : goal.returns-then-line-eq1
-returns-then-line-eq1 c =
-    c.letter.ensures ∙ one_byte c.args.line.now c.if-line-eq1.true
+pub returns-in-u : goal.returns-in-u
+returns-in-u c = undo_line c.args.line.now (omega arith) (omega arith)
 
-pub returns-then-line-lt-SHORTEST_FIRE : goal.returns-then-line-lt-SHORTEST_FIRE
-returns-then-line-lt-SHORTEST_FIRE c =
-    short_line c.args.line.now c.if-line-eq1.false c.if-line-lt-SHORTEST_FIRE.true
+pub returns-in-m : goal.returns-in-m
+returns-in-m c = marks_line c.args.line.now (omega arith) (omega arith)
 
-pub returns-then-line-gt-LONGEST_FIRE : goal.returns-then-line-gt-LONGEST_FIRE
-returns-then-line-gt-LONGEST_FIRE c =
-    long_line c.args.line.now c.if-line-gt-LONGEST_FIRE.true
+pub returns-in-102 : goal.returns-in-102
+returns-in-102 c = fire_line c.args.line.now c.in-102.len_at_least (omega arith) (omega arith) c.fire_of.ensures
 
-pub returns-then-line-ne102 : goal.returns-then-line-ne102
-returns-then-line-ne102 c =
-    other_word c.args.line.now c.if-line-lt-SHORTEST_FIRE.false c.if-line-ne102.true
+pub returns-in_default : goal.returns-in_default
+returns-in_default c = empty_line c.args.line.now (omega arith)
 
-pub returns-then-line-ne32 : goal.returns-then-line-ne32
-returns-then-line-ne32 c =
-    no_space c.args.line.now c.if-line-lt-SHORTEST_FIRE.false c.if-line-ne32.true
+pub returns-in_default-2 : goal.returns-in_default-2
+returns-in_default-2 c = other_letter c.args.line.now (omega arith) (λ e. omega arith) (λ e. omega arith)
 
-pub returns : goal.returns
-returns c =
-    c.fire_of.ensures
-    ∙ fire_line c.args.line.now c.if-line-lt-SHORTEST_FIRE.false c.if-line-gt-LONGEST_FIRE.false c.if-line-ne102.false c.if-line-ne32.false
+pub returns-in_default-3 : goal.returns-in_default-3
+returns-in_default-3 c = no_space c.args.line.now c.in_default.len_at_least (λ e. omega arith)
+
+pub returns-in_default-4 : goal.returns-in_default-4
+returns-in_default-4 c = other_word c.args.line.now c.in_default.len_at_least (λ e. omega arith)

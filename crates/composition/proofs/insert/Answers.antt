@@ -1,22 +1,16 @@
-use mathlib.Core.Path.{◌∙◌}
-use lib.ListN.{length-set}
-use Rattle.composition.proofs.Inserting.{none_moved, one_moved, put_in}
+-- The new node, stored after the others, has moved before them.
+use mathlib.Core.Path.{ap, ◌∙◌}
+use mathlib.Core.List.{◌∷◌, ◌++◌}
+use lib.IntN.{pos}
+use lib.ListN.{take, drop}
+use Rattle.composition.specs.declared.Node.{Node}
+use Rattle.composition.proofs.Turning.{moved_first}
 use Rattle.composition.proofs.insert.Goals as goal
-
-pub loop-here-init : goal.loop-here-init
-loop-here-init c = none_moved c.args.nodes.now c.args.from c.args.end c.requires.1 c.requires.0
-
-pub loop-here-preserved : goal.loop-here-preserved
-loop-here-preserved c =
-    let l = c.loop-here in
-    one_moved c.args.nodes.now c.args.from c.args.end c.requires.1 l.nodes l.here c.loop-here-test.true l.invariant
-
-pub shape_of-nodes : goal.shape_of-nodes
-shape_of-nodes c =
-    let a = c.args in
-    length-set c.loop-here.nodes a.from a.cell ∙ c.loop-here.invariant.size
 
 pub returns : goal.returns
 returns c =
-    let l = c.loop-here in
-    put_in c.args.nodes.now c.args.from c.args.end c.requires.1 l.nodes l.here c.args.cell c.loop-here-test.false l.invariant
+    let a = c.args in
+    let rotated = c.rotate_right in
+    let node : Node = record { kind = c.code.result; parameter = pos 0 } in
+    let moved = moved_first a.nodes.now rotated.new.self node a.from a.end c.requires.0 c.requires.1 rotated.ensures.len rotated.ensures.after in
+    (moved.0 ∙ ap (λ k. take a.from a.nodes.now ++ (record { kind = k; parameter = pos 0 } ∷ drop a.from (take a.end a.nodes.now))) c.code.ensures, moved.1)

@@ -1,4 +1,3 @@
-use Prim.Native.Nat.{◌-◌}
 use native.Mathlib.Omega.{arith}
 use Rattle.decoding.proofs.StoredGuards.{guards_begin, guards_turn, guards_stop, guards_end}
 use Rattle.decoding.proofs.guard_places.Goals as goal
@@ -19,14 +18,11 @@ returns-then-nexts-at c =
 pub bounds-guards-i : goal.bounds-guards-i
 bounds-guards-i c = omega (arith, c.loop-i.invariant.same)
 
-pub overflow_cast-at : goal.overflow_cast-at
-overflow_cast-at c = omega (arith, c.shared_slice_known-1.given c.loop-i.at)
-
 pub loop-i-preserved : goal.loop-i-preserved
 loop-i-preserved c =
     let given = c.args in
     let turn = c.loop-i in
-    guards_turn given.nexts.now given.count given.from turn.i turn.at turn.guards given.guards.now turn.invariant c.loop-i-test.true
+    rw c.from-at.ensures (guards_turn given.nexts.now given.count given.from turn.i turn.at turn.guards given.guards.now turn.invariant c.loop-i-test.true)
 
 pub shape_of-guards : goal.shape_of-guards
 shape_of-guards c = c.loop-i.invariant.same

@@ -8,34 +8,27 @@ use Rattle.decoding.specs.NextPlaces.{children_by}
 use Rattle.decoding.proofs.Filling.{filled_turn, filled_none}
 use Rattle.decoding.proofs.next_places.Goals as goal
 
-pub rows-rows-requires : goal.rows-rows-requires
-rows-rows-requires c = tt
-
-pub loop-left-init : goal.loop-left-init
-loop-left-init c = (refl, omega arith, refl)
-
-pub children_of-children-requires : goal.children_of-children-requires
-children_of-children-requires c = c.rows-rows.ensures
+pub loop-at-init : goal.loop-at-init
+loop-at-init c = (refl, refl)
 
 pub overflow_cast-nexts : goal.overflow_cast-nexts
 overflow_cast-nexts c = omega (arith, c.follow-after.ensures.1)
 
-pub loop-left-preserved : goal.loop-left-preserved
-loop-left-preserved c =
+pub loop-at-preserved : goal.loop-at-preserved
+loop-at-preserved c =
     let given = c.args in
-    let turn = c.loop-left in
-    let p = get_or given.parameters.now (turn.left - 1) (pos 0) in (
+    let turn = c.loop-at in
+    let p = get_or given.parameters.now (turn.at - 1) (pos 0) in (
       sym
-          (filled_turn given.kinds.now given.parameters.now turn.left turn.nexts c.children_of-children.result c.follow-after.result c.loop-left-test.true
-          (c.children_of-children.ensures ∙ ap (children_by (get_or given.kinds.now (turn.left - 1) 0)) (read_back p c.children_of-arg-1.given))
+          (filled_turn given.kinds.now given.parameters.now turn.at turn.nexts c.children_of-children.result c.follow-after.result c.loop-at-test.true
+          (c.children_of-children.ensures ∙ ap (children_by (get_or given.kinds.now (turn.at - 1) 0)) (read_back p c.children_of-arg-1.given))
           c.follow-after.ensures.0)
           ∙ turn.invariant.0,
-      omega arith,
-      length-set turn.nexts (turn.left - 1) c.follow-after.result ∙ turn.invariant.2,
+      length-set turn.nexts (turn.at - 1) c.follow-after.result ∙ turn.invariant.1,
     )
 
 pub shape_of-nexts : goal.shape_of-nexts
-shape_of-nexts c = c.loop-left.invariant.2
+shape_of-nexts c = c.loop-at.invariant.1
 
 pub returns : goal.returns
-returns c = sym (filled_none _ _ _ _ c.loop-left-test.false) ∙ c.loop-left.invariant.0
+returns c = sym (filled_none _ _ _ _ c.loop-at-test.false) ∙ c.loop-at.invariant.0

@@ -1,5 +1,4 @@
 -- `read_variables` meets its contract: the variables that are left stand from the present place on.
-use Prim.Native.Nat.{◌-◌}
 use Rattle.variables.specs.Rows.{variable_row}
 use Rattle.decoding.proofs.StoredVariables.{VariablesStored}
 use Rattle.decoding.proofs.read_variables.Given as goal
@@ -7,6 +6,3 @@ use Rattle.decoding.proofs.read_variables.Given as goal
 abbrev pub invariant-loop-i : goal.invariant-loop-i
 invariant-loop-i l =
     VariablesStored variable_row l.kinds l.parameters l.count l.i l.at l.variables l.initial.variables
-
-abbrev pub decreases-loop-i : goal.decreases-loop-i
-decreases-loop-i l = l.count - l.i

@@ -1,16 +1,13 @@
 -- `sorts_in` meets its contract: the variables that are left stand from the present place on, whatever the parameters.
 use mathlib.Core.List.{List}
-use Prim.Native.Nat.{ℕ, ◌-◌}
 use lib.IntN.{ℤ}
+use Rattle.kinds.specs.declared.Sort.{Sort}
 use Rattle.model.specs.Trees.{Variable}
 use Rattle.decoding.proofs.StoredVariables.{VariablesStored}
 use Rattle.decoding.proofs.sorts_in.Given as goal
 
-abbrev pub sort : Variable → ℕ
+abbrev pub sort : Variable → Sort
 sort v = v.sort
 
 abbrev pub invariant-loop-i : goal.invariant-loop-i
 invariant-loop-i l = (ps : List ℤ) → VariablesStored sort l.kinds ps l.count l.i l.at l.sorts l.initial.sorts
-
-abbrev pub decreases-loop-i : goal.decreases-loop-i
-decreases-loop-i l = l.count - l.i

@@ -2,39 +2,42 @@
 use mathlib.Core.Path.{◌≡◌, sym, ◌∙◌}
 use native.Mathlib.Omega.{arith}
 use Rattle.model.specs.declared.Sizes.{Sizes}
-use Rattle.model.specs.declared.Checked.TheVariants.{Accepted}
+use Rattle.std.specs.Prelude.{Ok}
 use Rattle.model.specs.Trees.{sorts_of}
 use Rattle.model.specs.Check.{answer_of, verdict}
 use Rattle.model.proofs.Encoding.{Fits}
+use Rattle.std.proofs.lemmas.Result.{err_from_is_err_and}
 use Rattle.decoding.proofs.Preparing.{answer_fits, sorts_asked}
 use Rattle.decoding.proofs.VariablesInUse.{kept, sorts_read}
 use Rattle.decoding.proofs.sorts_of.Goals as goal
 
 pub overflow_add-sizes : goal.overflow_add-sizes
 overflow_add-sizes c =
-    let sizes : Sizes = c.in-Accepted.sizes in
-    let answer : answer_of (verdict c.args.model.now) ≡ Accepted sizes = sym c.check.ensures ∙ c.in-Accepted.is in
+    let sizes : Sizes = c.in_ok-sizes.sizes in
+    let answer : answer_of (verdict c.args.model.now) ≡ Ok sizes = sym c.check.ensures ∙ c.in_ok-sizes.was in
     let fits : Fits sizes = answer_fits _ _ c.shared_slice_known-1.given answer in
     omega (arith, fits)
 
 pub sorts_in-requires : goal.sorts_in-requires
 sorts_in-requires c =
-    let sizes : Sizes = c.in-Accepted.sizes in
-    let answer : answer_of (verdict c.args.model.now) ≡ Accepted sizes = sym c.check.ensures ∙ c.in-Accepted.is in
+    let sizes : Sizes = c.in_ok-sizes.sizes in
+    let answer : answer_of (verdict c.args.model.now) ≡ Ok sizes = sym c.check.ensures ∙ c.in_ok-sizes.was in
     let fits : Fits sizes = answer_fits _ _ c.shared_slice_known-1.given answer in (
       sorts_asked _ sizes _ c.kinds_of-kinds.ensures answer,
       omega (arith, fits, c.sorts_in-arg-1.given.0.1),
     )
 
-pub returns-in-Refused : goal.returns-in-Refused
-returns-in-Refused c =
+pub returns-in_err-sizes : goal.returns-in_err-sizes
+returns-in_err-sizes c =
     let given = c.args in
-    kept sorts_of given.model.now given.sorts.now _ (sym c.check.ensures ∙ c.in-Refused.is)
+    let e = err_from_is_err_and c.from_residual.result c.from_residual.ensures.1 in
+    rw (e.1, e.2)
+    (kept sorts_of given.model.now given.sorts.now _ (sym c.check.ensures ∙ c.in_err-sizes.was))
 
-pub returns-in-Accepted : goal.returns-in-Accepted
-returns-in-Accepted c =
-    let sizes : Sizes = c.in-Accepted.sizes in
-    let answer : answer_of (verdict c.args.model.now) ≡ Accepted sizes = sym c.check.ensures ∙ c.in-Accepted.is in
+pub returns : goal.returns
+returns c =
+    let sizes : Sizes = c.in_ok-sizes.sizes in
+    let answer : answer_of (verdict c.args.model.now) ≡ Ok sizes = sym c.check.ensures ∙ c.in_ok-sizes.was in
     let given = c.args in
     sorts_read given.model.now given.sorts.now sizes _ c.sorts_in.new.sorts
     answer c.kinds_of-kinds.ensures c.sorts_in.ensures

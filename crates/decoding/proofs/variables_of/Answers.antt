@@ -2,24 +2,27 @@
 use mathlib.Core.Path.{sym, ◌∙◌}
 use native.Mathlib.Omega.{arith}
 use Rattle.variables.specs.Rows.{variable_rows}
+use Rattle.std.proofs.lemmas.Result.{err_from_is_err_and}
 use Rattle.decoding.proofs.Preparing.{answer_sizes, answer_fits}
 use Rattle.decoding.proofs.VariablesInUse.{kept, stored}
 use Rattle.decoding.proofs.variables_of.Goals as goal
 
 pub decode_variables-requires : goal.decode_variables-requires
 decode_variables-requires c =
-    let accepted = sym c.check.ensures ∙ c.in-Accepted.is in
+    let accepted = sym c.check.ensures ∙ c.in_ok-sizes.was in
     let few = (answer_sizes _ _ accepted).few in
     let f = answer_fits _ _ c.shared_slice_known-1.given accepted in
     (accepted, few, omega (arith, c.decode_variables-arg-1.given.0.1))
 
-pub returns-in-Refused : goal.returns-in-Refused
-returns-in-Refused c =
+pub returns-in_err-sizes : goal.returns-in_err-sizes
+returns-in_err-sizes c =
     let given = c.args in
-    kept variable_rows given.model.now given.variables.now _ (sym c.check.ensures ∙ c.in-Refused.is)
+    let e = err_from_is_err_and c.from_residual.result c.from_residual.ensures.1 in
+    rw (e.1, e.2)
+    (kept variable_rows given.model.now given.variables.now _ (sym c.check.ensures ∙ c.in_err-sizes.was))
 
-pub returns-in-Accepted : goal.returns-in-Accepted
-returns-in-Accepted c =
+pub returns : goal.returns
+returns c =
     let given = c.args in
-    stored variable_rows given.model.now given.variables.now _ c.in-Accepted.sizes (sym c.check.ensures ∙ c.in-Accepted.is)
+    stored variable_rows given.model.now given.variables.now _ c.in_ok-sizes.sizes (sym c.check.ensures ∙ c.in_ok-sizes.was)
     (λ t v. (c.decode_variables.ensures t v).2)

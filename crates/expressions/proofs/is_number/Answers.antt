@@ -1,9 +1,7 @@
--- A cell holds a number of 32 bits, by two tests.
-use Rattle.expressions.proofs.Cells.{number_below, number_not_below}
+-- A cell holds a number of 32 bits.
+use mathlib.Core.Path.{◌∙◌}
+use Rattle.expressions.proofs.Cells.{number_told}
 use Rattle.expressions.proofs.is_number.Goals as goal
 
-pub returns-then-cell-lt-LEAST : goal.returns-then-cell-lt-LEAST
-returns-then-cell-lt-LEAST c = number_below c.ranges.cell c.if-cell-lt-LEAST.true
-
 pub returns : goal.returns
-returns c = number_not_below c.ranges.cell c.if-cell-lt-LEAST.false
+returns c = c.is_ok.ensures.value ∙ number_told c.ranges.cell c.try_from.result c.try_from.ensures

@@ -1,5 +1,5 @@
 use mathlib.Core.Path.{refl, ◌∙◌}
-use Prim.Native.Nat.{◌+◌, ◌-◌}
+use Prim.Native.Nat.{◌+◌}
 use native.Mathlib.Omega.{arith}
 use lib.ListN.{length, length-set}
 use Rattle.waiting.specs.Index.{owner_in}
@@ -13,11 +13,8 @@ loop-here-init c =
 pub bounds-kinds-here : goal.bounds-kinds-here
 bounds-kinds-here c = c.loop-here-test.true
 
-pub latest-now-requires : goal.latest-now-requires
-latest-now-requires c = tt
-
 pub overflow_cast-links : goal.overflow_cast-links
-overflow_cast-links c = omega (arith, latest_within c.args.kinds.now c.args.assertion c.loop-here.here c.loop-here.owner (owner_in (length c.args.kinds.now) c.loop-here.links) c.loop-here.invariant.4 c.loop-here.invariant.2 c.latest-now.result c.latest-now.ensures.0 c.latest-now.ensures.1 c.latest-now.ensures.2, c.requires.1, c.loop-here-test.true)
+overflow_cast-links c = omega (arith, latest_within c.args.kinds.now c.args.assertion c.loop-here.here c.loop-here.owner (owner_in (length c.args.kinds.now) c.loop-here.links) c.loop-here.invariant.4 c.loop-here.invariant.2 c.latest-owner.result c.latest-owner.ensures.0 c.latest-owner.ensures.1 c.latest-owner.ensures.2, c.requires.1, c.loop-here-test.true)
 
 pub overflow_add-links : goal.overflow_add-links
 overflow_add-links c = omega (arith, c.requires.1, c.loop-here-test.true)
@@ -28,22 +25,16 @@ offset_bounds-links-nodes c = omega (arith, c.requires.1, c.loop-here-test.true)
 pub bounds-links-nodes : goal.bounds-links-nodes
 bounds-links-nodes c = omega (arith, c.loop-here.invariant.0, c.requires.0, c.loop-here-test.true)
 
-pub overflow_add-here : goal.overflow_add-here
-overflow_add-here c = omega (arith, c.requires.1, c.loop-here-test.true)
-
-pub loop-here-smaller : goal.loop-here-smaller
-loop-here-smaller c = omega (arith, c.loop-here-test.true)
-
 pub loop-here-preserved : goal.loop-here-preserved
 loop-here-preserved c =
     let n = length c.args.kinds.now in
     let l = c.loop-here in
-    let r = c.latest-now.result in (
+    let r = c.latest-owner.result in (
       length-set l.links (n + l.here) r ∙ l.invariant.0,
       omega (arith, c.loop-here-test.true),
-      omega (arith, latest_within c.args.kinds.now c.args.assertion c.loop-here.here c.loop-here.owner (owner_in (length c.args.kinds.now) c.loop-here.links) c.loop-here.invariant.4 c.loop-here.invariant.2 c.latest-now.result c.latest-now.ensures.0 c.latest-now.ensures.1 c.latest-now.ensures.2),
+      omega (arith, latest_within c.args.kinds.now c.args.assertion c.loop-here.here c.loop-here.owner (owner_in (length c.args.kinds.now) c.loop-here.links) c.loop-here.invariant.4 c.loop-here.invariant.2 c.latest-owner.result c.latest-owner.ensures.0 c.latest-owner.ensures.1 c.latest-owner.ensures.2),
       omega (arith, l.invariant.3),
-      owned_goes c.args.kinds.now c.args.assertion l.here l.owner (owner_in n l.links) l.invariant.4 l.invariant.2 r c.latest-now.ensures.0 c.latest-now.ensures.1 c.latest-now.ensures.2 _
+      owned_goes c.args.kinds.now c.args.assertion l.here l.owner (owner_in n l.links) l.invariant.4 l.invariant.2 r c.latest-owner.ensures.0 c.latest-owner.ensures.1 c.latest-owner.ensures.2 _
           (stored_here n l.here r l.links (omega (arith, l.invariant.0, c.requires.0, c.loop-here-test.true))) (stored_other n l.here r l.links),
       λ p h. mentions_stay n l.here r l.links p h ∙ l.invariant.5 p h,
     )

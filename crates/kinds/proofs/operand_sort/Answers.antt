@@ -1,21 +1,11 @@
--- The sort of operands, by three tests.
-use mathlib.Core.Path.{sym, ap}
-use borrow.Author.Tests.{le-leb, lt-leb, ne_eqb}
+-- By the kind that the byte stands for, or by none.
+use mathlib.Core.Path.{sym, ap, ◌∙◌}
 use Rattle.kinds.specs.Kinds.{operand_sort}
+use Rattle.kinds.proofs.Bytes.{operand_sort_at, no_operands}
 use Rattle.kinds.proofs.operand_sort.Goals as goal
 
-pub returns-then-kind-eq47 : goal.returns-then-kind-eq47
-unfolding operand_sort
-returns-then-kind-eq47 c = ap operand_sort (sym c.if-kind-eq47.true)
+pub returns-in-Ok : goal.returns-in-Ok
+returns-in-Ok c = c.operand_sort.ensures ∙ sym (operand_sort_at c.in-Ok.kind) ∙ ap operand_sort (c.in-Ok.ensures)
 
-pub returns-then-kind-lt35 : goal.returns-then-kind-lt35
-unfolding operand_sort
-returns-then-kind-lt35 c = rw (lt-leb 35 _ c.if-kind-lt35.true, ne_eqb _ 47 c.if-kind-eq47.false)
-
-pub returns-then-kind-gt37 : goal.returns-then-kind-gt37
-unfolding operand_sort
-returns-then-kind-gt37 c = rw (le-leb 35 _ c.if-kind-lt35.false, lt-leb _ 37 c.if-kind-gt37.true, ne_eqb _ 47 c.if-kind-eq47.false)
-
-pub returns : goal.returns
-unfolding operand_sort
-returns c = rw (le-leb 35 _ c.if-kind-lt35.false, le-leb _ 37 c.if-kind-gt37.false)
+pub returns-in-Err : goal.returns-in-Err
+returns-in-Err c = sym (no_operands c.args.kind (c.in-Err.ensures).1)

@@ -1,8 +1,9 @@
--- The three parts of a packed row.
+-- The table follows the rule at all 256 bytes.
 use mathlib.Core.Path.{refl}
-use Rattle.kinds.specs.Kinds.{row_in, unpacked}
+use Rattle.kinds.specs.Kinds.{place_of, children_of, result_of, row_of, column, table}
+use Rattle.kinds.proofs.Follows.{row_at}
 use Rattle.kinds.proofs.row_of.Goals as goal
 
 pub returns : goal.returns
-unfolding row_in unpacked
-returns c = refl
+unfolding table column row_of place_of children_of result_of
+returns c = row_at _ _ c.args.kind refl c.ranges.kind.fits

@@ -1,9 +1,8 @@
 use mathlib.Core.Path.{refl, sym, ◌∙◌}
-use Prim.Native.Nat.{◌-◌}
 use native.Mathlib.Omega.{arith}
 use lib.ListN.{length, take, length-take, length-set}
 use lib.Seq.{length-take-le}
-use Rattle.engine.proofs.Counts.{meaning, rows_count, guards_count, few_guards}
+use Rattle.engine.proofs.Counts.{meaning, rows_count, guards_count}
 use Rattle.marking.proofs.MarksWritten.{marks_before, marks_step, marks_all, guard_held, length_blank, blank_again}
 use Rattle.marking.proofs.refresh.Goals as goal
 
@@ -17,22 +16,13 @@ overwrite-requires c =
 
 pub loop-i-init : goal.loop-i-init
 loop-i-init c =
-    (λ d. marks_before (meaning d) (take (length c.args.variables.now) c.args.values.now) c.args.marks.now, omega arith, refl)
+    (λ d. marks_before (meaning d) (take (length c.args.variables.now) c.args.values.now) c.args.marks.now, refl)
 
 pub guard-guard-requires : goal.guard-guard-requires
 guard-guard-requires c = c.requires.loaded
 
-pub mark_of-requires : goal.mark_of-requires
-mark_of-requires c = tt
-
 pub bounds-marks-i : goal.bounds-marks-i
-bounds-marks-i c = omega (arith, c.loop-i-test.true, c.requires.variables_in_bounds.1, c.loop-i.invariant.2)
-
-pub overflow_add-i : goal.overflow_add-i
-overflow_add-i c = omega (arith, c.loop-i-test.true, few_guards c.requires.loaded)
-
-pub loop-i-smaller : goal.loop-i-smaller
-loop-i-smaller c = omega (arith, c.loop-i-test.true)
+bounds-marks-i c = omega (arith, c.loop-i-test.true, c.requires.variables_in_bounds.1, c.loop-i.invariant.1)
 
 pub loop-i-preserved : goal.loop-i-preserved
 loop-i-preserved c =
@@ -46,18 +36,8 @@ loop-i-preserved c =
           (guard_held d c.args.values.now c.requires.variables_in_bounds.0 _ _ written.ensures.0 written.ensures.1
           (written.auto.cells ∙ length_blank (length c.args.variables.now) c.args.cells.now c.requires.variables_in_bounds.2)
           loop.i guarded.result (guarded.ensures d) marked.result marked.ensures),
-      omega (arith, c.loop-i-test.true),
-      length-set loop.marks loop.i marked.result ∙ loop.invariant.2,
+      length-set loop.marks loop.i marked.result ∙ loop.invariant.1,
     )
-
-pub forget-requires : goal.forget-requires
-forget-requires c = tt
-
-pub shape_of-cells : goal.shape_of-cells
-shape_of-cells c = c.forget.auto.cells ∙ c.overwrite.auto.cells
-
-pub shape_of-marks : goal.shape_of-marks
-shape_of-marks c = c.loop-i.invariant.2
 
 pub returns : goal.returns
 returns c =
@@ -65,6 +45,6 @@ returns c =
     let loop = c.loop-i in (
       λ d.
           marks_all (meaning d) c.args.values.now c.args.marks.now (length c.args.variables.now) (rows_count d) loop.i
-          (omega (arith, guards_count d, c.loop-i-test.false, loop.invariant.1)) loop.marks (loop.invariant.0 d),
+          (omega (arith, guards_count d, c.loop-i-test.false)) loop.marks (loop.invariant.0 d),
       blank_again (length c.args.variables.now) c.args.cells.now c.requires.variables_in_bounds.2 written.new.cells _ written.auto.cells c.forget.ensures,
     )

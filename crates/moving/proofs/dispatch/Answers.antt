@@ -18,11 +18,11 @@ use Rattle.steps.proofs.Declarations.{loaded_declares}
 use Rattle.steps.proofs.StepTests.{step_refused, over_all, passed_enough, passed_room, passed_entries, dispatched}
 use Rattle.moving.proofs.dispatch.Goals as goal
 
-pub returns-in-Refused : goal.returns-in-Refused
+pub returns-in-Err : goal.returns-in-Err
 unfolding seen tested
-returns-in-Refused c =
+returns-in-Err c =
     let lent : Run = run c.args.values.now c.args.marks.now c.args.history.now c.args.n in
-    (λ d. step_refused (meaning d) lent c.args.step _ (sym (ap tested c.in-Refused.is) ∙ c.test.ensures (meaning d) (loaded_declares d)), c.requires.indexed.1, refl)
+    (λ d. rw c.number.ensures (step_refused (meaning d) lent c.args.step _ (sym (ap tested c.in-Err.is) ∙ c.test.ensures (meaning d) (loaded_declares d))), c.requires.indexed.1, refl)
 
 pub slice_bounds-store-end : goal.slice_bounds-store-end
 unfolding tested
@@ -30,7 +30,7 @@ slice_bounds-store-end c =
     let lent : Run = run c.args.values.now c.args.marks.now c.args.history.now c.args.n in
     let d = c.requires.loaded in
     let passed : (d : Loaded c.args.loaded c.args.kinds.now c.args.parameters.now c.args.variables.now c.args.nexts.now c.args.guards.now) → none ≡ refused_before (meaning d) c.args.step lent =
-    λ d. sym (ap tested c.in-Passed.is) ∙ c.test.ensures (meaning d) (loaded_declares d) in
+    λ d. sym (ap tested c.in_default.is) ∙ c.test.ensures (meaning d) (loaded_declares d) in
     omega (arith, rows_count d, passed_enough (meaning d) lent c.args.step (passed d))
 
 pub slice_bounds-store-end-2 : goal.slice_bounds-store-end-2
@@ -39,7 +39,7 @@ slice_bounds-store-end-2 c =
     let lent : Run = run c.args.values.now c.args.marks.now c.args.history.now c.args.n in
     let d = c.requires.loaded in
     let passed : (d : Loaded c.args.loaded c.args.kinds.now c.args.parameters.now c.args.variables.now c.args.nexts.now c.args.guards.now) → none ≡ refused_before (meaning d) c.args.step lent =
-    λ d. sym (ap tested c.in-Passed.is) ∙ c.test.ensures (meaning d) (loaded_declares d) in
+    λ d. sym (ap tested c.in_default.is) ∙ c.test.ensures (meaning d) (loaded_declares d) in
     let enough : length c.args.variables.now ≤ length c.args.values.now =
     omega (arith, rows_count d, passed_enough (meaning d) lent c.args.step (passed d)) in
     sym (length-take-le (length c.args.variables.now) c.args.values.now enough)
@@ -56,8 +56,8 @@ replay-firing-requires c =
     let lent : Run = run c.args.values.now c.args.marks.now c.args.history.now c.args.n in
     let d = c.requires.loaded in
     let passed : (d : Loaded c.args.loaded c.args.kinds.now c.args.parameters.now c.args.variables.now c.args.nexts.now c.args.guards.now) → none ≡ refused_before (meaning d) c.args.step lent =
-    λ d. sym (ap tested c.in-Passed.is) ∙ c.test.ensures (meaning d) (loaded_declares d) in
-    record { loaded = d; indexed = (c.requires.indexed.0, c.requires.indexed.1); n_value = passed_entries (meaning d) lent c.args.step (passed d) }
+    λ d. sym (ap tested c.in_default.is) ∙ c.test.ensures (meaning d) (loaded_declares d) in
+    record { loaded = d; indexed = (c.requires.indexed.0, c.requires.indexed.1); entries = passed_entries (meaning d) lent c.args.step (passed d) }
 
 pub conclude-requires : goal.conclude-requires
 unfolding tested
@@ -65,7 +65,7 @@ conclude-requires c =
     let lent : Run = run c.args.values.now c.args.marks.now c.args.history.now c.args.n in
     let d = c.requires.loaded in
     let passed : (d : Loaded c.args.loaded c.args.kinds.now c.args.parameters.now c.args.variables.now c.args.nexts.now c.args.guards.now) → none ≡ refused_before (meaning d) c.args.step lent =
-    λ d. sym (ap tested c.in-Passed.is) ∙ c.test.ensures (meaning d) (loaded_declares d) in
+    λ d. sym (ap tested c.in_default.is) ∙ c.test.ensures (meaning d) (loaded_declares d) in
     let enough : length c.args.variables.now ≤ length c.args.values.now =
     omega (arith, rows_count d, passed_enough (meaning d) lent c.args.step (passed d)) in
     let room : length c.args.guards.now ≤ length c.args.marks.now =
@@ -80,7 +80,7 @@ returns c =
     let lent : Run = run c.args.values.now c.args.marks.now c.args.history.now c.args.n in
     let d = c.requires.loaded in
     let passed : (d : Loaded c.args.loaded c.args.kinds.now c.args.parameters.now c.args.variables.now c.args.nexts.now c.args.guards.now) → none ≡ refused_before (meaning d) c.args.step lent =
-    λ d. sym (ap tested c.in-Passed.is) ∙ c.test.ensures (meaning d) (loaded_declares d) in
+    λ d. sym (ap tested c.in_default.is) ∙ c.test.ensures (meaning d) (loaded_declares d) in
     let enough : length c.args.variables.now ≤ length c.args.values.now =
     omega (arith, rows_count d, passed_enough (meaning d) lent c.args.step (passed d)) in
     let copy-length : length c.args.copy.now ≡ length c.args.variables.now =
@@ -99,5 +99,5 @@ returns c =
         zeros = moves.ensures.1.zeros;
         valuation = record { nothing_known = concluded.ensures.2 ∙ moves.ensures.1.valuation.nothing_known; gathering = moves.ensures.1.valuation.gathering };
       },
-      still_blank (pos 0) (length c.args.variables.now) c.args.copy.now c.requires.indexed.2 moves.new.values (moves.auto.values ∙ stored.auto.to) c.clear.ensures,
+      still_blank (pos 0) (length c.args.variables.now) c.args.copy.now c.requires.indexed.2 moves.new.values (moves.auto.values ∙ stored.auto.to) (c.fill.ensures.after (λ _ e. e)),
     )

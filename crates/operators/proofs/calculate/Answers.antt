@@ -1,4 +1,5 @@
 -- Each operator is calculated by the function of its name.
+use Rattle.std.proofs.Common.{⊎_elim}
 use mathlib.Core.Path.{◌≡◌, sym, ap, ◌∙◌}
 use lib.IntN.{ℤ}
 use mir.Syntax.{w32}
@@ -26,8 +27,9 @@ returns-in-Disjunction c =
 pub returns-in-Equality : goal.returns-in-Equality
 unfolding calculated
 returns-in-Equality c =
-    answers c.in-Equality.is c.ranges.x c.ranges.y
-    c.equal.ensures
+    ⊎_elim
+    (λ e. answers e c.ranges.x c.ranges.y c.equal.ensures)
+    (λ e. answers e c.ranges.x c.ranges.y c.equal.ensures) c.in-Equality.is
 
 pub returns-in-Less : goal.returns-in-Less
 unfolding calculated
@@ -70,9 +72,3 @@ unfolding calculated
 returns-in-Remainder c =
     answers c.in-Remainder.is c.ranges.x c.ranges.y
     c.remainder.ensures
-
-pub returns-in-Equivalence : goal.returns-in-Equivalence
-unfolding calculated
-returns-in-Equivalence c =
-    answers c.in-Equivalence.is c.ranges.x c.ranges.y
-    c.equal-in-Equivalence.ensures

@@ -1,51 +1,33 @@
 -- Each form of the two operands.
-use Rattle.operators.proofs.Operators.{unknown_unknown, unknown_failed, failed_unknown, failed_failed, unknown_value, failed_value, value_unknown, value_failed, value_value}
+use Rattle.std.proofs.Common.{arith, refl}
+use Rattle.operators.proofs.Operators.{unknown_other, failed_unknown, failed_failed, unknown_value, failed_value, value_unknown, value_failed, value_value}
 use Rattle.operators.proofs.operate.Goals as goal
 
-pub returns-in-Unknown-b : goal.returns-in-Unknown-b
-returns-in-Unknown-b c =
-    unknown_unknown c.args.op c.in-Unknown.is
-    c.in-Unknown-b.is
+pub returns-in-Value-Value : goal.returns-in-Value-Value
+returns-in-Value-Value c =
+    value_value c.args.op (omega arith) (omega arith) c.in-Value-Value.is-0 c.in-Value-Value.is-1 c.at_values.ensures
 
-pub returns-in-Failed-b : goal.returns-in-Failed-b
-returns-in-Failed-b c =
-    unknown_failed c.args.op c.in-Unknown.is
-    c.in-Failed-b.is
+pub returns-in-Value-Failed : goal.returns-in-Value-Failed
+returns-in-Value-Failed c =
+    value_failed c.args.op (omega arith) c.in-Value-Failed.is-0 c.in-Value-Failed.is-1 c.beside.ensures
 
-pub returns-in-Value-b : goal.returns-in-Value-b
-returns-in-Value-b c =
-    unknown_value c.args.op c.in-Value-b.known_told-1-own.given.0.1
-    c.in-Unknown.is c.in-Value-b.is c.beside.ensures
+pub returns-in-Failed-Value : goal.returns-in-Failed-Value
+returns-in-Failed-Value c =
+    failed_value c.args.op (omega arith) c.in-Failed-Value.is-0 c.in-Failed-Value.is-1 c.beside-in-Failed-Value.ensures
 
-pub returns-in-Unknown-b-2 : goal.returns-in-Unknown-b-2
-returns-in-Unknown-b-2 c =
-    failed_unknown c.args.op c.in-Failed.is
-    c.in-Unknown-b-2.is
+pub returns-in-Value-Unknown : goal.returns-in-Value-Unknown
+returns-in-Value-Unknown c =
+    value_unknown c.args.op (omega arith) c.in-Value-Unknown.is-0 c.in-Value-Unknown.is-1 c.beside-in-Value-Unknown.ensures
 
-pub returns-in-Failed-b-2 : goal.returns-in-Failed-b-2
-returns-in-Failed-b-2 c =
-    failed_failed c.args.op c.in-Failed.is
-    c.in-Failed-b-2.is
+pub returns-in-Unknown-Value : goal.returns-in-Unknown-Value
+returns-in-Unknown-Value c =
+    unknown_value c.args.op (omega arith) c.in-Unknown-Value.is-0 c.in-Unknown-Value.is-1 c.beside-in-Unknown-Value.ensures
 
-pub returns-in-Value-b-2 : goal.returns-in-Value-b-2
-returns-in-Value-b-2 c =
-    failed_value c.args.op c.in-Value-b-2.known_told-in-Failed-1-own.given.0.1
-    c.in-Failed.is c.in-Value-b-2.is c.beside-in-Value-b-2.ensures
+pub returns-in-Failed-Failed : goal.returns-in-Failed-Failed
+returns-in-Failed-Failed c = failed_failed c.args.op c.in-Failed-Failed.is-0 c.in-Failed-Failed.is-1
 
-pub returns-in-Unknown-b-3 : goal.returns-in-Unknown-b-3
-returns-in-Unknown-b-3 c =
-    value_unknown c.args.op
-    c.in-Value.known_told-in-Value-a-1-own.given.0.1 c.in-Value.is
-    c.in-Unknown-b-3.is c.beside-in-Unknown-b-3.ensures
+pub returns-in_default : goal.returns-in_default
+returns-in_default c = failed_unknown c.args.op c.in_default.is-0 c.in_default.is-1
 
-pub returns-in-Failed-b-3 : goal.returns-in-Failed-b-3
-returns-in-Failed-b-3 c =
-    value_failed c.args.op
-    c.in-Value.known_told-in-Value-a-1-own.given.0.1 c.in-Value.is
-    c.in-Failed-b-3.is c.beside-in-Failed-b-3.ensures
-
-pub returns-in-Value-b-3 : goal.returns-in-Value-b-3
-returns-in-Value-b-3 c =
-    value_value c.args.op
-    c.in-Value.known_told-in-Value-a-1-own.given.0.1 c.in-Value-b-3.known_told-in-Value-1-own.given.0.1
-    c.in-Value.is c.in-Value-b-3.is c.at_values.ensures
+pub returns-in_default-2 : goal.returns-in_default-2
+returns-in_default-2 c = unknown_other c.args.op c.args.b c.in_default.is-0 c.in_default.not-Value-1 refl

@@ -1,36 +1,32 @@
 -- Each form of the two branches.
+use Rattle.std.proofs.Common.{arith}
 use Rattle.evaluation.specs.Meaning.{agree, is_unknown}
-use Rattle.operators.proofs.Operators.{values_agree, values_differ}
+use Rattle.operators.proofs.Operators.{values_agree, values_differ, failed_undecided}
 use Rattle.operators.proofs.undecided.Goals as goal
 
 pub returns-then-x-y : goal.returns-then-x-y
 returns-then-x-y c =
-    values_agree c.args.otherwise c.in-Value.known_told-in-Value-a-1-own.given.0.1 c.in-Value-b-2.known_told-in-Value-1-own.given.0.1 c.in-Value.is c.in-Value-b-2.is c.if-x-y.true
+    values_agree c.args.otherwise (omega arith) (omega arith) c.in-Value-Value.is-0 c.in-Value-Value.is-1 c.if-x-y.true
 
-pub returns-in-Unknown : goal.returns-in-Unknown
+pub returns-in-Unknown-default : goal.returns-in-Unknown-default
 unfolding agree is_unknown
-returns-in-Unknown c = rw c.in-Unknown.is
+returns-in-Unknown-default c = rw c.in-Unknown-default.is-0
 
-pub returns-in-Unknown-b : goal.returns-in-Unknown-b
+pub returns-in-Unknown-default-2 : goal.returns-in-Unknown-default-2
 unfolding agree is_unknown
-returns-in-Unknown-b c = rw (c.in-Failed.is, c.in-Unknown-b.is)
+returns-in-Unknown-default-2 c = rw (c.in-Unknown-default.is-0, c.in-Unknown-default.is-1)
 
-pub returns-in-Failed-b : goal.returns-in-Failed-b
+pub returns-in-Unknown-default-3 : goal.returns-in-Unknown-default-3
 unfolding agree is_unknown
-returns-in-Failed-b c = rw (c.in-Failed.is, c.in-Failed-b.is)
-
-pub returns-in-Value-b : goal.returns-in-Value-b
-unfolding agree is_unknown
-returns-in-Value-b c = rw (c.in-Failed.is, c.in-Value-b.is)
-
-pub returns-in-Unknown-b-2 : goal.returns-in-Unknown-b-2
-unfolding agree is_unknown
-returns-in-Unknown-b-2 c = rw (c.in-Value.is, c.in-Unknown-b-2.is)
-
-pub returns-in-Failed-b-2 : goal.returns-in-Failed-b-2
-unfolding agree is_unknown
-returns-in-Failed-b-2 c = rw (c.in-Value.is, c.in-Failed-b-2.is)
+returns-in-Unknown-default-3 c = rw (c.in-Unknown-default.is-0, c.in-Unknown-default.is-1)
 
 pub returns-else-x-y : goal.returns-else-x-y
 returns-else-x-y c =
-    values_differ c.args.otherwise c.in-Value.known_told-in-Value-a-1-own.given.0.1 c.in-Value-b-2.known_told-in-Value-1-own.given.0.1 c.in-Value.is c.in-Value-b-2.is c.if-x-y.false
+    values_differ c.args.otherwise (omega arith) (omega arith) c.in-Value-Value.is-0 c.in-Value-Value.is-1 c.if-x-y.false
+
+pub returns-in_default : goal.returns-in_default
+unfolding agree is_unknown
+returns-in_default c = rw (c.in_default.is-0, c.in_default.is-1)
+
+pub returns-in_default-2 : goal.returns-in_default-2
+returns-in_default-2 c = failed_undecided c.args.otherwise c.args.b c.in_default.is-0 c.in_default.not-Unknown-1

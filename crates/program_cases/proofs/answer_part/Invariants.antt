@@ -1,4 +1,4 @@
--- Each turn takes some bytes of the part.
+-- Each line takes a byte at least.
 use Rattle.std.proofs.Common.{◌-◌, length}
 use Rattle.program_cases.proofs.answer_part.Given as goal
 

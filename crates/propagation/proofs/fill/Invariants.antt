@@ -1,7 +1,5 @@
 -- Cells filled with first values. After i turns the first i cells are those of `filled`.
 use mathlib.Core.Path.{◌≡◌}
-use Prim.Native.Nat.{◌≤◌, ◌-◌}
-use lib.ListN.{length}
 use Rattle.variables.specs.Rows.{firsts_in}
 use Rattle.propagation.specs.Cells.{filled}
 use Rattle.propagation.proofs.Overwriting.{partly, NumbersBelow}
@@ -9,7 +7,4 @@ use Rattle.propagation.proofs.fill.Given as goal
 
 abbrev pub invariant-loop-i : goal.invariant-loop-i
 invariant-loop-i l =
-    (l.i ≤ length l.variables) × (l.cells ≡ partly (filled (firsts_in l.variables) l.initial.cells) l.initial.cells l.i) × NumbersBelow l.i (firsts_in l.variables)
-
-abbrev pub decreases-loop-i : goal.decreases-loop-i
-decreases-loop-i l = length l.variables - l.i
+    (l.cells ≡ partly (filled (firsts_in l.variables) l.initial.cells) l.initial.cells l.i) × NumbersBelow l.i (firsts_in l.variables)

@@ -1,13 +1,8 @@
 -- Values over cells. After i turns the first i cells are the values, each a number of 32 bits.
 use mathlib.Core.Path.{◌≡◌}
-use Prim.Native.Nat.{◌≤◌, ◌-◌}
-use lib.ListN.{length}
 use Rattle.results.specs.Results.{over}
 use Rattle.propagation.proofs.Overwriting.{partly, NumbersBelow}
 use Rattle.propagation.proofs.overwrite.Given as goal
 
 abbrev pub invariant-loop-i : goal.invariant-loop-i
-invariant-loop-i l = (l.i ≤ length l.values) × (l.cells ≡ partly (over l.values l.initial.cells) l.initial.cells l.i) × NumbersBelow l.i l.values
-
-abbrev pub decreases-loop-i : goal.decreases-loop-i
-decreases-loop-i l = length l.values - l.i
+invariant-loop-i l = (l.cells ≡ partly (over l.values l.initial.cells) l.initial.cells l.i) × NumbersBelow l.i l.values

@@ -1,48 +1,44 @@
 -- One node, by its kind.
 use native.Mathlib.Omega.{arith}
+use Rattle.std.proofs.Common.{rules}
 use Rattle.variables.specs.Rows.{lows_in, highs_in}
 use Rattle.expressions.specs.Cells.{valuation_of}
 use Rattle.interpreter.proofs.Due.{instruction_within}
-use Rattle.reading.specs.Readings.{held}
+use Rattle.reading.specs.Readings.{held_in}
 use Rattle.reading.proofs.Walking.{assignment_stands, test_stands, of_assignment, of_test, of_count}
 use Rattle.reading.proofs.step.Goals as goal
 
-pub bounds-kinds-at : goal.bounds-kinds-at
-bounds-kinds-at c =
-    (instruction_within c.args.kinds.now c.args.parameters.now _ _ c.requires.0.stands).0
+pub bounds-tables-at : goal.bounds-tables-at
+bounds-tables-at c =
+    (instruction_within c.args.tables.now.kinds.now c.args.tables.now.parameters.now _ _ c.requires.0.stands).0
 
 pub assignment-requires : goal.assignment-requires
 assignment-requires c =
     let p = c.requires.0 in
-    (assignment_stands c.args.kinds.now c.args.parameters.now c.args.at p.instruction p.stands p.target_variables p.target_given c.if-kind-eq-ASSIGNMENT.true, omega (arith, instruction_within c.args.kinds.now c.args.parameters.now _ _ c.requires.0.stands, c.requires.1), c.requires.2, c.requires.3, c.requires.4)
-
-pub returns-then-kind-eq-ASSIGNMENT : goal.returns-then-kind-eq-ASSIGNMENT
-returns-then-kind-eq-ASSIGNMENT c =
-    let a = c.assignment.ensures in
-    (of_assignment c.args.kinds.now c.args.parameters.now (valuation_of c.args.cells.now) c.args.at c.args.round (lows_in c.args.variables.now) (highs_in c.args.variables.now) (held c.args.start.found c.args.given.now c.args.start.queued c.args.queue.now c.args.waits.now) c.if-kind-eq-ASSIGNMENT.true a.0, a.1, a.2)
+    let t = c.args.tables.now in
+    (assignment_stands t.kinds.now t.parameters.now c.args.at p.instruction p.stands p.target_variables p.target_given c.in-17.is, omega (arith, instruction_within t.kinds.now t.parameters.now _ _ p.stands, c.requires.1), c.requires.2, c.requires.3)
 
 pub test-requires : goal.test-requires
 test-requires c =
     let p = c.requires.0 in
-    (test_stands c.args.kinds.now c.args.parameters.now c.args.at c.args.nexts.now p.instruction p.stands p.places c.if-kind-eq-IF_THEN.true, omega (arith, instruction_within c.args.kinds.now c.args.parameters.now _ _ c.requires.0.stands, c.requires.1), c.requires.4)
+    let t = c.args.tables.now in
+    (test_stands t.kinds.now t.parameters.now c.args.at t.nexts.now p.instruction p.stands p.places c.in-18.is, omega (arith, instruction_within t.kinds.now t.parameters.now _ _ p.stands, c.requires.1), c.requires.3)
 
-pub returns-then-kind-eq-IF_THEN : goal.returns-then-kind-eq-IF_THEN
-returns-then-kind-eq-IF_THEN c =
-    let a = c.test.ensures in
-    (of_test c.args.kinds.now c.args.parameters.now (valuation_of c.args.cells.now) c.args.at c.args.round (lows_in c.args.variables.now) (highs_in c.args.variables.now) (held c.args.start.found c.args.given.now c.args.start.queued c.args.queue.now c.args.waits.now) c.if-kind-eq-IF_THEN.true (a.0 (lows_in c.args.variables.now) (highs_in c.args.variables.now) c.args.given.now c.args.queue.now), omega (arith, a.1, c.requires.3), a.2)
+pub bounds-tables-at-in_default : goal.bounds-tables-at-in_default
+bounds-tables-at-in_default c =
+    (instruction_within c.args.tables.now.kinds.now c.args.tables.now.parameters.now _ _ c.requires.0.stands).1
 
-pub overflow_add-result : goal.overflow_add-result
-overflow_add-result c =
-    omega (arith, instruction_within c.args.kinds.now c.args.parameters.now _ _ c.requires.0.stands)
+pub returns-in-17-clause-walked : goal.returns-in-17-clause-walked
+returns-in-17-clause-walked c =
+    let t = c.args.tables.now in
+    of_assignment t.kinds.now t.parameters.now (valuation_of c.args.cells.now) c.args.at c.args.round (lows_in t.variables.now) (highs_in t.variables.now) (held_in c.args.gathering.now) c.in-17.is c.assignment.ensures.walked
 
-pub offset_bounds-parameters-at : goal.offset_bounds-parameters-at
-offset_bounds-parameters-at c =
-    omega (arith, instruction_within c.args.kinds.now c.args.parameters.now _ _ c.requires.0.stands)
+pub returns-in-18-clause-walked : goal.returns-in-18-clause-walked
+returns-in-18-clause-walked c =
+    let t = c.args.tables.now in
+    of_test t.kinds.now t.parameters.now (valuation_of c.args.cells.now) c.args.at c.args.round (lows_in t.variables.now) (highs_in t.variables.now) (held_in c.args.gathering.now) c.in-18.is (c.test.ensures.walked (lows_in t.variables.now) (highs_in t.variables.now))
 
-pub bounds-parameters-at : goal.bounds-parameters-at
-bounds-parameters-at c =
-    (instruction_within c.args.kinds.now c.args.parameters.now _ _ c.requires.0.stands).1
-
-pub returns : goal.returns
-returns c =
-    (of_count c.args.kinds.now c.args.parameters.now (valuation_of c.args.cells.now) c.args.at c.args.round (lows_in c.args.variables.now) (highs_in c.args.variables.now) (held c.args.start.found c.args.given.now c.args.start.queued c.args.queue.now c.args.waits.now) c.if-kind-eq-ASSIGNMENT.false c.if-kind-eq-IF_THEN.false c.magnitude-arg-1.given c.magnitude.ensures, c.requires.3, c.requires.4)
+pub returns-in_default-clause-walked : goal.returns-in_default-clause-walked
+returns-in_default-clause-walked c =
+    let t = c.args.tables.now in
+    of_count t.kinds.now t.parameters.now (valuation_of c.args.cells.now) c.args.at c.args.round (lows_in t.variables.now) (highs_in t.variables.now) (held_in c.args.gathering.now) (search rules) (search rules) c.magnitude-arg-1.given c.magnitude.ensures

@@ -1,38 +1,37 @@
 -- An if-then: its mark, and its body, which is due or is skipped.
 use native.Mathlib.Omega.{arith}
 use mir.Syntax.{w32}
+use borrow.Enum.Refused.{opened}
 use Rattle.evaluation.proofs.Signed.{equal_bits, other_bits, one_fits}
 use Rattle.expressions.specs.Cells.{valuation_of}
+use Rattle.reading.specs.Readings.{held_in}
 use Rattle.reading.proofs.Walking.{condition_stands, body_within, tested_nothing, tested_false, tested_true}
-use borrow.Enum.Refused.{opened}
+use Rattle.reading.proofs.test.Goals.{in_default-via-in-Unknown-1, in_default-via-in-Value+else-value-eq1}
 use Rattle.reading.proofs.test.Goals as goal
 
-pub evaluate-r-requires : goal.evaluate-r-requires
-evaluate-r-requires c =
-    condition_stands c.args.kinds.now c.args.parameters.now c.args.nexts.now c.args.at c.requires.0
+pub evaluate-condition-requires : goal.evaluate-condition-requires
+evaluate-condition-requires c =
+    condition_stands c.args.tables.now.kinds.now c.args.tables.now.parameters.now c.args.tables.now.nexts.now c.args.at c.requires.0
 
-pub offset_bounds-nexts-body : goal.offset_bounds-nexts-body
-offset_bounds-nexts-body c =
-    omega (arith, body_within c.args.kinds.now c.args.parameters.now c.args.nexts.now c.args.at c.requires.0 (valuation_of c.args.cells.now) c.evaluate-r.ensures)
+pub returns-clause-walked : goal.returns-clause-walked
+returns-clause-walked c =
+    let t = c.args.tables.now in
+    λ lows highs. tested_true t.kinds.now t.parameters.now (valuation_of c.args.cells.now) lows highs c.args.at c.args.round (held_in c.args.gathering.now) c.evaluate-condition.ensures c.note.ensures.noted c.in-Value.is (equal_bits w32 (record { sfits = c.in-Value.value-1-given }) one_fits c.if-value-eq1.true)
 
-pub bounds-nexts-body : goal.bounds-nexts-body
-bounds-nexts-body c =
-    body_within c.args.kinds.now c.args.parameters.now c.args.nexts.now c.args.at c.requires.0 (valuation_of c.args.cells.now) c.evaluate-r.ensures
+pub offset_bounds-tables-body : goal.offset_bounds-tables-body
+offset_bounds-tables-body c =
+    let t = c.args.tables.now in
+    omega (arith, body_within t.kinds.now t.parameters.now t.nexts.now c.args.at c.requires.0 (valuation_of c.args.cells.now) c.evaluate-condition.ensures)
 
-pub overflow_cast-past : goal.overflow_cast-past
-overflow_cast-past c = omega (arith, c.shared_slice_known-3-1.given c.evaluate-r.result.next.at)
+pub bounds-tables-body : goal.bounds-tables-body
+bounds-tables-body c =
+    let t = c.args.tables.now in
+    body_within t.kinds.now t.parameters.now t.nexts.now c.args.at c.requires.0 (valuation_of c.args.cells.now) c.evaluate-condition.ensures
 
-pub returns-then-value-eq1 : goal.returns-then-value-eq1
-returns-then-value-eq1 c =
-    let m = c.note-progress.ensures in
-    (λ lows highs given queue. tested_true c.args.kinds.now c.args.parameters.now (valuation_of c.args.cells.now) c.args.at c.args.round c.args.start c.args.waits.now c.evaluate-r.ensures lows highs given queue c.in-Value.is (equal_bits w32 (record { sfits = c.in-Value.known_told-1-own.given.0.1 }) one_fits c.if-value-eq1.true) m, m.2, m.3)
-
-pub returns-else-value-eq1 : goal.returns-else-value-eq1
-returns-else-value-eq1 c =
-    let m = c.note-progress.ensures in
-    (λ lows highs given queue. tested_false c.args.kinds.now c.args.parameters.now (valuation_of c.args.cells.now) c.args.at c.args.round c.args.start c.args.waits.now c.evaluate-r.ensures lows highs given queue c.args.nexts.now c.requires.0.places c.in-Value.is (other_bits w32 (record { sfits = c.in-Value.known_told-1-own.given.0.1 }) one_fits c.if-value-eq1.false) m, m.2, m.3)
-
-pub returns-in_default : goal.returns-in_default
-returns-in_default c =
-    let m = c.note-progress.ensures in
-    (λ lows highs given queue. tested_nothing c.args.kinds.now c.args.parameters.now (valuation_of c.args.cells.now) c.args.at c.args.round c.args.start c.args.waits.now c.evaluate-r.ensures lows highs given queue c.args.nexts.now c.requires.0.places (opened c.in_default.in_default-own.keys2) m, m.2, m.3)
+pub returns-2-clause-walked : goal.returns-2-clause-walked
+returns-2-clause-walked c =
+    let t = c.args.tables.now in
+    elim c.in_default.branch [
+      | in_default-via-in-Unknown-1 w ↦ λ lows highs. tested_nothing t.kinds.now t.parameters.now (valuation_of c.args.cells.now) lows highs c.args.at c.args.round (held_in c.args.gathering.now) c.evaluate-condition.ensures c.note.ensures.noted t.nexts.now c.requires.0.places (opened w.in-Unknown-1.keys2)
+      | in_default-via-in-Value+else-value-eq1 w ↦ λ lows highs. tested_false t.kinds.now t.parameters.now (valuation_of c.args.cells.now) lows highs c.args.at c.args.round (held_in c.args.gathering.now) c.evaluate-condition.ensures c.note.ensures.noted t.nexts.now c.requires.0.places w.in-Value.is (other_bits w32 (record { sfits = w.in-Value.value-1-given }) one_fits w.if-value-eq1.false)
+    ]

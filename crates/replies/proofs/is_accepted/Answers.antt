@@ -1,14 +1,13 @@
 -- By the answer.
-use mathlib.Core.Path.{sym}
-use Rattle.steps.specs.Answers.{seen}
-use Rattle.replies.specs.Replies.{is_accepted}
-use Rattle.replies.proofs.Answering.{no_refusal}
+use Rattle.std.proofs.Common.{sym, ap, ◌∙◌}
+use mathlib.Core.Bool.{not}
 use borrow.Enum.Refused.{opened}
+use Rattle.replies.proofs.Answering.{refused_accepted, no_refusal}
+use Rattle.replies.proofs.is_accepted.Goals.{in-Refused, in_default}
 use Rattle.replies.proofs.is_accepted.Goals as goal
 
-pub returns-in-Refused : goal.returns-in-Refused
-unfolding is_accepted seen
-returns-in-Refused c = rw c.in-Refused.is
-
-pub returns-in_default : goal.returns-in_default
-returns-in_default c = sym (no_refusal c.args.answer (opened c.in_default.in_default-own.keys2))
+pub returns : goal.returns
+returns c = elim c.match-matches.branch [
+  | in-Refused w ↦ ap not w.matches-is ∙ sym (refused_accepted w.in-Refused.is)
+  | in_default w ↦ ap not w.matches-is ∙ sym (no_refusal c.args.answer (opened w.in_default.in_default-own.keys2))
+]

@@ -1,12 +1,7 @@
 -- `apply` meets its contract.
-use Prim.Native.Nat.{◌≤◌, ◌-◌}
+use lib.ListN.{length}
 use Rattle.rounds.specs.Rounds.{Pending}
 use Rattle.rounds.proofs.apply.Given as goal
 
-abbrev pub invariant-loop-k : goal.invariant-loop-k
-invariant-loop-k l =
-    Pending l.queue l.k l.queued l.cells l.given × (l.k ≤ l.queued)
-
-abbrev pub decreases-loop-k : goal.decreases-loop-k
-decreases-loop-k l =
-    l.queued - l.k
+abbrev pub invariant-loop-flow : goal.invariant-loop-flow
+invariant-loop-flow l = Pending l.flow-items l.flow-index (length l.flow-items) l.cells l.gathering.given.now

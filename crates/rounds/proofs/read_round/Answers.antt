@@ -2,21 +2,23 @@
 use mathlib.Core.Path.{sym, ap}
 use native.Mathlib.Omega.{arith}
 use lib.ListN.{length}
+use Rattle.interpreter.proofs.Nothing.{nothing_by_default}
 use Rattle.rounds.proofs.Propagating.{may_gather}
 use Rattle.rounds.proofs.Turning.{when_first, when_later, first_goes, later_goes, later_wakes}
 use Rattle.rounds.proofs.read_round.Goals as goal
 
 pub gather-requires : goal.gather-requires
 gather-requires c =
-    (may_gather c.requires.0.stands c.args.given.now c.requires.1.2, c.requires.1.0, c.requires.1.1, c.requires.1.4, c.requires.1.6)
+    (may_gather c.requires.0.stands c.args.gathering.now.given.now c.requires.1.2, c.requires.1.0, c.requires.1.1, (c.requires.1.4, c.requires.1.6))
 
-pub returns-then-round-eq1 : goal.returns-then-round-eq1
-returns-then-round-eq1 c =
-    let g = c.gather in
-    let n = c.nothing_found-found in (
-      λ start ready. first_goes c.requires.0.stands ready n.ensures c.requires.1.2 {given' = g.new.given} {queue' = g.new.queue} {waits' = g.new.waits} c.if-round-eq1.true g.ensures.0 g.auto.given g.ensures.1 g.ensures.2,
-      sym (when_first c.requires.0.stands c.requires.0.ready c.if-round-eq1.true).same,
-    )
+pub returns-then-round-eq1-clause-turn : goal.returns-then-round-eq1-clause-turn
+returns-then-round-eq1-clause-turn c =
+    let e = c.gather.ensures in
+    let g = c.gather.new.gathering in
+    λ start ready. first_goes c.requires.0.stands ready (nothing_by_default c.default-gathering.result c.default-gathering.ensures) c.requires.1.2 {given' = g.given.now} {queue' = g.queue.now} {waits' = g.waits.now} c.if-round-eq1.true e.read e.same.given_length e.whole.0 e.whole.1
+
+pub returns-then-round-eq1-clause-applied : goal.returns-then-round-eq1-clause-applied
+returns-then-round-eq1-clause-applied c = sym (when_first c.requires.0.stands c.requires.0.ready c.if-round-eq1.true).same
 
 pub apply-requires : goal.apply-requires
 apply-requires c =
@@ -27,12 +29,14 @@ pub wake_all-requires : goal.wake_all-requires
 wake_all-requires c =
     let t = (when_later c.requires.0.stands c.requires.0.ready c.if-round-eq1.false).turn in
     let y = c.apply in
-    (later_wakes c.requires.0.stands c.requires.0.ready c.if-round-eq1.false y.ensures c.nothing_found-found.ensures c.requires.1.0, (c.requires.1.0, c.requires.1.1, c.requires.1.2, ap length y.ensures, c.requires.1.4, c.requires.1.5, c.requires.1.6), c.requires.2, t.entries, t.ordered)
+    (later_wakes c.requires.0.stands c.requires.0.ready c.if-round-eq1.false y.ensures (nothing_by_default c.default-gathering.result c.default-gathering.ensures) c.requires.1.0, (c.requires.1.0, c.requires.1.1, c.requires.1.2, ap length y.ensures, c.requires.1.4, c.requires.1.5, c.requires.1.6), c.requires.2, t.entries, t.ordered)
 
-pub returns : goal.returns
-returns c =
+pub returns-clause-turn : goal.returns-clause-turn
+returns-clause-turn c =
     let y = c.apply in
-    let w = c.wake_all in (
-      λ start ready. later_goes c.requires.0.stands ready c.nothing_found-found.ensures c.requires.1.2 {given' = w.new.given} {queue' = w.new.queue} {waits' = w.new.waits} c.if-round-eq1.false y.ensures c.requires.1.0 w.ensures.0 w.ensures.1 w.auto.given,
-      y.ensures,
-    )
+    let w = c.wake_all in
+    let g = w.new.gathering in
+    λ start ready. later_goes c.requires.0.stands ready (nothing_by_default c.default-gathering.result c.default-gathering.ensures) c.requires.1.2 {given' = g.given.now} {queue' = g.queue.now} {waits' = g.waits.now} c.if-round-eq1.false y.ensures c.requires.1.0 w.ensures.still w.ensures.passed w.ensures.same.given_length
+
+pub returns-clause-applied : goal.returns-clause-applied
+returns-clause-applied c = c.apply.ensures

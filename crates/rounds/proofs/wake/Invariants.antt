@@ -1,17 +1,14 @@
 -- `wake` meets its contract.
-use mathlib.Core.Path.{◌≡◌}
 use Prim.Native.Nat.{◌-◌}
-use lib.ListN.{length}
-use Rattle.rounds.specs.Rounds.{StillWaking}
+use Rattle.reading.specs.Readings.{SameCells}
+use Rattle.rounds.specs.Lent.{StillWakingIn}
 use Rattle.rounds.proofs.Following.{Following}
 use Rattle.rounds.proofs.wake.Given as goal
 
 abbrev pub invariant-loop-mention : goal.invariant-loop-mention
 invariant-loop-mention l =
-    (length l.given ≡ length l.initial.given) × (length l.queue ≡ length l.initial.queue) × (length l.waits ≡ length l.initial.waits)
-    × StillWaking l.kinds l.parameters l.nexts l.variables l.assertion l.cells l.round l.initial.progress.found l.initial.given l.initial.progress.queued l.initial.queue l.initial.waits l.progress.found l.given l.progress.queued l.queue l.waits l.progress.pending
-    × Following l.kinds l.parameters l.assertion l.variable l.round l.waits l.mention
+    SameCells l.initial.gathering l.gathering × StillWakingIn l.tables l.cells l.round l.initial.gathering l.gathering
+    × Following l.tables.kinds.now l.tables.parameters.now l.tables.model.assertion l.variable l.round l.gathering.waits.now l.mention
 
 abbrev pub decreases-loop-mention : goal.decreases-loop-mention
-decreases-loop-mention l =
-    length l.kinds - l.mention
+decreases-loop-mention l = l.nodes - l.mention

@@ -1,5 +1,6 @@
 -- `perform` meets its contract: each call from what its function ensures.
 use mathlib.Core.Path.{ap}
+use Rattle.results.specs.Refusals.{number_of}
 use Rattle.standing.specs.Runs.{run, store}
 use Rattle.steps.specs.Answers.{seen}
 use Rattle.steps.specs.declared.Answer.TheVariants.{Refused, Sizes}
@@ -9,27 +10,27 @@ use Rattle.run.proofs.Reached.{calls_reached}
 use Rattle.run.proofs.Promised.{performed, checked}
 use Rattle.run.proofs.perform.Goals as goal
 
-pub returns-in-Refused : goal.returns-in-Refused
+pub returns-in-Err : goal.returns-in-Err
 unfolding seen seen_check
-returns-in-Refused c =
+returns-in-Err c =
     let start = c.args in
     let m = start.model.now in
     let bytes = c.shared_slice_known-1.given in
     let lent = store (run start.values.now start.marks.now start.history.now start.n.now) start.buffer.now in
     let called = c.check in
-    checked m bytes start.call lent called.result (Refused c.in-Refused.number) c.in-Check.is
-    called.ensures (ap seen_check c.in-Refused.is)
+    rw c.number.ensures (checked m bytes start.call lent called.result (Refused (number_of c.in-Err.refusal)) c.in-Check.is
+    called.ensures (ap seen_check c.in-Err.is))
 
-pub returns-in-Accepted : goal.returns-in-Accepted
+pub returns-in-Ok : goal.returns-in-Ok
 unfolding seen seen_check
-returns-in-Accepted c =
+returns-in-Ok c =
     let start = c.args in
     let m = start.model.now in
     let bytes = c.shared_slice_known-1.given in
     let lent = store (run start.values.now start.marks.now start.history.now start.n.now) start.buffer.now in
     let called = c.check in
-    checked m bytes start.call lent called.result (Sizes c.in-Accepted.sizes) c.in-Check.is
-    called.ensures (ap seen_check c.in-Accepted.is)
+    checked m bytes start.call lent called.result (Sizes c.in-Ok.sizes) c.in-Check.is
+    called.ensures (ap seen_check c.in-Ok.is)
 
 pub returns-in-Start : goal.returns-in-Start
 returns-in-Start c =

@@ -1,34 +1,30 @@
--- By the code among the words with a meaning of their own, then by the number.
+-- By the first byte.
 use mathlib.Core.Path.{sym, ◌∙◌}
-use Rattle.scanner.proofs.Meanings.{is_number, is_nothing, fixed_word, number_word, great_number, no_number}
+use Rattle.scanner.proofs.Meanings.{empty_meaning, variable_meaning, number_meaning, great_meaning, no_meaning, fixed_meaning}
 use Rattle.scanner.proofs.meaning.Goals as goal
 
-pub returns-then-code-ne-UNKNOWN : goal.returns-then-code-ne-UNKNOWN
-returns-then-code-ne-UNKNOWN c =
-    let a = c.args in fixed_word a.word.now a.next c.fixed_code-code.ensures c.if-code-ne-UNKNOWN.true
+pub returns-in_default : goal.returns-in_default
+returns-in_default c = empty_meaning c.args.word.now c.in_default.ensures.cases
 
-pub variable-requires : goal.variable-requires
-variable-requires c =
-    let a = c.args in
-    let none = sym c.fixed_code-code.ensures ∙ c.if-code-ne-UNKNOWN.false in
-    let v = c.in-Value.number in
-    (none, great_number a.word.now none v (is_number a.word.now c.numeral_of.ensures v c.in-Value.is) c.if-number-gt-GREATEST.true)
+pub returns-then-first-eq118 : goal.returns-then-first-eq118
+returns-then-first-eq118 c = variable_meaning c.in-Some.ensures.cases.0 c.if-first-eq118.true c.numeral.ensures c.map_or.ensures
 
-pub returns-then-number-gt-GREATEST : goal.returns-then-number-gt-GREATEST
-returns-then-number-gt-GREATEST c = c.variable.ensures
+pub returns-in-Some-numeral : goal.returns-in-Some-numeral
+returns-in-Some-numeral c =
+    number_meaning c.in-Some.ensures.cases.0 (sym c.is_ascii_digit.ensures.value ∙ c.if-is_ascii_digit.true)
+    c.numeral-then-is_ascii_digit.ensures c.in-Some-numeral.number c.in-Some-numeral.is c.if-number-le-GREATEST.true
 
-pub variable-requires-in-Nothing : goal.variable-requires-in-Nothing
-variable-requires-in-Nothing c =
-    let a = c.args in
-    let none = sym c.fixed_code-code.ensures ∙ c.if-code-ne-UNKNOWN.false in
-    (none, no_number a.word.now none (is_nothing a.word.now c.numeral_of.ensures c.in-Nothing.is))
+pub returns-in_default-numeral : goal.returns-in_default-numeral
+returns-in_default-numeral c =
+    great_meaning c.in-Some.ensures.cases.0 (sym c.is_ascii_digit.ensures.value ∙ c.if-is_ascii_digit.true)
+    c.numeral-then-is_ascii_digit.ensures c.in-Some-numeral.number c.in-Some-numeral.is c.if-number-le-GREATEST.false
 
-pub returns-else-number-gt-GREATEST : goal.returns-else-number-gt-GREATEST
-returns-else-number-gt-GREATEST c =
-    let a = c.args in
-    let none = sym c.fixed_code-code.ensures ∙ c.if-code-ne-UNKNOWN.false in
-    let v = c.in-Value.number in
-    number_word a.word.now none a.next v (is_number a.word.now c.numeral_of.ensures v c.in-Value.is) c.if-number-gt-GREATEST.false
+pub returns-in_default-numeral-2 : goal.returns-in_default-numeral-2
+returns-in_default-numeral-2 c =
+    no_meaning c.in-Some.ensures.cases.0 (sym c.is_ascii_digit.ensures.value ∙ c.if-is_ascii_digit.true)
+    c.numeral-then-is_ascii_digit.ensures c.in_default-numeral.is
 
-pub returns-in-Nothing : goal.returns-in-Nothing
-returns-in-Nothing c = c.variable-in-Nothing.ensures
+pub returns : goal.returns
+returns c =
+    fixed_meaning c.in-Some.ensures.cases.0 c.if-first-eq118.false (sym c.is_ascii_digit.ensures.value ∙ c.if-is_ascii_digit.false)
+    c.fixed_token.ensures c.unwrap_or.ensures

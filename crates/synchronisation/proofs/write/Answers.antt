@@ -12,8 +12,8 @@ overflow_add-length c = omega (arith, nodes_few c.requires c.args.out.now)
 pub returns-then-out-length : goal.returns-then-out-length
 returns-then-out-length c = λ e. slice_short e c.args.out.now c.check_transition.ensures c.if-out-length.true
 
-pub returns-in-Refused : goal.returns-in-Refused
-returns-in-Refused c = λ e. walk_refused e c.args.out.now c.check_transition.ensures c.in-Refused.is
+pub returns-in-Err : goal.returns-in-Err
+returns-in-Err c = λ e. walk_refused e c.args.out.now c.check_transition.ensures c.in-Err.is
 
 pub returns-else-out-length : goal.returns-else-out-length
-returns-else-out-length c = λ e. model_written e c.args.out.now c.check_transition.ensures c.in-Next.is c.if-out-length.false c.write_file.ensures
+returns-else-out-length c = λ e. model_written e c.args.out.now c.check_transition.ensures c.in-Ok.is c.if-out-length.false c.write_file.ensures

@@ -1,5 +1,4 @@
 use mathlib.Core.Path.{refl, ◌∙◌}
-use Prim.Native.Nat.{◌-◌}
 use native.Mathlib.Omega.{arith}
 use lib.ListN.{length-set}
 use Rattle.variables.specs.Rows.{firsts_in}
@@ -8,7 +7,7 @@ use Rattle.variables.proofs.Storing.{store_one, store_all}
 use Rattle.variables.proofs.first_values.Goals as goal
 
 pub loop-x-init : goal.loop-x-init
-loop-x-init c = (omega arith, refl, refl)
+loop-x-init c = (refl, refl)
 
 pub offset_bounds-values-x : goal.offset_bounds-values-x
 offset_bounds-values-x c = record { fits = omega (arith, c.well_formed) }
@@ -19,18 +18,17 @@ loop-x-preserved c =
     let old = c.args.values.now in
     let loop = c.loop-x in
     let read = c.first in (
-      omega (arith, c.loop-x-test.true),
-      length-set loop.values loop.x _ ∙ loop.invariant.1,
+      length-set loop.values loop.x _ ∙ loop.invariant.0,
       store_one (firsts_in rows) old (omega (arith, column_length 2 rows, c.requires)) loop.values loop.x
-          (omega (arith, column_length 2 rows, c.loop-x-test.true)) loop.invariant.2 read.result read.type_inv read.ensures,
+          (omega (arith, column_length 2 rows, c.loop-x-test.true)) loop.invariant.1 read.result read.type_inv read.ensures,
     )
 
 pub shape_of-values : goal.shape_of-values
-shape_of-values c = c.loop-x.invariant.1
+shape_of-values c = c.loop-x.invariant.0
 
 pub returns : goal.returns
 returns c =
     let rows = c.args.variables.now in
     let loop = c.loop-x in
     store_all (firsts_in rows) c.args.values.now loop.values loop.x
-    (omega (arith, column_length 2 rows, c.loop-x-test.false)) (omega (arith, column_length 2 rows, loop.invariant.0)) loop.invariant.2
+    (omega (arith, column_length 2 rows, c.loop-x-test.false)) (omega (arith, column_length 2 rows)) loop.invariant.1

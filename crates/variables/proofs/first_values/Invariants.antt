@@ -1,13 +1,9 @@
 -- The cells passed hold first values, and the others are as they were.
 use mathlib.Core.Path.{◌≡◌}
-use Prim.Native.Nat.{◌-◌, ◌≤◌}
 use lib.ListN.{length}
 use Rattle.variables.specs.Rows.{firsts_in}
 use Rattle.variables.proofs.Storing.{Stored}
 use Rattle.variables.proofs.first_values.Given as goal
 
 abbrev pub invariant-loop-x : goal.invariant-loop-x
-invariant-loop-x l = (l.x ≤ length l.variables) × (length l.values ≡ length l.initial.values) × Stored (firsts_in l.variables) l.initial.values l.values l.x
-
-abbrev pub decreases-loop-x : goal.decreases-loop-x
-decreases-loop-x l = length l.variables - l.x
+invariant-loop-x l = (length l.values ≡ length l.initial.values) × Stored (firsts_in l.variables) l.initial.values l.values l.x

@@ -2,7 +2,7 @@
 use mathlib.Core.Path.{sym}
 use native.Mathlib.Omega.{arith}
 use lib.Seq.{length-take-le}
-use Rattle.dialogue.proofs.Kept.{array_length, long_unknown}
+use Rattle.dialogue.proofs.Kept.{long_unknown}
 use Rattle.dialogue.proofs.Line.command.Goals as goal
 
 pub returns-then-length-gt-KEPT_BYTES : goal.returns-then-length-gt-KEPT_BYTES

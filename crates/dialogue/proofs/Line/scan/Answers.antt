@@ -1,7 +1,5 @@
-use Prim.Native.Nat.{◌-◌}
-use lib.ListN.{length}
 use Rattle.dialogue.specs.Cells.{kept_of}
-use Rattle.dialogue.proofs.Kept.{array_length, kept_short}
+use Rattle.dialogue.proofs.Kept.{kept_short}
 use Rattle.dialogue.proofs.Scanning.{scan_begins, scan_goes, feed_scanned, part_scanned}
 use Rattle.dialogue.proofs.Line.scan.Goals as goal
 

@@ -1,5 +1,5 @@
 -- From the seventh byte on nothing is kept.
-use Rattle.dialogue.proofs.Kept.{array_length, kept_whole, kept_longer}
+use Rattle.dialogue.proofs.Kept.{kept_whole, kept_longer}
 use native.Mathlib.Omega.{arith}
 use Rattle.dialogue.proofs.Line.with.Goals as goal
 

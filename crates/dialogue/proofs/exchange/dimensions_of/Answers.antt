@@ -2,7 +2,7 @@
 use mathlib.Core.Path.{◌≡◌, sym, ◌∙◌}
 use Prim.Native.Nat.{◌+◌, ◌≤◌}
 use native.Mathlib.Omega.{arith}
-use Rattle.model.specs.declared.Checked.TheVariants.{Accepted}
+use Rattle.std.proofs.Common.{Ok}
 use Rattle.model.specs.Sizes.{max_variables, max_transitions}
 use Rattle.model.specs.Check.{verdict, answer_of}
 use Rattle.dialogue.proofs.RunSizes.{refused_dimensions, known_dimensions, few_cells}
@@ -10,18 +10,18 @@ use Rattle.dialogue.proofs.exchange.dimensions_of.Goals as goal
 
 pub overflow_add-result : goal.overflow_add-result
 overflow_add-result c =
-    let accepts : answer_of (verdict c.args.model.now) ≡ Accepted c.in-Accepted.sizes = sym c.check.ensures ∙ c.in-Accepted.is in
-    let few : (c.in-Accepted.sizes.states + c.in-Accepted.sizes.flows ≤ max_variables) × (c.in-Accepted.sizes.transitions ≤ max_transitions) = few_cells c.in-Accepted.sizes c.args.model.now (λ i b. (c.shared_slice_known-1.given i).fits) accepts in
+    let accepts : answer_of (verdict c.args.model.now) ≡ Ok c.in-Ok.sizes = sym c.check.ensures ∙ c.in-Ok.is in
+    let few : (c.in-Ok.sizes.states + c.in-Ok.sizes.flows ≤ max_variables) × (c.in-Ok.sizes.transitions ≤ max_transitions) = few_cells c.in-Ok.sizes c.args.model.now (λ i b. (c.shared_slice_known-1.given i).fits) accepts in
     record { fits = omega (arith, few.0) }
 
-pub returns-in-Refused : goal.returns-in-Refused
-returns-in-Refused c = record {
-  value = refused_dimensions c.args.bytes (verdict c.args.model.now) (sym c.check.ensures ∙ c.in-Refused.is);
+pub returns-in-Err : goal.returns-in-Err
+returns-in-Err c = record {
+  value = refused_dimensions c.args.bytes (verdict c.args.model.now) (sym c.check.ensures ∙ c.in-Err.is);
   variables_le_max_variables = (omega arith, omega arith);
 }
 
-pub returns-in-Accepted : goal.returns-in-Accepted
-returns-in-Accepted c =
-    let accepts : answer_of (verdict c.args.model.now) ≡ Accepted c.in-Accepted.sizes = sym c.check.ensures ∙ c.in-Accepted.is in
-    let few : (c.in-Accepted.sizes.states + c.in-Accepted.sizes.flows ≤ max_variables) × (c.in-Accepted.sizes.transitions ≤ max_transitions) = few_cells c.in-Accepted.sizes c.args.model.now (λ i b. (c.shared_slice_known-1.given i).fits) accepts in
-    record { value = known_dimensions c.in-Accepted.sizes c.args.bytes (verdict c.args.model.now) accepts; variables_le_max_variables = few }
+pub returns-in-Ok : goal.returns-in-Ok
+returns-in-Ok c =
+    let accepts : answer_of (verdict c.args.model.now) ≡ Ok c.in-Ok.sizes = sym c.check.ensures ∙ c.in-Ok.is in
+    let few : (c.in-Ok.sizes.states + c.in-Ok.sizes.flows ≤ max_variables) × (c.in-Ok.sizes.transitions ≤ max_transitions) = few_cells c.in-Ok.sizes c.args.model.now (λ i b. (c.shared_slice_known-1.given i).fits) accepts in
+    record { value = known_dimensions c.in-Ok.sizes c.args.bytes (verdict c.args.model.now) accepts; variables_le_max_variables = few }

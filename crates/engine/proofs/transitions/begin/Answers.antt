@@ -1,4 +1,5 @@
 -- A start from given states: the assertion, and what it settles on is stored.
+use mathlib.Core.Path.{sym}
 use Prim.Native.Nat.{◌+◌}
 use native.Mathlib.Omega.{arith}
 use Rattle.engine.proofs.Guards.{few_variables}
@@ -38,42 +39,18 @@ pub store-requires : goal.store-requires
 store-requires c =
     states_fit c.args.model.sizes.states (c.args.model.sizes.states + c.args.model.sizes.flows) c.args.states.now c.args.values.now c.if-states-s.false (length_rows c.requires.0) (begin_stands c.requires.0 c.args.states.now c.args.values.now c.if-values-n.false c.if-states-s.false) c.if-values-n.false c.propagate.new.flows c.propagate.auto.flows
 
-pub shape_of-cells-in-Refused : goal.shape_of-cells-in-Refused
-shape_of-cells-in-Refused c =
-    c.propagate.auto.cells
+pub returns-in-Err : goal.returns-in-Err
+returns-in-Err c =
+    let s = c.propagate.ensures.same in
+    let given = c.given-1.given.1.1 (sym s.given) in
+    let queue = c.queue-1.given.1.1 (sym s.queue) in
+    let waits = c.waits-1.given.1.1 (sym s.waits) in
+    (λ d. begin_entered d c.args.states.now c.args.values.now c.if-values-n.false c.if-states-s.false _ _ (enter_refused c.args.model.sizes.states (c.args.model.sizes.states + c.args.model.sizes.flows) c.args.states.now c.args.values.now c.if-states-s.false (length_rows d) (begin_stands d c.args.states.now c.args.values.now c.if-values-n.false c.if-states-s.false) c.if-values-n.false c.propagate.result c.propagate.new.flows (c.propagate.ensures.settled (part_stands c.args.model.sizes.states (c.args.model.sizes.states + c.args.model.sizes.flows) c.args.states.now c.args.values.now c.if-states-s.false (length_rows d) (begin_stands d c.args.states.now c.args.values.now c.if-values-n.false c.if-states-s.false) c.if-values-n.false)) _ c.in-Err.is), rw (given, queue, waits) c.propagate.ensures.blank)
 
-pub shape_of-given-in-Refused : goal.shape_of-given-in-Refused
-shape_of-given-in-Refused c =
-    c.propagate.auto.given
-
-pub shape_of-queue-in-Refused : goal.shape_of-queue-in-Refused
-shape_of-queue-in-Refused c =
-    c.propagate.auto.queue
-
-pub shape_of-waits-in-Refused : goal.shape_of-waits-in-Refused
-shape_of-waits-in-Refused c =
-    c.propagate.auto.waits
-
-pub returns-in-Refused : goal.returns-in-Refused
-returns-in-Refused c =
-    (λ d. begin_entered d c.args.states.now c.args.values.now c.if-values-n.false c.if-states-s.false _ _ (enter_refused c.args.model.sizes.states (c.args.model.sizes.states + c.args.model.sizes.flows) c.args.states.now c.args.values.now c.if-states-s.false (length_rows d) (begin_stands d c.args.states.now c.args.values.now c.if-values-n.false c.if-states-s.false) c.if-values-n.false c.propagate.result c.propagate.new.flows (c.propagate.ensures.0 (part_stands c.args.model.sizes.states (c.args.model.sizes.states + c.args.model.sizes.flows) c.args.states.now c.args.values.now c.if-states-s.false (length_rows d) (begin_stands d c.args.states.now c.args.values.now c.if-values-n.false c.if-states-s.false) c.if-values-n.false)) _ c.in-Refused.is), c.propagate.ensures.2)
-
-pub shape_of-cells-in-Settled : goal.shape_of-cells-in-Settled
-shape_of-cells-in-Settled c =
-    c.propagate.auto.cells
-
-pub shape_of-given-in-Settled : goal.shape_of-given-in-Settled
-shape_of-given-in-Settled c =
-    c.propagate.auto.given
-
-pub shape_of-queue-in-Settled : goal.shape_of-queue-in-Settled
-shape_of-queue-in-Settled c =
-    c.propagate.auto.queue
-
-pub shape_of-waits-in-Settled : goal.shape_of-waits-in-Settled
-shape_of-waits-in-Settled c =
-    c.propagate.auto.waits
-
-pub returns-in-Settled : goal.returns-in-Settled
-returns-in-Settled c =
-    (λ d. begin_entered d c.args.states.now c.args.values.now c.if-values-n.false c.if-states-s.false _ _ (enter_settled c.args.model.sizes.states (c.args.model.sizes.states + c.args.model.sizes.flows) c.args.states.now c.args.values.now c.if-states-s.false (length_rows d) (begin_stands d c.args.states.now c.args.values.now c.if-values-n.false c.if-states-s.false) c.if-values-n.false c.propagate.result c.propagate.new.flows (c.propagate.ensures.0 (part_stands c.args.model.sizes.states (c.args.model.sizes.states + c.args.model.sizes.flows) c.args.states.now c.args.values.now c.if-states-s.false (length_rows d) (begin_stands d c.args.states.now c.args.values.now c.if-values-n.false c.if-states-s.false) c.if-values-n.false)) _ c.in-Settled.is _ c.store.ensures), c.propagate.ensures.2)
+pub returns-in-Ok : goal.returns-in-Ok
+returns-in-Ok c =
+    let s = c.propagate.ensures.same in
+    let given = c.given-1.given.1.1 (sym s.given) in
+    let queue = c.queue-1.given.1.1 (sym s.queue) in
+    let waits = c.waits-1.given.1.1 (sym s.waits) in
+    (λ d. begin_entered d c.args.states.now c.args.values.now c.if-values-n.false c.if-states-s.false _ _ (enter_settled c.args.model.sizes.states (c.args.model.sizes.states + c.args.model.sizes.flows) c.args.states.now c.args.values.now c.if-states-s.false (length_rows d) (begin_stands d c.args.states.now c.args.values.now c.if-values-n.false c.if-states-s.false) c.if-values-n.false c.propagate.result c.propagate.new.flows (c.propagate.ensures.settled (part_stands c.args.model.sizes.states (c.args.model.sizes.states + c.args.model.sizes.flows) c.args.states.now c.args.values.now c.if-states-s.false (length_rows d) (begin_stands d c.args.states.now c.args.values.now c.if-values-n.false c.if-states-s.false) c.if-values-n.false)) _ c.in-Ok.is _ c.store.ensures), rw (given, queue, waits) c.propagate.ensures.blank)

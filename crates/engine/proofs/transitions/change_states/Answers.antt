@@ -1,10 +1,11 @@
 -- Guard and action: the old states are stored, then changed.
 use native.Mathlib.Omega.{arith}
-use mathlib.Core.Path.{◌∙◌}
+use mathlib.Core.Path.{sym}
 use lib.ListN.{get_or}
+use Rattle.std.proofs.lemmas.Result.{err_from_is_err_and}
 use Rattle.engine.proofs.Counts.{few_guards}
 use Rattle.engine.proofs.Guards.{few_variables}
-use Rattle.engine.proofs.Changing.{over_by_room, over_by_guard, within, guard_within_lem, length_states, few_states, old_within, length_old, action_stands, length_joined, over_by_action, changed}
+use Rattle.engine.proofs.Changing.{over_by_room, over_by_guard, within, guard_within_lem, length_states, few_states, old_within, length_old, action_stands, over_by_action, changed}
 use Rattle.engine.proofs.transitions.change_states.Goals as goal
 
 pub overflow_add-n : goal.overflow_add-n
@@ -19,28 +20,26 @@ pub guard-evaluation-requires : goal.guard-evaluation-requires
 guard-evaluation-requires c =
     c.requires.0
 
-pub admit-stage-requires : goal.admit-stage-requires
-admit-stage-requires c = tt
-
-pub returns-in-Over : goal.returns-in-Over
-returns-in-Over c =
-    (λ d. over_by_guard d c.args.transition c.args.values.now c.args.states.now c.requires.2 c.if-values-n.false c.args.cells.now c.requires.1 c.guard-evaluation.result (c.guard-evaluation.ensures d) c.admit-stage.result c.admit-stage.ensures _ c.in-Over.is, c.requires.3)
+pub returns-in_err-admit : goal.returns-in_err-admit
+returns-in_err-admit c =
+    let p = err_from_is_err_and c.from_residual.result c.from_residual.ensures.1 in
+    rw (p.1, p.2) (λ d. over_by_guard d c.args.transition c.args.values.now c.args.states.now c.requires.2 c.if-values-n.false c.args.cells.now c.requires.1 c.guard-evaluation.result (c.guard-evaluation.ensures d) c.admit.result c.admit.ensures _ c.in_err-admit.was, c.requires.3)
 
 pub slice_bounds-store-end : goal.slice_bounds-store-end
 slice_bounds-store-end c =
-    length_states c.requires.0 c.args.transition c.args.values.now c.args.states.now c.requires.2 c.if-values-n.false c.args.cells.now c.requires.1 c.guard-evaluation.result (c.guard-evaluation.ensures c.requires.0) c.admit-stage.result c.admit-stage.ensures c.in_default.is
+    length_states c.requires.0 c.args.transition c.args.values.now c.args.states.now c.requires.2 c.if-values-n.false c.args.cells.now c.requires.1 c.guard-evaluation.result (c.guard-evaluation.ensures c.requires.0) c.admit.result c.admit.ensures c.in_ok-admit.was
 
 pub store-requires : goal.store-requires
 store-requires c =
-    few_states c.requires.0 c.args.transition c.args.values.now c.args.states.now c.requires.2 c.if-values-n.false c.args.cells.now c.requires.1 c.guard-evaluation.result (c.guard-evaluation.ensures c.requires.0) c.admit-stage.result c.admit-stage.ensures c.in_default.is
+    few_states c.requires.0 c.args.transition c.args.values.now c.args.states.now c.requires.2 c.if-values-n.false c.args.cells.now c.requires.1 c.guard-evaluation.result (c.guard-evaluation.ensures c.requires.0) c.admit.result c.admit.ensures c.in_ok-admit.was
 
 pub offset_bounds-guards-transition : goal.offset_bounds-guards-transition
 offset_bounds-guards-transition c =
-    omega (arith, within c.requires.0 c.args.transition c.args.values.now c.args.states.now c.requires.2 c.if-values-n.false c.args.cells.now c.requires.1 c.guard-evaluation.result (c.guard-evaluation.ensures c.requires.0) c.admit-stage.result c.admit-stage.ensures c.in_default.is, few_guards c.requires.0)
+    omega (arith, within c.requires.0 c.args.transition c.args.values.now c.args.states.now c.requires.2 c.if-values-n.false c.args.cells.now c.requires.1 c.guard-evaluation.result (c.guard-evaluation.ensures c.requires.0) c.admit.result c.admit.ensures c.in_ok-admit.was, few_guards c.requires.0)
 
 pub bounds-guards-transition : goal.bounds-guards-transition
 bounds-guards-transition c =
-    within c.requires.0 c.args.transition c.args.values.now c.args.states.now c.requires.2 c.if-values-n.false c.args.cells.now c.requires.1 c.guard-evaluation.result (c.guard-evaluation.ensures c.requires.0) c.admit-stage.result c.admit-stage.ensures c.in_default.is
+    within c.requires.0 c.args.transition c.args.values.now c.args.states.now c.requires.2 c.if-values-n.false c.args.cells.now c.requires.1 c.guard-evaluation.result (c.guard-evaluation.ensures c.requires.0) c.admit.result c.admit.ensures c.in_ok-admit.was
 
 pub overflow_cast-place : goal.overflow_cast-place
 overflow_cast-place c =
@@ -52,7 +51,7 @@ offset_bounds-nexts-place c =
 
 pub bounds-nexts-place : goal.bounds-nexts-place
 bounds-nexts-place c =
-    guard_within_lem c.requires.0 c.args.transition c.args.values.now c.args.states.now c.requires.2 c.if-values-n.false c.args.cells.now c.requires.1 c.guard-evaluation.result (c.guard-evaluation.ensures c.requires.0) c.admit-stage.result c.admit-stage.ensures c.in_default.is
+    guard_within_lem c.requires.0 c.args.transition c.args.values.now c.args.states.now c.requires.2 c.if-values-n.false c.args.cells.now c.requires.1 c.guard-evaluation.result (c.guard-evaluation.ensures c.requires.0) c.admit.result c.admit.ensures c.in_ok-admit.was
 
 pub overflow_cast-action : goal.overflow_cast-action
 overflow_cast-action c =
@@ -60,55 +59,28 @@ overflow_cast-action c =
 
 pub slice_bounds-act-end : goal.slice_bounds-act-end
 slice_bounds-act-end c =
-    old_within c.requires.0 c.args.transition c.args.values.now c.args.states.now c.requires.2 c.if-values-n.false c.args.cells.now c.requires.1 c.guard-evaluation.result (c.guard-evaluation.ensures c.requires.0) c.admit-stage.result c.admit-stage.ensures c.in_default.is c.store.new.to c.store.ensures
+    old_within c.requires.0 c.args.transition c.args.values.now c.args.states.now c.requires.2 c.if-values-n.false c.args.cells.now c.requires.1 c.guard-evaluation.result (c.guard-evaluation.ensures c.requires.0) c.admit.result c.admit.ensures c.in_ok-admit.was c.store.new.to c.store.ensures
 
 pub slice_bounds-act-end-2 : goal.slice_bounds-act-end-2
 slice_bounds-act-end-2 c =
-    length_old c.requires.0 c.args.transition c.args.values.now c.args.states.now c.requires.2 c.if-values-n.false c.args.cells.now c.requires.1 c.guard-evaluation.result (c.guard-evaluation.ensures c.requires.0) c.admit-stage.result c.admit-stage.ensures c.in_default.is c.store.new.to c.store.ensures
+    length_old c.requires.0 c.args.transition c.args.values.now c.args.states.now c.requires.2 c.if-values-n.false c.args.cells.now c.requires.1 c.guard-evaluation.result (c.guard-evaluation.ensures c.requires.0) c.admit.result c.admit.ensures c.in_ok-admit.was c.store.new.to c.store.ensures
 
 pub act-requires : goal.act-requires
 act-requires c =
-    ((action_stands c.requires.0 c.args.transition c.args.values.now c.args.states.now c.requires.2 c.if-values-n.false c.args.cells.now c.requires.1 c.guard-evaluation.result (c.guard-evaluation.ensures c.requires.0) c.admit-stage.result c.admit-stage.ensures c.in_default.is c.store.new.to c.store.ensures), c.requires.3)
+    ((action_stands c.requires.0 c.args.transition c.args.values.now c.args.states.now c.requires.2 c.if-values-n.false c.args.cells.now c.requires.1 c.guard-evaluation.result (c.guard-evaluation.ensures c.requires.0) c.admit.result c.admit.ensures c.in_ok-admit.was c.store.new.to c.store.ensures), c.requires.3)
 
-pub clear-requires : goal.clear-requires
-clear-requires c = tt
+pub returns-in-Ok : goal.returns-in-Ok
+returns-in-Ok c =
+    let s = c.act.ensures.same in
+    let given = c.given-1.given.1.1 (sym s.given) in
+    let queue = c.queue-1.given.1.1 (sym s.queue) in
+    let waits = c.waits-1.given.1.1 (sym s.waits) in
+    (λ d. changed d c.args.transition c.args.values.now c.args.states.now c.requires.2 c.if-values-n.false c.args.cells.now c.requires.1 c.guard-evaluation.result (c.guard-evaluation.ensures d) c.admit.result c.admit.ensures c.in_ok-admit.was c.store.new.to c.store.ensures c.act.new.states c.act.auto.states c.act.result (c.act.ensures.acted (action_stands d c.args.transition c.args.values.now c.args.states.now c.requires.2 c.if-values-n.false c.args.cells.now c.requires.1 c.guard-evaluation.result (c.guard-evaluation.ensures d) c.admit.result c.admit.ensures c.in_ok-admit.was c.store.new.to c.store.ensures)) c.in-Ok.is, rw (given, queue, waits) c.act.ensures.blank)
 
-pub shape_of-given-in-Clear : goal.shape_of-given-in-Clear
-shape_of-given-in-Clear c =
-    c.act.auto.given
-
-pub shape_of-queue-in-Clear : goal.shape_of-queue-in-Clear
-shape_of-queue-in-Clear c =
-    c.act.auto.queue
-
-pub shape_of-waits-in-Clear : goal.shape_of-waits-in-Clear
-shape_of-waits-in-Clear c =
-    c.act.auto.waits
-
-pub shape_of-states-in-Clear : goal.shape_of-states-in-Clear
-shape_of-states-in-Clear c =
-    length_joined c.requires.0 c.args.transition c.args.values.now c.args.states.now c.requires.2 c.if-values-n.false c.args.cells.now c.requires.1 c.guard-evaluation.result (c.guard-evaluation.ensures c.requires.0) c.admit-stage.result c.admit-stage.ensures c.in_default.is c.store.new.to c.store.ensures c.act.new.states c.act.auto.states c.act.result (c.act.ensures.0 (action_stands c.requires.0 c.args.transition c.args.values.now c.args.states.now c.requires.2 c.if-values-n.false c.args.cells.now c.requires.1 c.guard-evaluation.result (c.guard-evaluation.ensures c.requires.0) c.admit-stage.result c.admit-stage.ensures c.in_default.is c.store.new.to c.store.ensures))
-
-pub returns-in-Clear : goal.returns-in-Clear
-returns-in-Clear c =
-    (λ d. changed d c.args.transition c.args.values.now c.args.states.now c.requires.2 c.if-values-n.false c.args.cells.now c.requires.1 c.guard-evaluation.result (c.guard-evaluation.ensures d) c.admit-stage.result c.admit-stage.ensures c.in_default.is c.store.new.to c.store.ensures c.act.new.states c.act.auto.states c.act.result (c.act.ensures.0 (action_stands d c.args.transition c.args.values.now c.args.states.now c.requires.2 c.if-values-n.false c.args.cells.now c.requires.1 c.guard-evaluation.result (c.guard-evaluation.ensures d) c.admit-stage.result c.admit-stage.ensures c.in_default.is c.store.new.to c.store.ensures)) c.in-Clear.is, c.act.ensures.1)
-
-pub shape_of-given-in-Faulty : goal.shape_of-given-in-Faulty
-shape_of-given-in-Faulty c =
-    c.act.auto.given
-
-pub shape_of-queue-in-Faulty : goal.shape_of-queue-in-Faulty
-shape_of-queue-in-Faulty c =
-    c.act.auto.queue
-
-pub shape_of-waits-in-Faulty : goal.shape_of-waits-in-Faulty
-shape_of-waits-in-Faulty c =
-    c.act.auto.waits
-
-pub shape_of-states-in-Faulty : goal.shape_of-states-in-Faulty
-shape_of-states-in-Faulty c =
-    c.clear.auto.values ∙ length_joined c.requires.0 c.args.transition c.args.values.now c.args.states.now c.requires.2 c.if-values-n.false c.args.cells.now c.requires.1 c.guard-evaluation.result (c.guard-evaluation.ensures c.requires.0) c.admit-stage.result c.admit-stage.ensures c.in_default.is c.store.new.to c.store.ensures c.act.new.states c.act.auto.states c.act.result (c.act.ensures.0 (action_stands c.requires.0 c.args.transition c.args.values.now c.args.states.now c.requires.2 c.if-values-n.false c.args.cells.now c.requires.1 c.guard-evaluation.result (c.guard-evaluation.ensures c.requires.0) c.admit-stage.result c.admit-stage.ensures c.in_default.is c.store.new.to c.store.ensures))
-
-pub returns-in-Faulty : goal.returns-in-Faulty
-returns-in-Faulty c =
-    (λ d. over_by_action d c.args.transition c.args.values.now c.args.states.now c.requires.2 c.if-values-n.false c.args.cells.now c.requires.1 c.guard-evaluation.result (c.guard-evaluation.ensures d) c.admit-stage.result c.admit-stage.ensures c.in_default.is c.store.new.to c.store.ensures c.act.new.states c.act.auto.states c.act.result (c.act.ensures.0 (action_stands d c.args.transition c.args.values.now c.args.states.now c.requires.2 c.if-values-n.false c.args.cells.now c.requires.1 c.guard-evaluation.result (c.guard-evaluation.ensures d) c.admit-stage.result c.admit-stage.ensures c.in_default.is c.store.new.to c.store.ensures)) _ c.in-Faulty.is _ c.clear.ensures, c.act.ensures.1)
+pub returns-in-Err : goal.returns-in-Err
+returns-in-Err c =
+    let s = c.act.ensures.same in
+    let given = c.given-1.given.1.1 (sym s.given) in
+    let queue = c.queue-1.given.1.1 (sym s.queue) in
+    let waits = c.waits-1.given.1.1 (sym s.waits) in
+    (λ d. over_by_action d c.args.transition c.args.values.now c.args.states.now c.requires.2 c.if-values-n.false c.args.cells.now c.requires.1 c.guard-evaluation.result (c.guard-evaluation.ensures d) c.admit.result c.admit.ensures c.in_ok-admit.was c.store.new.to c.store.ensures c.act.new.states c.act.auto.states c.act.result (c.act.ensures.acted (action_stands d c.args.transition c.args.values.now c.args.states.now c.requires.2 c.if-values-n.false c.args.cells.now c.requires.1 c.guard-evaluation.result (c.guard-evaluation.ensures d) c.admit.result c.admit.ensures c.in_ok-admit.was c.store.new.to c.store.ensures)) _ c.in-Err.is _ (c.fill.ensures.after (λ _ e. e)), rw (given, queue, waits) c.act.ensures.blank)

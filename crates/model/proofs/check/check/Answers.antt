@@ -1,23 +1,18 @@
 -- The sizes, then the walk.
-use mathlib.Core.Path.{◌≡◌, sym, ◌∙◌}
-use Rattle.model.specs.declared.Sized.TheVariants.{Read}
-use Rattle.model.specs.Sizes.{byte_layout, sized}
+use mathlib.Core.Path.{sym, ◌∙◌}
+use Rattle.std.proofs.lemmas.Result.{err_from_is_err_and}
 use Rattle.model.proofs.Verdicts.{file_refused, model_refused, model_accepted}
 use Rattle.model.proofs.check.check.Goals as goal
 
-pub nodes_of-requires : goal.nodes_of-requires
-nodes_of-requires c = sym c.read_sizes.ensures ∙ c.in-Read.is
+pub returns-in_err-sizes : goal.returns-in_err-sizes
+returns-in_err-sizes c =
+    let e = err_from_is_err_and c.from_residual.result c.from_residual.ensures.1 in
+    rw (e.1, e.2) (file_refused c.args.model.now (sym c.read_sizes.ensures ∙ c.in_err-sizes.was))
 
-pub returns-in-Refused : goal.returns-in-Refused
-returns-in-Refused c =
-    file_refused c.args.model.now (sym c.read_sizes.ensures ∙ c.in-Refused.is)
+pub returns-in_err-nodes_of : goal.returns-in_err-nodes_of
+returns-in_err-nodes_of c =
+    let e = err_from_is_err_and c.from_residual-in_err-nodes_of.result c.from_residual-in_err-nodes_of.ensures.1 in
+    rw (e.1, e.2) (model_refused c.args.model.now (sym c.read_sizes.ensures ∙ c.in_ok-sizes.was) (sym c.nodes_of.ensures ∙ c.in_err-nodes_of.was))
 
-pub returns-in-Refused-nodes_of : goal.returns-in-Refused-nodes_of
-returns-in-Refused-nodes_of c =
-    let read : sized byte_layout c.args.model.now ≡ Read c.in-Read.sizes = sym c.read_sizes.ensures ∙ c.in-Read.is in
-    model_refused c.args.model.now read (sym c.nodes_of.ensures ∙ c.in-Refused-nodes_of.is)
-
-pub returns-in-Next : goal.returns-in-Next
-returns-in-Next c =
-    let read : sized byte_layout c.args.model.now ≡ Read c.in-Read.sizes = sym c.read_sizes.ensures ∙ c.in-Read.is in
-    model_accepted c.args.model.now read (sym c.nodes_of.ensures ∙ c.in-Next.is)
+pub returns : goal.returns
+returns c = model_accepted c.args.model.now (sym c.read_sizes.ensures ∙ c.in_ok-sizes.was) (sym c.nodes_of.ensures ∙ c.in_ok-nodes_of.was)

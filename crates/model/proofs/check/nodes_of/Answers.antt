@@ -18,8 +18,8 @@ parameters_in-requires c =
     let read : Whole byte_layout c.args.model.now c.args.sizes = whole byte_layout c.args.model.now c.args.sizes c.requires in
     let r = read in (r.few, omega (arith, r.all))
 
-pub slice_bounds-system-end : goal.slice_bounds-system-end
-slice_bounds-system-end c =
+pub slice_bounds-tree-end : goal.slice_bounds-tree-end
+slice_bounds-tree-end c =
     let read : Whole byte_layout c.args.model.now c.args.sizes = whole byte_layout c.args.model.now c.args.sizes c.requires in
     omega (arith, read.all)
 
@@ -28,15 +28,15 @@ slice_bounds-parameters-end c =
     let rest : List ℤ = drop c.args.sizes.nodes (replicate 4000 (pos 0)) in
     prefix_within c.args.model.now (6 + c.args.sizes.nodes) c.args.sizes.nodes rest c.parameters_in.ensures
 
-pub slice_bounds-system-end-2 : goal.slice_bounds-system-end-2
-slice_bounds-system-end-2 c =
+pub slice_bounds-tree-end-2 : goal.slice_bounds-tree-end-2
+slice_bounds-tree-end-2 c =
     let rest : List ℤ = drop c.args.sizes.nodes (replicate 4000 (pos 0)) in
     prefix_length c.args.model.now (6 + c.args.sizes.nodes) c.args.sizes.nodes rest c.parameters_in.ensures
 
 pub system-requires : goal.system-requires
 system-requires c =
     let read : Whole byte_layout c.args.model.now c.args.sizes = whole byte_layout c.args.model.now c.args.sizes c.requires in
-    (c.rows-rows.ensures, few_variables read c.shared_slice_known-1.given)
+    few_variables read c.shared_slice_known-1.given
 
 pub returns : goal.returns
 returns c =

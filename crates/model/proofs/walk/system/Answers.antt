@@ -1,14 +1,20 @@
--- The variables, whose sorts go to what follows them.
-use native.Mathlib.Omega.{arith}
-use lib.ListN.{length-take}
+-- The variables, whose sorts the rest is checked over.
+use mathlib.Core.Path.{◌≡◌, subst}
+use mathlib.Core.List.{List}
+use Prim.Native.Nat.{ℕ}
+use Rattle.std.proofs.Common.{rules}
+use Rattle.std.proofs.lemmas.Result.{err_from_is_err_and}
+use Rattle.model.specs.Trees.{Variable, sorts_of}
+use Rattle.model.specs.Walk.Walk.{found}
+use Rattle.model.specs.Walk.{outcome, variable_at, row_at}
 use Rattle.model.proofs.Systems.{variables_refused, system_walked}
 use Rattle.model.proofs.walk.system.Goals as goal
 
-pub slice_bounds-rest-end : goal.slice_bounds-rest-end
-slice_bounds-rest-end c = simp length-take (omega arith)
+pub returns-in_err-next : goal.returns-in_err-next
+returns-in_err-next c =
+    let e = err_from_is_err_and c.from_residual.result c.from_residual.ensures.1 in
+    rw (e.1, e.2) (variables_refused _ _ c.args.sizes (subst (λ k. c.variables.result ≡ outcome (row_at (variable_at c.args.tree.now.kinds.now c.args.tree.now.parameters.now) k 0)) (search rules) c.variables.ensures.0) c.in_err-next.was)
 
-pub returns-in-Refused : goal.returns-in-Refused
-returns-in-Refused c = variables_refused _ _ _ c.variables.ensures.0 c.in-Refused.is
-
-pub returns-in-Next : goal.returns-in-Next
-returns-in-Next c = system_walked _ _ _ c.variables.ensures.0 _ c.in-Next.is c.variables.ensures.1 c.rest.ensures
+pub returns : goal.returns
+returns c = system_walked _ _ c.args.sizes (subst (λ k. c.variables.result ≡ outcome (row_at (variable_at c.args.tree.now.kinds.now c.args.tree.now.parameters.now) k 0)) (search rules) c.variables.ensures.0) _ c.in_ok-next.was
+    (subst (λ k. (vs : List Variable) (next : ℕ) → row_at (variable_at c.args.tree.now.kinds.now c.args.tree.now.parameters.now) k 0 ≡ found vs next → c.variables.new.sorts ≡ sorts_of vs) (search rules) c.variables.ensures.1) c.rest.ensures

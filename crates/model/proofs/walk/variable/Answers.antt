@@ -1,12 +1,19 @@
 -- A Boolean's one node, or the three of a number.
+use native.Mathlib.Omega.{arith}
+use Rattle.evaluation.proofs.Signed.{read_back}
+use Rattle.std.proofs.lemmas.Result.{err_from_is_err_and}
 use Rattle.model.proofs.Declarations.{variable_refused, boolean_walked, number_walked}
 use Rattle.model.proofs.walk.variable.Goals as goal
 
-pub returns-in-Refused : goal.returns-in-Refused
-returns-in-Refused c = variable_refused _ _ c.requires _ c.variable_node.ensures c.in-Refused.is
+pub returns-in_err-node : goal.returns-in_err-node
+returns-in_err-node c =
+    let p = err_from_is_err_and c.from_residual.result c.from_residual.ensures.1 in
+    rw (p.1, p.2) (variable_refused _ _ c.args.cursor.at c.variable_node.ensures c.in_err-node.was)
 
-pub returns-then-kind-eq1 : goal.returns-then-kind-eq1
-returns-then-kind-eq1 c = boolean_walked _ _ c.requires _ c.variable_node.ensures c.in-Node.is (record { sfits = c.in-Node.known_told-in-Node-1-own.given.1.0.1 }) c.if-kind-eq1.true
+pub returns-then-node : goal.returns-then-node
+returns-then-node c =
+    number_walked _ _ c.args.cursor.at c.variable_node.ensures c.in_ok-node.was c.if-node.true (rw (read_back c.in_ok-node.node.parameter (omega arith)) at c.range.ensures)
 
-pub returns-else-kind-eq1 : goal.returns-else-kind-eq1
-returns-else-kind-eq1 c = number_walked _ _ c.requires _ c.variable_node.ensures c.in-Node.is (record { sfits = c.in-Node.known_told-in-Node-1-own.given.1.0.1 }) c.if-kind-eq1.false c.range.ensures
+pub returns : goal.returns
+returns c =
+    rw (read_back c.in_ok-node.node.parameter (omega arith)) (boolean_walked _ _ c.args.cursor.at c.variable_node.ensures c.in_ok-node.was c.if-node.false)

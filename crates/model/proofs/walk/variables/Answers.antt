@@ -1,30 +1,20 @@
-use mathlib.Core.Path.{refl}
-use Prim.Native.Nat.{◌-◌}
 use native.Mathlib.Omega.{arith}
-use lib.ListN.{length-set}
-use Rattle.model.proofs.Declarations.{stored_none, stored_refused, stored_next, stored_done}
+use Rattle.std.proofs.lemmas.Result.{err_from_is_err_and}
+use Rattle.model.proofs.Declarations.{stored_none, stored_refused, stored_next, stored_whole}
 use Rattle.model.proofs.walk.variables.Goals as goal
 
-pub loop-i-init : goal.loop-i-init
-loop-i-init c = (omega arith, refl, stored_none _ _ _ _ _ (omega arith))
+pub loop-sort-init : goal.loop-sort-init
+loop-sort-init c = rw c.empty-here.ensures (stored_none _ _ _ _ _ (omega arith))
 
-pub shape_of-sorts-in-Refused : goal.shape_of-sorts-in-Refused
-shape_of-sorts-in-Refused c = c.loop-i.invariant.1
+pub returns-in_err-declaration : goal.returns-in_err-declaration
+returns-in_err-declaration c =
+    let e = err_from_is_err_and c.from_residual.result c.from_residual.ensures.1 in
+    rw (e.1, e.2) (stored_refused _ _ _ _ _ c.loop-sort.invariant (omega (arith, c.loop-sort-test.true, c.loop-sort.auto.sorts)) c.variable.ensures _ c.in_err-declaration.was)
 
-pub returns-in-Refused : goal.returns-in-Refused
-returns-in-Refused c = stored_refused _ _ _ _ _ c.loop-i.invariant.2 (omega arith) c.variable.ensures _ c.in-Refused.is
-
-pub bounds-sorts-i : goal.bounds-sorts-i
-bounds-sorts-i c = omega (arith, c.loop-i.invariant.1, c.requires.1)
-
-pub overflow_add-i : goal.overflow_add-i
-overflow_add-i c = omega (arith, c.loop-i.invariant.1, c.requires.1, c.ranges.count)
-
-pub loop-i-preserved : goal.loop-i-preserved
-loop-i-preserved c = (omega arith, simp length-set c.loop-i.invariant.1, stored_next _ _ _ _ _ c.loop-i.invariant.2 (omega arith) c.variable.ensures _ (omega arith) c.in-Variable.is (bounds-sorts-i c))
-
-pub shape_of-sorts : goal.shape_of-sorts
-shape_of-sorts c = c.loop-i.invariant.1
+pub loop-sort-preserved : goal.loop-sort-preserved
+loop-sort-preserved c =
+    stored_next _ _ _ _ _ c.loop-sort.invariant (omega (arith, c.loop-sort-test.true, c.loop-sort.auto.sorts)) c.variable.ensures _ (omega (arith, c.loop-sort-test.true, c.loop-sort.auto.sorts)) c.in_ok-declaration.was (omega (arith, c.loop-sort-test.true, c.loop-sort.auto.sorts))
 
 pub returns : goal.returns
-returns c = stored_done _ _ _ _ _ c.loop-i.invariant.2 c.args.count (omega arith) (omega arith)
+returns c =
+    stored_whole _ _ _ _ _ c.loop-sort.invariant (omega (arith, c.loop-sort-test.false, c.loop-sort.auto.sorts)) (omega (arith, c.loop-sort-test.false, c.loop-sort.auto.sorts))

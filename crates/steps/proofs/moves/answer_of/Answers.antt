@@ -3,22 +3,10 @@ use Rattle.steps.specs.Calls.{answer_of}
 use Rattle.steps.specs.Answers.{seen}
 use Rattle.steps.proofs.moves.answer_of.Goals as goal
 
-pub returns-in-Disabled : goal.returns-in-Disabled
+pub returns-in-Ok : goal.returns-in-Ok
 unfolding answer_of seen
-returns-in-Disabled c = cc
+returns-in-Ok c = rw c.in-Ok.is
 
-pub returns-in-GuardFailed : goal.returns-in-GuardFailed
-unfolding answer_of seen
-returns-in-GuardFailed c = cc
-
-pub returns-in-ActionFault : goal.returns-in-ActionFault
-unfolding answer_of seen
-returns-in-ActionFault c = cc
-
-pub returns-in-AssertionFault : goal.returns-in-AssertionFault
-unfolding answer_of seen
-returns-in-AssertionFault c = cc
-
-pub returns-in-Fired : goal.returns-in-Fired
-unfolding answer_of seen
-returns-in-Fired c = cc
+pub returns-in-Err : goal.returns-in-Err
+unfolding seen
+returns-in-Err c = rw c.in-Err.is c.number_of.ensures

@@ -4,34 +4,31 @@ use Rattle.synchronisation.specs.Members.{sheet}
 use Rattle.synchronisation.proofs.Pieces.{member_at, members_long, member_put, members_put, guarded_nodes, guarded_piece, guarded_step, no_guarded, guarded_put}
 use Rattle.synchronisation.proofs.nodes.put_guarded_actions.Goals as goal
 
-pub loop-i-init : goal.loop-i-init
-loop-i-init c = λ ts s. refl
+pub loop-member-init : goal.loop-member-init
+loop-member-init c = λ ts s. refl
 
 pub put_guard-body-requires : goal.put_guard-body-requires
 put_guard-body-requires c =
     let given = c.args in
-    let r = member_at given.kinds.now given.parameters.now given.nexts.now given.guards.now given.members.now c.requires.0 c.loop-i.i c.loop-i-test.true c.requires.1 in
+    let r = member_at given.kinds.now given.parameters.now given.nexts.now given.guards.now given.members.now c.requires.0 c.loop-member.member-index c.loop-member-test.true c.requires.1 in
     (r.member, r.stands)
 
 pub put_action-place-requires : goal.put_action-place-requires
 put_action-place-requires c =
     let given = c.args in
-    let r = member_at given.kinds.now given.parameters.now given.nexts.now given.guards.now given.members.now c.requires.0 c.loop-i.i c.loop-i-test.true c.requires.1 in
+    let r = member_at given.kinds.now given.parameters.now given.nexts.now given.guards.now given.members.now c.requires.0 c.loop-member.member-index c.loop-member-test.true c.requires.1 in
     (r.member, r.stands)
 
-pub overflow_add-i : goal.overflow_add-i
-overflow_add-i c = omega arith
-
-pub loop-i-preserved : goal.loop-i-preserved
-loop-i-preserved c = λ ts s.
+pub loop-member-preserved : goal.loop-member-preserved
+loop-member-preserved c = λ ts s.
     let given = c.args in
-    let on = sheet c.loop-i.new_kinds c.loop-i.new_parameters c.loop-i.place in
-    let r = member_at given.kinds.now given.parameters.now given.nexts.now given.guards.now given.members.now ts c.loop-i.i c.loop-i-test.true s in
-    member_put guarded_nodes guarded_piece guarded_step ts c.loop-i.i r.member on r.split
-    (guarded_put r.member on c.put-test.ensures (c.put_guard-body.ensures r.member r.stands) (c.put_action-place.ensures r.member r.stands)) (c.loop-i.invariant ts s)
+    let on = sheet c.loop-member.new_kinds c.loop-member.new_parameters c.loop-member.place in
+    let r = member_at given.kinds.now given.parameters.now given.nexts.now given.guards.now given.members.now ts c.loop-member.member-index c.loop-member-test.true s in
+    member_put guarded_nodes guarded_piece guarded_step ts c.loop-member.member-index r.member on r.split
+    (guarded_put r.member on c.put-test.ensures (c.put_guard-body.ensures r.member r.stands) (c.put_action-place.ensures r.member r.stands)) (c.loop-member.invariant ts s)
 
 pub returns : goal.returns
 returns c = λ ts s.
     let given = c.args in
     let long = members_long given.kinds.now given.parameters.now given.nexts.now given.guards.now given.members.now ts s in
-    members_put guarded_nodes guarded_piece guarded_step ts c.loop-i.i (sheet c.loop-i.new_kinds c.loop-i.new_parameters c.loop-i.place) no_guarded (omega (arith, long, c.loop-i-test.false)) (c.loop-i.invariant ts s)
+    members_put guarded_nodes guarded_piece guarded_step ts c.loop-member.member-index (sheet c.loop-member.new_kinds c.loop-member.new_parameters c.loop-member.place) no_guarded (omega (arith, long, c.loop-member-test.false)) (c.loop-member.invariant ts s)

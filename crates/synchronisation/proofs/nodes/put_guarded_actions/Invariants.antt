@@ -1,17 +1,13 @@
 -- The guarded actions that are left are those that were there at first, on the sheet as it was.
 use mathlib.Core.Path.{◌≡◌}
 use mathlib.Core.List.{List}
-use Prim.Native.Nat.{◌-◌}
-use lib.ListN.{length, drop}
+use lib.ListN.{drop}
 use Rattle.model.specs.Trees.{Transition}
 use Rattle.synchronisation.specs.Members.{sheet, put_nodes, MembersStand}
 use Rattle.synchronisation.proofs.Pieces.{guarded_nodes}
 use Rattle.synchronisation.proofs.nodes.put_guarded_actions.Given as goal
 
-abbrev pub invariant-loop-i : goal.invariant-loop-i
-invariant-loop-i l =
+abbrev pub invariant-loop-member : goal.invariant-loop-member
+invariant-loop-member l =
     (ts : List Transition) → MembersStand l.kinds l.parameters l.nexts l.guards l.members ts
-    → put_nodes (guarded_nodes (drop l.i ts)) (sheet l.new_kinds l.new_parameters l.place) ≡ put_nodes (guarded_nodes ts) (sheet l.initial.new_kinds l.initial.new_parameters l.at)
-
-abbrev pub decreases-loop-i : goal.decreases-loop-i
-decreases-loop-i l = length l.members - l.i
+    → put_nodes (guarded_nodes (drop l.member-index ts)) (sheet l.new_kinds l.new_parameters l.place) ≡ put_nodes (guarded_nodes ts) (sheet l.initial.new_kinds l.initial.new_parameters l.at)

@@ -1,0 +1,2 @@
+-- Proofs of crate `results`: the numbers of the refusals.
+pub mod Numbers

@@ -1,0 +1,79 @@
+// Why a call is refused.
+
+ghost use Rattle.std.specs.Prelude.{◌≡◌};
+ghost use Rattle.results.specs.Refusals.{number_of};
+
+// A refusal, with the number that a call answers for it.
+#[derive(Clone, Copy, PartialEq, Eq, Debug)]
+pub enum Refusal {
+    // The file is under 6 bytes.
+    ShortFile = 1,
+    // N is above 4,000.
+    TooManyNodes = 2,
+    // The file's length is not 6 + 5N; the lengths of an expression's slices differ.
+    WrongLength = 3,
+    // A node is due past the last.
+    MissingNode = 4,
+    // A node stands at depth 33.
+    TooDeep = 5,
+    // A kind may not stand there.
+    KindNotAllowed = 6,
+    // A parameter or a variable is not allowed there.
+    ParameterNotAllowed = 7,
+    // Nodes are left over.
+    NodesLeftOver = 8,
+    // The values slice is under S+F.
+    ShortValues = 9,
+    // The marks slice is under T, or another slice that was lent is too short.
+    ShortSlice = 10,
+    // The transition is T or above.
+    NoSuchTransition = 11,
+    // The variable is S+F or above.
+    NoSuchVariable = 12,
+    // A line is no command.
+    NoCommand = 13,
+    // The count of steps, an entry of the record, a value or a held mark is out of its bounds.
+    InvalidRun = 20,
+    // Fire with the record full.
+    FullRecord = 21,
+    // Take back with no step recorded.
+    EmptyRecord = 22,
+    // The guard is false.
+    GuardFalse = 23,
+    // The guard failed.
+    GuardFailed = 24,
+    // A condition or an expression of the action failed.
+    ActionFailed = 25,
+    // The action gives a value outside its variable's ends.
+    ActionOutside = 26,
+    // The action gives one variable different values.
+    ActionConflict = 27,
+    // A condition or an expression of the assertion failed.
+    AssertionFailed = 28,
+    // The assertion gives a value outside its variable's ends.
+    AssertionOutside = 29,
+    // The assertion gives one variable different values, or one that differs from its known value.
+    AssertionConflict = 30,
+    // Start is refused, or the recorded transitions cannot be fired again.
+    NotReplayable = 31,
+    // The text is no expression.
+    NotInGrammar = 32,
+    // The types of the text do not fit.
+    TypesDoNotFit = 33,
+    // The text is over 200 bytes, or its nodes are deeper than 32.
+    TooLarge = 34,
+    // Both lists of transitions to join are empty.
+    NoMembers = 35,
+    // The model joined would pass a limit of sizes, nodes or depth, or the slice lent for it.
+    LimitPassed = 36,
+}
+
+impl Refusal {
+    // The number that stands for it.
+    #[tactic(auto, unfolding(crate::specs::Refusals::number_of))]
+    pub fn number(self) -> u8
+        ensures { result ≡ number_of self }
+    {
+        self as u8
+    }
+}

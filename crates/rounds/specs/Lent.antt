@@ -1,0 +1,44 @@
+-- The same of what is lent: the tables, the index of the assertion, and what the readings gather in.
+use Rattle.std.specs.Prelude.{List, ℕ, ℤ, length}
+use Rattle.tables.specs.declared.Tables.{Tables}
+use Rattle.tables.specs.declared.Index.{Index}
+use Rattle.waiting.specs.Index.{Indexed}
+use Rattle.reading.specs.declared.Gathering.{Gathering}
+use Rattle.rounds.specs.Cells.{AssertionStands}
+use Rattle.rounds.specs.Rounds.{Fitting, SomeWaking, StillWaking, Resting, Turn, Ready, SomeReady}
+
+module _ (t : Tables) where
+  abbrev pub AssertionHeld : Type 0
+  AssertionHeld = AssertionStands t.kinds.now t.parameters.now t.nexts.now t.variables.now t.model.assertion
+
+  abbrev pub IndexHeld : Index → Type 0
+  IndexHeld i = Indexed t.kinds.now t.parameters.now t.model.assertion (length t.variables.now) i.heads.now i.links.now
+
+  abbrev pub FittingIn : List ℤ → Gathering → Type 0
+  FittingIn cells g =
+      Fitting t.kinds.now t.parameters.now t.nexts.now t.variables.now t.model.assertion cells g.given.now g.queued g.queue.now g.waits.now g.pending
+
+  abbrev pub SomeWakingIn : List ℤ → ℕ → Gathering → Type 0
+  SomeWakingIn cells r g =
+      SomeWaking t.kinds.now t.parameters.now t.nexts.now t.variables.now t.model.assertion cells r g.found g.given.now g.queued g.queue.now g.waits.now
+
+  abbrev pub StillWakingIn : List ℤ → ℕ → Gathering → Gathering → Type 0
+  StillWakingIn cells r g g' =
+      StillWaking t.kinds.now t.parameters.now t.nexts.now t.variables.now t.model.assertion cells r
+      g.found g.given.now g.queued g.queue.now g.waits.now g'.found g'.given.now g'.queued g'.queue.now g'.waits.now g'.pending
+
+  abbrev pub RestingIn : AssertionHeld → List ℤ → Gathering → ℕ → Type 0
+  RestingIn a cells g count =
+      Resting t.kinds.now t.parameters.now t.nexts.now t.variables.now t.model.assertion a cells g.waits.now count g.pending
+
+  abbrev pub TurnIn : List ℤ → List ℤ → Gathering → ℕ → ℕ → Type 0
+  TurnIn cells₀ cells g r done =
+      Turn t.kinds.now t.parameters.now t.nexts.now t.variables.now t.model.assertion cells₀ cells g.given.now g.queue.now g.waits.now g.found g.queued g.pending r done
+
+  abbrev pub ReadyIn : List ℤ → List ℤ → Gathering → ℕ → ℕ → Type 0
+  ReadyIn cells₀ cells g r done =
+      Ready t.kinds.now t.parameters.now t.nexts.now t.variables.now t.model.assertion cells₀ cells g.given.now g.queue.now g.waits.now g.found g.queued g.pending r done
+
+  abbrev pub SomeReadyIn : List ℤ → Gathering → ℕ → ℕ → Type 0
+  SomeReadyIn cells g r done =
+      SomeReady t.kinds.now t.parameters.now t.nexts.now t.variables.now t.model.assertion cells g.given.now g.queue.now g.waits.now g.found g.queued g.pending r done

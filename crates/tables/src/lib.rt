@@ -1,0 +1,24 @@
+// The tables of a decoded model, and the index of its assertion, as they are lent: each in one.
+
+#![tactic(auto)]
+
+use model::Model;
+
+// The nodes in walk order with their kinds and parameters, a row for each variable, after each node the place past its subtree, and the
+// place of each transition's guard.
+#[derive(Clone, Copy)]
+pub struct Tables<'a> {
+    pub model: Model,
+    pub kinds: &'a [u8],
+    pub parameters: &'a [i32],
+    pub variables: &'a [[i32; 3]],
+    pub nexts: &'a [u16],
+    pub guards: &'a [u16],
+}
+
+// Where each variable is mentioned first, and for each node the next mention of the same variable; past these each node's owner.
+#[derive(Clone, Copy)]
+pub struct Index<'a> {
+    pub heads: &'a [u16],
+    pub links: &'a [u16],
+}
