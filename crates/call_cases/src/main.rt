@@ -18,6 +18,7 @@ ghost use Rattle.std.specs.Prelude.{◌<◌, ◌≤◌};
 
 use model::Sizes;
 use run::Call;
+use std::fs::File;
 use std::io::Read;
 use std::rt::Files;
 use std::{fmt, io};
@@ -371,7 +372,7 @@ fn next_list(
 
 // All lists of data/cases, on the models or on their twins, with the tally before them.
 fn carried_out<R: Files + Print>(rt: &R, of_twin: bool, mut tally: Tally) -> io::Result<Tally> {
-    let mut file = cases::open(rt)?;
+    let mut file = File::open(rt, "cases")?;
     for _ in 0..u64::MAX {
         let Some(head): Option<[u8; 32]> = cases::next_bytes(&mut file)? else {
             break;

@@ -11,9 +11,7 @@ ghost use Rattle.model.specs.Sizes.{little_at};
 ghost use Rattle.model.specs.Check as model;
 ghost use Rattle.cases.specs.Cases.{same_cells, no_cases, counted_in, Tallied};
 
-use std::fs::File;
 use std::io::{ErrorKind, Read};
-use std::rt::Files;
 use std::{fmt, io};
 
 // How many cases were run, and how many differed.
@@ -132,11 +130,6 @@ pub fn is_wanted(
     Ok(false)
 }
 
-// Opens data/cases.
-pub fn open<R: Files>(files: &R) -> io::Result<R::File> {
-    File::open(files, "cases")
-}
-
 // Reads so many bytes into the beginning of the slice; false where it is shorter, or the file ends before.
 pub fn is_read<R: Read>(file: &mut R, b: &mut [u8], count: usize) -> io::Result<bool>
     ensures short { length b.old < count → result ≡ Ok false }
@@ -190,6 +183,7 @@ pub fn run<R: Print, F: FnMut() -> io::Result<Option<bool>>>(
     next: F,
 ) -> io::Result<()>
     requires { F.IsAlwaysCallable next }
+    ensures { IfOk result (λ _. (last : F) × (tally : Tally) × Tallied (λ f is_same g. F.step f (Ok (Some is_same)) g) next last tally) }
 {
     let tally = tallied(rt, next)?;
     println!(rt; "{} {word}, {} differ", tally.cases, tally.differing)

@@ -9,6 +9,7 @@
 #![tactic(auto)]
 
 use model::{Sizes, Sort};
+use std::fs::File;
 use std::io;
 use std::io::Read;
 
@@ -103,7 +104,7 @@ fn next_case(rt: &impl Print, file: &mut impl Read, buffer: &mut [u8]) -> io::Re
 }
 
 fn main(rt: HostRuntime) -> io::Result<()> {
-    let mut file = cases::open(&rt)?;
+    let mut file = File::open(&rt, "cases")?;
     let mut buffer = [0u8; 32768];
     cases::run(&rt, "cases", || next_case(&rt, &mut file, &mut buffer))
 }

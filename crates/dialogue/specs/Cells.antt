@@ -1,5 +1,5 @@
--- What the functions find and leave in the arrays lent. A run takes the first cells of the values, of the marks and of the buffer that
--- they are copied into, and the model the first bytes of the file; what is printed stands at the beginning of the slice for the lines.
+-- What the functions find and leave in the arrays of a dialogue. A run takes the first cells of the values, of the marks and of the buffer that
+-- they are copied into, and the model the first bytes of the file; what is printed stands at the beginning of the array for the lines.
 use Rattle.std.specs.Prelude.{◌≡◌, cond, List, ℕ, ◌+◌, ltb, ℤ, length, take, drop}
 use Rattle.results.specs.Results.{Answered, answered, over}
 use Rattle.model.specs.Check.{Verdict}
@@ -7,7 +7,7 @@ use Rattle.model.specs.Check.Verdict.{refusal, accepted}
 use Rattle.standing.specs.Runs.{Store, run, store}
 use Rattle.dialogue.specs.declared.Dimensions.{Dimensions}
 use Rattle.dialogue.specs.declared.Line.{Line}
-use Rattle.dialogue.specs.declared.Session.{Session}
+use Rattle.dialogue.specs.declared.Dialogue.{Dialogue}
 
 -- the bytes kept of a line
 abbrev pub kept_of : Line → List ℕ
@@ -45,18 +45,18 @@ into out r = answered (placed r.answer out) r.left
 -- ---- all that a program keeps
 
 -- the arrays that the run is lent, and the run in their first cells
-abbrev pub store_of : Session → Store
+abbrev pub store_of : Dialogue → Store
 store_of s = store (run s.values s.marks s.history s.n) s.buffer
 
-abbrev pub used : Session → Store
+abbrev pub used : Dialogue → Store
 used s = in_use s.dimensions (store_of s)
 
 -- the model, in the first bytes of the file
-abbrev pub model_of : Session → List ℕ
+abbrev pub model_of : Dialogue → List ℕ
 model_of s = take s.dimensions.bytes s.file
 
 -- the file, what is in use, and the cells past it stay
-pub record KeepsRest (old new : Session) : Type 0 where
+pub record KeepsRest (old new : Dialogue) : Type 0 where
   pub file : new.file ≡ old.file
   pub dimensions : new.dimensions ≡ old.dimensions
   pub past : past_use old.dimensions (store_of new) ≡ past_use old.dimensions (store_of old)

@@ -1,5 +1,5 @@
 -- What a program prints that is made of these functions, by their promises: it reads the file, opens the run, takes the input part by part,
--- each part piece by piece (a piece ends with a line feed, or where the part ends), and closes, with one slice for all lines. After each
+-- each part piece by piece (a piece ends with a line feed, or where the part ends), and closes, with one array for all lines. After each
 -- call it prints the text at the beginning of the slice.
 use Rattle.std.specs.Prelude.{cond, ℕ, zero, suc, ◌+◌, ltb, pos, length, take, drop, replicate}
 use mathlib.Core.List.{List, [], ◌∷◌, ◌++◌, map, flatten}
@@ -48,6 +48,6 @@ open_text m d ps out =
     let o = into out (opening m (in_use d empty)) in
     text_in o.answer ++ cond (is_started m (in_use d empty)) (pieces_text m (pieces_of ps) o.answer.left (progress [] o.left)) []
 
--- by the bytes kept of the file, the parts of the input and the slice for the lines
+-- by the bytes kept of the file, the parts of the input and the array for the lines
 abbrev pub program_text : List ℕ → List (List ℕ) → List ℕ → List ℕ
 program_text m ps out = open_text m (dimensions_of (length m) (verdict m)) ps out

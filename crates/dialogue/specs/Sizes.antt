@@ -21,6 +21,6 @@ file_bytes = suc longest_file
 abbrev pub kept_bytes : ℕ
 kept_bytes = too_long
 
--- the bytes of the slice for the lines: room for every line of a run
+-- the bytes of the array for the lines: room for every line of a run
 abbrev pub line_bytes : ℕ
 line_bytes = room value_width max_variables

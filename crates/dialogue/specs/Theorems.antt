@@ -34,7 +34,7 @@ abbrev pub PiecesOfPart : Type 0
 PiecesOfPart = (part : List ℕ) → flatten (pieces part) ≡ part
 
 -- what a program keeps is enough: 20,007 bytes of the file and six of each line. By the promises of the functions it prints 01's transcript
--- of the whole file and the whole input, however this is cut into parts and whatever the slice for the lines holds: that every line fits it
+-- of the whole file and the whole input, however this is cut into parts and whatever the array for the lines holds: that every line fits it
 -- is in the promises of the functions
 abbrev pub TranscriptOfKept : Type 0
 TranscriptOfKept = (m : List ℕ) (ps : List (List ℕ)) (out : List ℕ) → Bytes m → program_text (take file_bytes m) ps out ≡ transcript m (flatten ps)

@@ -15,7 +15,7 @@ ghost use Rattle.dialogue.specs.Turns.{progress, turns, closing, to_line_feed, f
 ghost use Rattle.dialogue.specs.Cells.{kept_of, dimensions_of, at_most, in_use, past_use, into, store_of, model_of, used, KeepsRest};
 ghost use Rattle.dialogue.specs.Program.{empty};
 
-use super::{Dimensions, Line, Opening, Program, Session, Taken};
+use super::{Dialogue, Dimensions, Line, Opening, Program, Taken};
 use commands::Command;
 use model::Model;
 
@@ -126,15 +126,15 @@ fn respond_first(
     )
 }
 
-impl Session {
+impl Dialogue {
     // Before the start: 0 in every cell.
-    pub fn empty() -> Session
+    pub fn empty() -> Dialogue
         ensures cells { store_of result ≡ empty }
         ensures file_cells { result.file ≡ replicate file_bytes 0 }
         ensures out_cells { result.out ≡ replicate line_bytes 0 }
         ensures line { kept_of result.line ≡ [] }
     {
-        Session {
+        Dialogue {
             line: Line::empty(),
             out: [0; Program::LINE_BYTES],
             values: [0; Model::MAX_VARIABLES],

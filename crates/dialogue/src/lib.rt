@@ -52,7 +52,7 @@ pub struct Dimensions {
 // All that the program keeps: the line that was begun, the array for the lines, the arrays that the run is lent, what of them and of
 // the model's file is in use, and the file.
 #[derive(Drop)]
-pub struct Session {
+pub struct Dialogue {
     pub line: Line,
     pub out: [u8; Program::LINE_BYTES],
     pub values: [i32; Model::MAX_VARIABLES],

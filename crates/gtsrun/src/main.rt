@@ -4,7 +4,7 @@
 
 ghost use Rattle.std.specs.Prelude.{◌≤◌, length};
 
-use dialogue::{Program, Session};
+use dialogue::{Dialogue, Program};
 use std::fs::File;
 use std::io;
 use std::io::Read;
@@ -37,19 +37,19 @@ fn read_model(files: &impl Files, file: &mut [u8; Program::FILE_BYTES]) -> usize
 }
 
 // Answers each line that a part of the input ends.
-fn answer_part(rt: &impl Print, session: &mut Session, part: &[u8]) -> io::Result<()> {
+fn answer_part(rt: &impl Print, dialogue: &mut Dialogue, part: &[u8]) -> io::Result<()> {
     let mut at = 0;
     // Each step is as long as the line that was taken.
     while at < part.len() {
-        let taken = session.take_line(part, at);
-        rt.write_all(session.printed(taken.length))?;
+        let taken = dialogue.take_line(part, at);
+        rt.write_all(dialogue.printed(taken.length))?;
         at = taken.next;
     }
     Ok(())
 }
 
 // Answers the lines of standard input.
-fn answer_all<R: Input + Print>(rt: &R, session: &mut Session) -> io::Result<()> {
+fn answer_all<R: Input + Print>(rt: &R, dialogue: &mut Dialogue) -> io::Result<()> {
     let mut input = rt.reader();
     let mut part = [0u8; PART];
     for _ in 0..u64::MAX {
@@ -57,20 +57,20 @@ fn answer_all<R: Input + Print>(rt: &R, session: &mut Session) -> io::Result<()>
         if count == 0 {
             break;
         }
-        answer_part(rt, session, &part[..count])?;
+        answer_part(rt, dialogue, &part[..count])?;
     }
-    let length = session.close();
-    rt.write_all(session.printed(length))
+    let length = dialogue.close();
+    rt.write_all(dialogue.printed(length))
 }
 
 // Reads the model, starts the run and, unless that is refused, answers the input.
 fn main(rt: HostRuntime) -> io::Result<()> {
-    let mut session = Session::empty();
-    let bytes = read_model(&rt, &mut session.file);
-    let opening = session.open(bytes);
-    rt.write_all(session.printed(opening.length))?;
+    let mut dialogue = Dialogue::empty();
+    let bytes = read_model(&rt, &mut dialogue.file);
+    let opening = dialogue.open(bytes);
+    rt.write_all(dialogue.printed(opening.length))?;
     if opening.is_started {
-        answer_all(&rt, &mut session)?;
+        answer_all(&rt, &mut dialogue)?;
     }
     Ok(())
 }

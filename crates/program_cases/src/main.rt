@@ -4,7 +4,8 @@
 
 #![tactic(auto)]
 
-use dialogue::{Program, Session};
+use dialogue::{Dialogue, Program};
+use std::fs::File;
 use std::io;
 use std::io::Read;
 
@@ -37,43 +38,43 @@ impl<'a> Output<'a> {
 const PART: usize = 7;
 
 // Answers each line that a part of the input ends, and compares it as it is printed.
-fn answer_part<'a>(begun: Output<'a>, session: &mut Session, part: &[u8]) -> Output<'a> {
+fn answer_part<'a>(begun: Output<'a>, dialogue: &mut Dialogue, part: &[u8]) -> Output<'a> {
     let mut output = begun;
     let mut at = 0;
     // Each step is as long as the line that was taken.
     while at < part.len() {
-        let taken = session.take_line(part, at);
-        output = output.with(session.printed(taken.length));
+        let taken = dialogue.take_line(part, at);
+        output = output.with(dialogue.printed(taken.length));
         at = taken.next;
     }
     output
 }
 
 // The lines of the input, taken part by part to its end.
-fn answer_all<'a>(begun: Output<'a>, session: &mut Session, input: &[u8]) -> Output<'a> {
+fn answer_all<'a>(begun: Output<'a>, dialogue: &mut Dialogue, input: &[u8]) -> Output<'a> {
     let mut output = begun;
     for part in input.chunks(PART) {
-        output = answer_part(output, session, part);
+        output = answer_part(output, dialogue, part);
     }
-    let length = session.close();
-    output.with(session.printed(length))
+    let length = dialogue.close();
+    output.with(dialogue.printed(length))
 }
 
 // Starts the run and, unless that is refused, answers the input: does the program print the wanted output?
 fn is_equal(model: &[u8], input: &[u8], wanted: &[u8]) -> bool {
-    let mut session = Session::empty();
-    let bytes = keep(model, &mut session.file);
-    let opening = session.open(bytes);
+    let mut dialogue = Dialogue::empty();
+    let bytes = keep(model, &mut dialogue.file);
+    let opening = dialogue.open(bytes);
     let nothing = Output {
         wanted,
         at: 0,
         is_same: true,
     };
-    let begun = nothing.with(session.printed(opening.length));
+    let begun = nothing.with(dialogue.printed(opening.length));
     if !opening.is_started {
         return begun.is_whole();
     }
-    answer_all(begun, &mut session, input).is_whole()
+    answer_all(begun, &mut dialogue, input).is_whole()
 }
 
 // Stores the first bytes of a model, as gtsrun keeps them of its file; how many.
@@ -101,7 +102,7 @@ fn next_case(source: &mut impl Read, body: &mut [u8]) -> io::Result<Option<bool>
 }
 
 fn main(rt: HostRuntime) -> io::Result<()> {
-    let mut source = cases::open(&rt)?;
+    let mut source = File::open(&rt, "cases")?;
     let mut body = [0u8; 32768];
     cases::run(&rt, "programs", || next_case(&mut source, &mut body))
 }

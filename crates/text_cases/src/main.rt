@@ -11,6 +11,7 @@
 ghost use Rattle.std.specs.Prelude.{◌≡◌, ◌+◌, ◌*◌, ◌<◌, length};
 
 use results::Refusal;
+use std::fs::File;
 use std::io;
 use std::io::Read;
 
@@ -133,7 +134,7 @@ fn next_case(rt: &impl Print, file: &mut impl Read, buffer: &mut [u8]) -> io::Re
 }
 
 fn main(rt: HostRuntime) -> io::Result<()> {
-    let mut file = cases::open(&rt)?;
+    let mut file = File::open(&rt, "cases")?;
     let mut buffer = [0u8; 16384];
     cases::run(&rt, "texts", || next_case(&rt, &mut file, &mut buffer))
 }

@@ -6,7 +6,7 @@ use Rattle.dialogue.specs.Cells.{kept_of, model_of, used, into}
 use Rattle.dialogue.proofs.Kept.{kept_short}
 use Rattle.dialogue.proofs.Scanning.{line_answered, line_kept, ended_into}
 use borrow.Author.Rules.{rules}
-use Rattle.dialogue.proofs.Session.take_line.Goals as goal
+use Rattle.dialogue.proofs.Dialogue.take_line.Goals as goal
 
 pub returns-then-scan-clause-buffer_after : goal.returns-then-scan-clause-buffer_after
 returns-then-scan-clause-buffer_after c =

@@ -9,7 +9,7 @@ use Rattle.dialogue.specs.Sizes.{line_bytes}
 use Rattle.dialogue.specs.Cells.{store_of, dimensions_of, in_use, into}
 use Rattle.dialogue.proofs.FirstCells.{roomy, told, printed_fits}
 use borrow.Author.Rules.{rules}
-use Rattle.dialogue.proofs.Session.open.Goals as goal
+use Rattle.dialogue.proofs.Dialogue.open.Goals as goal
 
 pub returns-clause-dimensions_value : goal.returns-clause-dimensions_value
 returns-clause-dimensions_value c =

@@ -5,7 +5,7 @@ use Rattle.dialogue.specs.Sizes.{kept_bytes}
 use Rattle.dialogue.specs.Cells.{model_of, used, into}
 use Rattle.dialogue.proofs.Scanning.{nothing_begun, begun_closed}
 use borrow.Author.Rules.{rules}
-use Rattle.dialogue.proofs.Session.close.Goals as goal
+use Rattle.dialogue.proofs.Dialogue.close.Goals as goal
 
 pub returns-then-line-eq0-clause-buffer_after : goal.returns-then-line-eq0-clause-buffer_after
 returns-then-line-eq0-clause-buffer_after c =

@@ -7,7 +7,7 @@ use Rattle.dialogue.specs.Sizes.{line_bytes}
 use Rattle.dialogue.specs.Cells.{store_of, used, into}
 use Rattle.dialogue.proofs.FirstCells.{told, printed_fits}
 use borrow.Author.Rules.{rules}
-use Rattle.dialogue.proofs.Session.answer.Goals as goal
+use Rattle.dialogue.proofs.Dialogue.answer.Goals as goal
 
 pub returns-clause-buffer_after : goal.returns-clause-buffer_after
 returns-clause-buffer_after c =
