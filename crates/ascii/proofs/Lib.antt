@@ -1,3 +1,3 @@
 -- Proofs of crate `ascii`.
-pub mod Digits
+pub mod Numbers
 pub mod Sameness

@@ -1,5 +1,5 @@
 -- Bytes that stand for characters.
-use Rattle.std.specs.Prelude.{Bool, true, false, ◌&&◌, ◌||◌, List, [], ◌∷◌, ℕ, ◌+◌, ◌*◌, ◌-◌, eqb, leb}
+use Rattle.std.specs.Prelude.{Bool, true, false, cond, ◌&&◌, ◌||◌, List, [], ◌∷◌, ℕ, ◌+◌, ◌*◌, ◌-◌, eqb, leb, min, Option, Some, None}
 
 -- the bytes space, `0` and `9`
 abbrev pub space_byte : ℕ
@@ -37,3 +37,11 @@ value_after n (b ∷ l) = value_after (10 * n + (b - first_digit)) l
 
 abbrev pub value_of : List ℕ → ℕ
 value_of l = value_after 0 l
+
+-- a number in 32 bits: the greatest stands for all from there on
+abbrev pub capped : ℕ → ℕ
+capped n = min n 4294967295
+
+-- the number of these digits in 32 bits, if they are digits
+abbrev pub number_of : List ℕ → Option ℕ
+number_of l = cond (are_digits l) (Some (capped (value_of l))) None

@@ -17,12 +17,12 @@
 ghost use Rattle.std.specs.Prelude.{◌<◌, ◌≤◌};
 
 use model::Sizes;
-use run::Call;
+use results::Refusal;
+use run::{Answer, Call, Store};
 use std::fs::File;
 use std::io::Read;
 use std::rt::Files;
 use std::{fmt, io};
-use steps::Answer;
 
 // The most values, marks, places or bytes that a list has are 517.
 const CELLS: usize = 520;
@@ -49,10 +49,23 @@ enum Form {
     Within,
 }
 
+// The forms by the bytes that a header has for them.
+const FORMS: [Form; 9] = [
+    Form::Refused,
+    Form::Rounds,
+    Form::Done,
+    Form::Value,
+    Form::Sizes,
+    Form::Transition,
+    Form::Nothing,
+    Form::Outside,
+    Form::Within,
+];
+
 // An answer as the header of a call has it: its form, its number, and how many values were looked at.
 #[derive(Clone, Copy, PartialEq, Eq, Debug)]
 struct Reply {
-    form: u8,
+    form: Form,
     number: usize,
     looked: usize,
 }
@@ -61,7 +74,7 @@ struct Reply {
 // value as it stands in eight bytes.
 impl fmt::Display for Reply {
     fn fmt<W: fmt::Write>(&self, f: &mut fmt::Formatter<W>) -> fmt::Result {
-        let form = self.form;
+        let form = self.form as u8;
         let number = self.number;
         let looked = self.looked;
         write!(f, "{form} {number} {looked}")
@@ -72,7 +85,7 @@ impl Reply {
     // An answer whose number is all that it tells.
     fn plain(form: Form, number: usize) -> Reply {
         Reply {
-            form: form as u8,
+            form,
             number,
             looked: 0,
         }
@@ -82,12 +95,12 @@ impl Reply {
     fn found(found: Option<usize>, form: Form, nothing: Form, looked: usize) -> Reply {
         match found {
             Some(number) => Reply {
-                form: form as u8,
+                form,
                 number,
                 looked,
             },
             None => Reply {
-                form: nothing as u8,
+                form: nothing,
                 number: 0,
                 looked,
             },
@@ -95,15 +108,15 @@ impl Reply {
     }
 
     // An answer that came, as a header has it that wants this number.
-    fn came(wanted: usize, answer: Answer) -> Reply {
+    fn came(wanted: usize, answer: Result<Answer, Refusal>) -> Reply {
         match answer {
-            Answer::Refused(number) => Reply::plain(Form::Refused, usize::from(number)),
-            Answer::Rounds(count) => Reply::plain(Form::Rounds, count),
-            Answer::Done => Reply::plain(Form::Done, 0),
-            Answer::Number(value) => Reply::plain(Form::Value, value_number(value)),
-            Answer::Sizes(sizes) => Reply::plain(Form::Sizes, sizes_number(wanted, sizes)),
-            Answer::Picked(found) => Reply::found(found, Form::Transition, Form::Nothing, 0),
-            Answer::Outside(check) => {
+            Err(refusal) => Reply::plain(Form::Refused, usize::from(refusal.number())),
+            Ok(Answer::Rounds(count)) => Reply::plain(Form::Rounds, count),
+            Ok(Answer::Done) => Reply::plain(Form::Done, 0),
+            Ok(Answer::Number(value)) => Reply::plain(Form::Value, value_number(value)),
+            Ok(Answer::Sizes(sizes)) => Reply::plain(Form::Sizes, sizes_number(wanted, sizes)),
+            Ok(Answer::Picked(found)) => Reply::found(found, Form::Transition, Form::Nothing, 0),
+            Ok(Answer::Outside(check)) => {
                 let outside = check.outside;
                 Reply::found(outside, Form::Outside, Form::Within, check.looked)
             }
@@ -111,10 +124,9 @@ impl Reply {
     }
 }
 
-// The header of a call: whether it was read, the call, what it must answer, and n afterwards.
+// The header of a call: the call, what it must answer, and n afterwards.
 #[derive(Clone, Copy)]
 struct Wanted {
-    is_whole: bool,
     call: Call,
     reply: Reply,
     n: usize,
@@ -135,49 +147,38 @@ fn sizes_number(wanted: usize, sizes: Sizes) -> usize {
     if is_packed { wanted } else { 0 }
 }
 
-// Are the next bytes of the file these?
-fn is_next_row(file: &mut impl Read, row: &[u8]) -> io::Result<bool> {
-    let mut stored = [0u8; CELLS];
-    let is_whole = cases::is_read(file, &mut stored, row.len())?;
-    Ok(is_whole && stored.starts_with(row))
-}
-
-// Are the next values of the file these?
-fn is_next_values(file: &mut impl Read, values: &[i32]) -> io::Result<bool> {
-    let count = values.len();
-    if CELLS < count {
-        return Ok(false);
-    }
-    let mut stored = [0u8; 4 * CELLS];
-    let mut wanted = [0i32; CELLS];
-    let is_whole = cases::is_read(file, &mut stored, 4 * count)?;
-    cases::load_values(&stored, &mut wanted);
-    Ok(is_whole && wanted.starts_with(values))
-}
-
-// The next values, so many, as far as the file has them.
-fn next_values(file: &mut impl Read, count: usize) -> io::Result<[i32; CELLS]>
-    requires { count ≤ 520 }
-{
+// The next values, so many; none where they are more than a list has, or the file ends before.
+fn next_values(file: &mut impl Read, count: usize) -> io::Result<Option<[i32; CELLS]>> {
     let mut stored = [0u8; 4 * CELLS];
     let mut values = [0i32; CELLS];
-    cases::is_read(file, &mut stored, 4 * count)?;
+    let is_whole = cases::is_read(file, &mut stored, count.saturating_mul(4))?;
     cases::load_values(&stored, &mut values);
-    Ok(values)
+    Ok(is_whole.then_some(values))
 }
 
-// The next bytes, so many, as far as the file has them.
-fn next_row(file: &mut impl Read, count: usize) -> io::Result<[u8; CELLS]> {
+// The next bytes, so many; none where they are more than a list has, or the file ends before.
+fn next_row(file: &mut impl Read, count: usize) -> io::Result<Option<[u8; CELLS]>> {
     let mut row = [0u8; CELLS];
-    cases::is_read(file, &mut row, count)?;
-    Ok(row)
+    let is_whole = cases::is_read(file, &mut row, count)?;
+    Ok(is_whole.then_some(row))
 }
 
-// Was the header read, and are the answer and n those in it? If not, both are told.
-fn is_wanted(rt: &impl Print, wanted: Wanted, answer: Answer, n: usize) -> io::Result<bool> {
+// Are these what was stored?
+fn is_same<T: Copy + PartialEq>(stored: Option<[T; CELLS]>, cells: &[T]) -> bool {
+    stored.is_some_and(|stored| stored.starts_with(cells))
+}
+
+// Are the answer and n those in the header? If not, both are told. The printer and the file stay two arguments here and below: each is of
+// a type of its own, which a struct of both would have to name wherever it is lent.
+fn is_wanted(
+    rt: &impl Print,
+    wanted: Wanted,
+    answer: Result<Answer, Refusal>,
+    n: usize,
+) -> io::Result<bool> {
     let reply = wanted.reply;
     let came = Reply::came(reply.number, answer);
-    if wanted.is_whole && came == reply && n == wanted.n {
+    if came == reply && n == wanted.n {
         return Ok(true);
     }
     let after = wanted.n;
@@ -185,7 +186,7 @@ fn is_wanted(rt: &impl Print, wanted: Wanted, answer: Answer, n: usize) -> io::R
     Ok(false)
 }
 
-// The stored call.
+// The stored call; a file holds bytes.
 fn call_of(call: u8, number: usize) -> Call {
     match call {
         1 => Call::Start,
@@ -199,72 +200,54 @@ fn call_of(call: u8, number: usize) -> Call {
     }
 }
 
-// The next header of a call.
-fn next_wanted(file: &mut impl Read) -> io::Result<Wanted> {
-    let mut head = [0u8; 32];
-    let is_whole = cases::is_read(file, &mut head, 32)?;
-    let call = call_of(head[0], cases::number::<8>(&head, 8));
+// What the header of a call wants; none where its answer has no form.
+fn wanted_of(head: &[u8; 32]) -> Option<Wanted> {
+    let form = FORMS.get(usize::from(head[1]))?;
+    let call = call_of(head[0], cases::number::<8>(head, 8));
     let reply = Reply {
-        form: head[1],
-        number: cases::number::<8>(&head, 16),
-        looked: cases::number::<2>(&head, 2),
+        form: *form,
+        number: cases::number::<8>(head, 16),
+        looked: cases::number::<2>(head, 2),
     };
-    Ok(Wanted {
-        is_whole,
+    Some(Wanted {
         call,
         reply,
-        n: cases::number::<8>(&head, 24),
+        n: cases::number::<8>(head, 24),
     })
 }
 
-// All that a run is lent.
-#[derive(Drop)]
-struct Lent<'a> {
-    values: &'a mut [i32],
-    marks: &'a mut [u8],
-    history: &'a mut [u8],
-    n: usize,
-    buffer: &'a mut [u8],
+// Reads the store after a call, all of it; is everything lent as in it? If not, that is told.
+fn is_left(rt: &impl Print, file: &mut impl Read, store: &Store<'_>) -> io::Result<bool> {
+    let values = next_values(file, store.values.len())?;
+    let marks = next_row(file, store.marks.len())?;
+    let history = next_row(file, store.history.len())?;
+    let buffer = next_row(file, store.buffer.len())?;
+    let is_same = is_same(values, store.values)
+        && is_same(marks, store.marks)
+        && is_same(history, store.history)
+        && is_same(buffer, store.buffer);
+    if !is_same {
+        print!(rt; "a value, a mark, an entry or a byte of the buffer is another; ")?;
+    }
+    Ok(is_same)
 }
 
-impl Lent<'_> {
-    // Carries out a call.
-    fn perform(&mut self, call: Call, model: &[u8]) -> Answer {
-        run::perform(
-            call,
-            model,
-            self.values,
-            self.marks,
-            self.history,
-            &mut self.n,
-            self.buffer,
-        )
-    }
-
-    // Reads the store after a call, all of it; is everything lent as in it? If not, that is told.
-    fn is_left(&self, rt: &impl Print, file: &mut impl Read) -> io::Result<bool> {
-        let is_same = is_next_values(file, self.values)?
-            & is_next_row(file, self.marks)?
-            & is_next_row(file, self.history)?
-            & is_next_row(file, self.buffer)?;
-        if !is_same {
-            print!(rt; "a value, a mark, an entry or a byte of the buffer is another; ")?;
-        }
-        Ok(is_same)
-    }
-
-    // Carries out the next call of the file: are its answer, and all that is left, as stored?
-    fn is_next_same(
-        &mut self,
-        rt: &impl Print,
-        file: &mut impl Read,
-        model: &[u8],
-    ) -> io::Result<bool> {
-        let wanted = next_wanted(file)?;
-        let answer = self.perform(wanted.call, model);
-        let is_answered = is_wanted(rt, wanted, answer, self.n)?;
-        Ok(self.is_left(rt, file)? & is_answered)
-    }
+// Carries out the next call of the file: are its answer, and all that is left, as stored? False where the file has no such call.
+fn is_next_same(
+    rt: &impl Print,
+    file: &mut impl Read,
+    model: &[u8],
+    store: &mut Store<'_>,
+) -> io::Result<bool> {
+    let Some(head): Option<[u8; 32]> = cases::next_bytes(file)? else {
+        return Ok(false);
+    };
+    let Some(wanted) = wanted_of(&head) else {
+        return Ok(false);
+    };
+    let answer = run::perform(wanted.call, model, store);
+    let is_answered = is_wanted(rt, wanted, answer, store.n)?;
+    Ok(is_left(rt, file, store)? & is_answered)
 }
 
 impl Tally {
@@ -304,11 +287,11 @@ fn all_calls(
     file: &mut impl Read,
     calls: usize,
     model: &[u8],
-    mut run: Lent<'_>,
+    mut store: Store<'_>,
     mut tally: Tally,
 ) -> io::Result<Tally> {
     for _ in 0..calls {
-        let is_same = run.is_next_same(rt, file, model)?;
+        let is_same = is_next_same(rt, file, model, &mut store)?;
         tally = tally.counted(rt, is_same)?;
     }
     Ok(tally)
@@ -334,18 +317,18 @@ fn one_list(
     let places = length_at(head, 10);
     let copied = length_at(head, 12);
     let held = length_at(head, 16);
-    let mut values = next_values(file, variables)?;
-    let mut marks = next_row(file, held)?;
-    let mut history = next_row(file, places)?;
-    let mut buffer = next_row(file, copied)?;
-    let run = Lent {
+    let mut values = next_values(file, variables)?.unwrap_or([0; CELLS]);
+    let mut marks = next_row(file, held)?.unwrap_or([0; CELLS]);
+    let mut history = next_row(file, places)?.unwrap_or([0; CELLS]);
+    let mut buffer = next_row(file, copied)?.unwrap_or([0; CELLS]);
+    let store = Store {
         values: &mut values[..variables],
         marks: &mut marks[..held],
         history: &mut history[..places],
         n: cases::number::<8>(head, 24),
         buffer: &mut buffer[..copied],
     };
-    all_calls(rt, file, cases::number::<2>(head, 14), model, run, tally)
+    all_calls(rt, file, cases::number::<2>(head, 14), model, store, tally)
 }
 
 // Reads the model of a list and the twin, and carries the list out on one of them. A list whose models do not fit differs.
@@ -373,6 +356,7 @@ fn next_list(
 // All lists of data/cases, on the models or on their twins, with the tally before them.
 fn carried_out<R: Files + Print>(rt: &R, of_twin: bool, mut tally: Tally) -> io::Result<Tally> {
     let mut file = File::open(rt, "cases")?;
+    // It ends with the file; the number of turns is there since every function must end, whatever is read.
     for _ in 0..u64::MAX {
         let Some(head): Option<[u8; 32]> = cases::next_bytes(&mut file)? else {
             break;

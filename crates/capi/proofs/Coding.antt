@@ -1,15 +1,12 @@
 -- The code and the results of an answer, from what the function of crate `run` promises.
 use mathlib.Core.Path.{◌≡◌, refl, sym, ap, ap₂, ◌∙◌, subst}
 use mathlib.Core.List.{List, []}
-use types.Run.{OneOf}
-use denote.Enum.Declared.{tag_of}
 use Prim.Native.Nat.{ℕ, zero, suc, ◌≤◌}
 use native.Mathlib.Omega.{arith}
-use mir.Syntax.{w32}
-use mir.Val.{to_z, of_z, SFits}
-use mir.ValLaws.{to_z-of_z}
 use lib.IntN.{ℤ}
-use Rattle.std.specs.Prelude.{Option}
+use Rattle.std.specs.Prelude.{Option, Result, Ok, Err}
+use Rattle.results.specs.declared.refusal.Refusal.{Refusal}
+use Rattle.results.specs.Refusals.{number_of}
 use Rattle.results.specs.Results.{answered}
 use Rattle.model.specs.declared.Sizes.{Sizes}
 use Rattle.model.specs.Trees.{System}
@@ -17,19 +14,15 @@ use Rattle.model.specs.Check.{Verdict, verdict}
 use Rattle.model.specs.Check.Verdict.{refusal, accepted}
 use Rattle.semantics.specs.Meanings.{Meaning, meaning_of}
 use Rattle.standing.specs.declared.RangeCheck.{RangeCheck}
-use Rattle.steps.specs.declared.Answer as declared
-use Rattle.steps.specs.declared.Answer.TheVariants.{Refused, Picked, Outside}
-use Rattle.steps.specs.contracts.Answer.{the_type}
-use Rattle.steps.proofs.Tags.{none_of_pick, none_of_range_check}
 use Rattle.standing.specs.Runs.{Run, Answer, Done, run}
-use Rattle.standing.specs.Runs.Answer.{rounds}
-use Rattle.steps.specs.Answers.{seen, on_file}
+use Rattle.standing.specs.Runs.Answer.{rounds, done, number, picked}
+use Rattle.steps.specs.Answers.{seen_as, on_file}
+use Rattle.inspection.specs.Asked.{told_outside}
 use Rattle.steps.specs.Calls as calls
 use Rattle.run.specs.Lists.{CountWithin, CountBounded}
 use Rattle.run.specs.Promises.{StartPromise, FirePromise, UndoPromise, MarksPromise, ValuePromise, PickPromise, FirstOutsidePromise}
 use Rattle.run.proofs.Cases.{start_cases, fire_cases}
-use Rattle.capi.proofs.Forms.{no_pick, no_range_check}
-use Rattle.capi.specs.Codes.{code_of, rounds_or, number_or, found_over, picked_or, coded_by, coded_rounds, coded_number, coded_pick, outside_or, coded_outside}
+use Rattle.capi.specs.Codes.{code_of, code_in, value_or, rounds_or, number_or, found_over, picked_or, coded_by, coded_rounds, coded_number, coded_pick, outside_or, coded_outside}
 use Rattle.capi.specs.Promises.{CellBounded, StartCoded, FireCoded, UndoCoded, MarksCoded, ValueCoded, PickCoded, FirstOutsideCoded}
 
 -- a code 0 is that of a round count
@@ -65,15 +58,41 @@ module _ (f : Meaning → Done Run) (counts : (m : Meaning) → Counts (f m).ans
   rounds_coded : (v : Verdict) → answered a left ≡ on_file v f r → answered code (left, count) ≡ coded_rounds old (on_file v f r)
   rounds_coded v e = ap₂ (λ c k. answered c (left, k)) coded counted ∙ ap (coded_rounds old) e
 
-module _ (m : List ℕ) (old code count : ℕ) (r : declared.Answer) (coded : code ≡ code_of (seen r)) (counted : count ≡ rounds_or old (seen r)) where
+-- ---- the answers of the code
+
+-- an answer whose values have the code 0
+code_seen : {A : Type 0} (f : A → Answer) → ((a : A) → code_of (f a) ≡ 0) → (r : Result A Refusal) → code_in r ≡ code_of (seen_as f r)
+unfolding code_in code_of
+code_seen f none (Ok a) = sym (none a)
+code_seen f none (Err k) = refl
+
+rounds_seen : (old : ℕ) (r : Result ℕ Refusal) → value_or old r ≡ rounds_or old (seen_as rounds r)
+unfolding value_or rounds_or
+rounds_seen old (Ok n) = refl
+rounds_seen old (Err k) = refl
+
+number_seen : (old : ℤ) (r : Result ℤ Refusal) → value_or old r ≡ number_or old (seen_as number r)
+unfolding value_or number_or
+number_seen old (Ok v) = refl
+number_seen old (Err k) = refl
+
+coded_seen : {A : Type 0} (f : A → Answer) → ((a : A) → code_of (f a) ≡ 0) → (r : Result A Refusal) {code : ℕ} → code ≡ code_in r → code ≡ code_of (seen_as f r)
+coded_seen f none r e = e ∙ code_seen f none r
+
+rounds_code : (r : Result ℕ Refusal) {code : ℕ} → code ≡ code_in r → code ≡ code_of (seen_as rounds r)
+unfolding code_of
+rounds_code r e = coded_seen rounds (λ n. refl) r e
+
+-- start and fire
+module _ (m : List ℕ) (old code count : ℕ) (r : Result ℕ Refusal) (coded : code ≡ code_in r) (counted : count ≡ value_or old r) where
   pub start_coded : (values : List ℤ) (marks : List ℕ) (n : ℕ) (values' : List ℤ) (marks' : List ℕ) (n' : ℕ)
       → StartPromise m values marks n r values' marks' n' → StartCoded m values marks n old code values' marks' n' count
   start_coded values marks n values' marks' n' p = (
     λ history.
         rounds_coded (λ m. calls.start m (run values marks history n)) (λ m. start_counts m (run values marks history n)) (run values marks history n)
-        (run values' marks' history n') (seen r) old code count coded counted (verdict m) (p.0 history),
+        (run values' marks' history n') (seen_as rounds r) old code count (rounds_code r coded) (counted ∙ rounds_seen old r) (verdict m) (p.0 history),
     rounds_bounded (λ m. calls.start m (run values marks [] n)) (λ m. start_counts m (run values marks [] n)) (run values marks [] n)
-        (run values' marks' [] n') (seen r) old code count coded counted (verdict m) (p.0 []) p.1,
+        (run values' marks' [] n') (seen_as rounds r) old code count (rounds_code r coded) (counted ∙ rounds_seen old r) (verdict m) (p.0 []) p.1,
   )
 
   pub fire_coded : (values : List ℤ) (marks history : List ℕ) (n t : ℕ) (values' : List ℤ) (marks' history' : List ℕ) (n' : ℕ)
@@ -81,63 +100,62 @@ module _ (m : List ℕ) (old code count : ℕ) (r : declared.Answer) (coded : co
       → FireCoded m values marks history n t old code values' marks' history' n' count
   fire_coded values marks history n t values' marks' history' n' p = (
     rounds_coded (λ m. calls.fire m t (run values marks history n)) (λ m. fire_counts m (run values marks history n) t) (run values marks history n)
-        (run values' marks' history' n') (seen r) old code count coded counted (verdict m) p.0,
+        (run values' marks' history' n') (seen_as rounds r) old code count (rounds_code r coded) (counted ∙ rounds_seen old r) (verdict m) p.0,
     rounds_bounded (λ m. calls.fire m t (run values marks history n)) (λ m. fire_counts m (run values marks history n) t) (run values marks history n)
-        (run values' marks' history' n') (seen r) old code count coded counted (verdict m) p.0 p.1,
+        (run values' marks' history' n') (seen_as rounds r) old code count (rounds_code r coded) (counted ∙ rounds_seen old r) (verdict m) p.0 p.1,
   )
 
 -- a call without results
-module _ (m : List ℕ) (code : ℕ) (r : declared.Answer) (coded : code ≡ code_of (seen r)) where
+module _ (m : List ℕ) (code : ℕ) (r : Result (Unit {0}) Refusal) (coded : code ≡ code_in r) where
+  done_code : code ≡ code_of (seen_as (λ _. done) r)
+  unfolding code_of
+  done_code = coded_seen (λ _. done) (λ _. refl) r coded
+
   pub undo_coded : (values : List ℤ) (marks history : List ℕ) (n : ℕ) (values' : List ℤ) (marks' : List ℕ) (n' : ℕ)
       → UndoPromise m values marks history n r values' marks' n' → UndoCoded m values marks history n code values' marks' n'
-  undo_coded values marks history n values' marks' n' p = ap (λ k. answered k (run values' marks' history n')) coded ∙ ap coded_by p
+  undo_coded values marks history n values' marks' n' p = ap (λ k. answered k (run values' marks' history n')) done_code ∙ ap coded_by p
 
   pub marks_coded : (values : List ℤ) (marks history : List ℕ) (n : ℕ) (buffer buffer' : List ℕ)
       → MarksPromise m values marks history n buffer r buffer' → MarksCoded m values marks history n buffer code buffer'
-  marks_coded values marks history n buffer buffer' p = ap (λ k. answered k buffer') coded ∙ ap coded_by p
+  marks_coded values marks history n buffer buffer' p = ap (λ k. answered k buffer') done_code ∙ ap coded_by p
 
--- a call whose result is a number; signed numbers are handed on as their bits
-pub value_coded : (m : List ℕ) (values : List ℤ) (marks history : List ℕ) (n x : ℕ) (old new : ℤ) (code : ℕ) (r : declared.Answer) → SFits w32 old
-    → SFits w32 new → code ≡ code_of (seen r) → new ≡ number_or (to_z w32 (of_z w32 old)) (seen r) → ValuePromise m values marks history n x r
-    → ValueCoded m values marks history n x old code (to_z w32 (of_z w32 new))
-value_coded m values marks history n x old new code r old-fits new-fits coded stored p =
-    ap₂ (λ c v. answered c v) coded (to_z-of_z w32 new new-fits ∙ stored ∙ ap (λ v. number_or v (seen r)) (to_z-of_z w32 old old-fits))
+-- a call whose result is a number
+pub value_coded : (m : List ℕ) (values : List ℤ) (marks history : List ℕ) (n x : ℕ) (old new : ℤ) (code : ℕ) (r : Result ℤ Refusal)
+    → code ≡ code_in r → new ≡ value_or old r → ValuePromise m values marks history n x r
+    → ValueCoded m values marks history n x old code new
+unfolding code_of
+value_coded m values marks history n x old new code r coded stored p =
+    ap₂ (λ c v. answered c v) (coded_seen number (λ v. refl) r coded) (stored ∙ number_seen old r)
     ∙ ap (coded_number old) p
 
 -- pick, by its answer
-module _ (m : List ℕ) (values : List ℤ) (marks history : List ℕ) (n transition found-there : ℕ) (r : declared.Answer)
+module _ (m : List ℕ) (values : List ℤ) (marks history : List ℕ) (n transition found-there : ℕ) (r : Result (Option ℕ) Refusal)
     (p : PickPromise m values marks history n r) where
-  coded : (code transition' found' : ℕ) → coded_pick (transition, found-there) (seen r) ≡ answered code (transition', found')
+  coded : (code transition' found' : ℕ) → coded_pick (transition, found-there) (seen_as picked r) ≡ answered code (transition', found')
       → PickCoded m values marks history n transition found-there code transition' found'
   coded code transition' found' e = sym e ∙ ap (coded_pick (transition, found-there)) p
 
-  pub pick_refused : (k : ℕ) → r ≡ Refused k → PickCoded m values marks history n transition found-there k transition found-there
-  unfolding seen code_of picked_or
-  pick_refused k e = coded k transition found-there (rw e)
+  pub pick_refused : (k : Refusal) → r ≡ Err k → PickCoded m values marks history n transition found-there (number_of k) transition found-there
+  unfolding code_of picked_or
+  pick_refused k e = coded (number_of k) transition found-there (rw e)
 
-  pub pick_handed : (f : Option ℕ) (transition' found' : ℕ) → r ≡ Picked f → found_over transition f ≡ (transition', found')
+  pub pick_handed : (f : Option ℕ) (transition' found' : ℕ) → r ≡ Ok f → found_over transition f ≡ (transition', found')
       → PickCoded m values marks history n transition found-there 0 transition' found'
-  unfolding seen code_of picked_or
+  unfolding code_of picked_or
   pick_handed f transition' found' e q = coded 0 transition' found' (rw e (ap (answered 0) q))
 
-  pub pick_other : OneOf none_of_pick (tag_of the_type r) → PickCoded m values marks history n transition found-there 0 transition found-there
-  pick_other h = coded 0 transition found-there (no_pick (transition, found-there) r h)
-
 -- first outside, by its answer
-module _ (m : List ℕ) (values : List ℤ) (variable found-there looked : ℕ) (r : declared.Answer) (p : FirstOutsidePromise m values r) where
+module _ (m : List ℕ) (values : List ℤ) (variable found-there looked : ℕ) (r : Result RangeCheck Refusal) (p : FirstOutsidePromise m values r) where
   coded_cells : (code variable' found' looked' : ℕ)
-      → coded_outside ((variable, found-there), looked) (seen r) ≡ answered code ((variable', found'), looked')
+      → coded_outside ((variable, found-there), looked) (seen_as told_outside r) ≡ answered code ((variable', found'), looked')
       → FirstOutsideCoded m values variable found-there looked code variable' found' looked'
   coded_cells code variable' found' looked' e = sym e ∙ ap (coded_outside ((variable, found-there), looked)) p
 
-  pub range_refused : (k : ℕ) → r ≡ Refused k → FirstOutsideCoded m values variable found-there looked k variable found-there looked
-  unfolding seen code_of outside_or
-  range_refused k e = coded_cells k variable found-there looked (rw e)
+  pub range_refused : (k : Refusal) → r ≡ Err k → FirstOutsideCoded m values variable found-there looked (number_of k) variable found-there looked
+  unfolding code_of outside_or
+  range_refused k e = coded_cells (number_of k) variable found-there looked (rw e)
 
-  pub range_handed : (c : RangeCheck) (variable' found' : ℕ) → r ≡ Outside c → found_over variable c.outside ≡ (variable', found')
+  pub range_handed : (c : RangeCheck) (variable' found' : ℕ) → r ≡ Ok c → found_over variable c.outside ≡ (variable', found')
       → FirstOutsideCoded m values variable found-there looked 0 variable' found' c.looked
-  unfolding seen code_of outside_or
+  unfolding code_of outside_or
   range_handed c variable' found' e q = coded_cells 0 variable' found' c.looked (rw e (ap (λ p. answered 0 (p, c.looked)) q))
-
-  pub range_other : OneOf none_of_range_check (tag_of the_type r) → FirstOutsideCoded m values variable found-there looked 0 variable found-there looked
-  range_other h = coded_cells 0 variable found-there looked (no_range_check ((variable, found-there), looked) r h)

@@ -1,6 +1,5 @@
 -- Laws that the proofs of the functions cite, and the theorem.
 pub mod Coding
-pub mod Forms
 pub mod Reached
 pub mod Results
 pub mod Sizing

@@ -1,13 +1,13 @@
 -- The five sizes in their cells: they fit, they are within, and the rest stays.
 use mathlib.Core.Path.{◌≡◌, refl, sym, ap, ◌∙◌, subst}
 use mathlib.Core.Bool.{Bool, cond}
-use mathlib.Core.List.{List, [], ◌∷◌}
+use mathlib.Core.List.{List, ◌++◌}
 use Prim.Native.Nat.{ℕ, ◌≤◌, ◌<◌}
 use native.Mathlib.Omega.{arith}
 use borrow.Author.Tests.{lt-ltb, le-ltb}
 use mir.Syntax.{w8}
 use mir.Val.{Fits}
-use lib.ListN.{length, get_or, set}
+use lib.ListN.{length, get_or, drop}
 use Rattle.results.specs.Results.{answered, over}
 use Rattle.model.specs.declared.Sizes.{Sizes}
 use Rattle.std.proofs.Common.{Result, Ok, Err}
@@ -39,33 +39,22 @@ module _ (m : List ℕ) (bytes : (i : ℕ) → Fits w8 (get_or m i 0)) (r : Resu
 
 -- ---- the cells
 
-abbrev written : List ℕ → Sizes → List ℕ
-written old z = set (set (set (set (set old 0 z.states) 1 z.flows) 2 z.events) 3 z.transitions) 4 z.nodes
-
-written_cells : (old : List ℕ) (z : Sizes) → size_cells ≤ length old → written old z ≡ over (cells_of z) old
-written_cells [] z h = absurd (omega arith)
-written_cells (a ∷ []) z h = absurd (omega arith)
-written_cells (a ∷ b ∷ []) z h = absurd (omega arith)
-written_cells (a ∷ b ∷ c ∷ []) z h = absurd (omega arith)
-written_cells (a ∷ b ∷ c ∷ d ∷ []) z h = absurd (omega arith)
-written_cells (a ∷ b ∷ c ∷ d ∷ e ∷ rest) z h = refl
-
 -- the check's answer is that of the file
 module _ (m old : List ℕ) (r : Result Sizes Refusal) (e : r ≡ answer_of (verdict m)) where
   pub check_refused : (k : Refusal) → r ≡ Err k → CheckCoded m old (number_of k) old
-  unfolding coded_sizes seen_check
+  unfolding coded_sizes
   check_refused k q = ap (λ r. coded_sizes old (seen_check r)) (sym q ∙ e)
 
   module _ (z : Sizes) (q : r ≡ Ok z) where
     pub check_short : length old < size_cells → CheckCoded m old 10 old
-    unfolding coded_sizes seen_check
+    unfolding coded_sizes
     check_short h =
         sym (ap (λ (b : Bool). cond b (answered 10 old) (answered 0 (over (cells_of z) old))) (lt-ltb (length old) size_cells h))
         ∙ ap (λ r. coded_sizes old (seen_check r)) (sym q ∙ e)
 
-    pub check_written : size_cells ≤ length old → CheckCoded m old 0 (written old z)
-    unfolding coded_sizes seen_check
-    check_written h =
-        ap (answered 0) (written_cells old z h)
+    pub check_written : size_cells ≤ length old → {cells : List ℕ} → cells ≡ cells_of z → CheckCoded m old 0 (cells ++ drop size_cells old)
+    unfolding coded_sizes
+    check_written h f =
+        ap (λ c. answered 0 (c ++ drop size_cells old)) f
         ∙ sym (ap (λ (b : Bool). cond b (answered 10 old) (answered 0 (over (cells_of z) old))) (le-ltb (length old) size_cells h))
         ∙ ap (λ r. coded_sizes old (seen_check r)) (sym q ∙ e)

@@ -7,8 +7,6 @@ use Rattle.standing.specs.Runs.{Answer, Done}
 use Rattle.standing.specs.Runs.Answer.{refused, rounds, done, number, sizes, picked, outside}
 use Rattle.results.specs.declared.refusal.Refusal.{Refusal}
 use Rattle.results.specs.Refusals.{number_of}
-use Rattle.synchronisation.specs.declared.Synchronised.{Synchronised}
-use Rattle.synchronisation.specs.declared.Synchronised.TheVariants as synchronised
 
 -- the number of the refusal, else 0
 unfoldable pub code_of : Answer → ℕ
@@ -108,30 +106,16 @@ outside_or old (outside x looked) = (found_over old.0.0 x, looked)
 abbrev pub coded_outside : (ℕ × ℕ) × ℕ → Answer → Answered ℕ ((ℕ × ℕ) × ℕ)
 coded_outside old a = answered (code_of a) (outside_or old a)
 
--- a text's answer: the number of the refusal, else 0
-unfoldable pub code_of_text : Result ℕ Refusal → ℕ
-code_of_text (Err r) = number_of r
-code_of_text (Ok n) = 0
+-- the number of the refusal, else 0
+unfoldable pub code_in : {A : Type 0} → Result A Refusal → ℕ
+code_in (Err r) = number_of r
+code_in (Ok a) = 0
 
--- how many nodes were written, else what stood there
-unfoldable pub nodes_or : ℕ → Result ℕ Refusal → ℕ
-nodes_or old (Err r) = old
-nodes_or old (Ok n) = n
+-- the value where there is one, else what stood there
+unfoldable pub value_or : {A : Type 0} → A → Result A Refusal → A
+value_or old (Err r) = old
+value_or old (Ok a) = a
 
--- a call whose result is a count of nodes, over what stood there: text
-abbrev pub coded_text : {A : Type 0} → ℕ → Answered (Result ℕ Refusal) A → Answered ℕ (A × ℕ)
-coded_text = coded_result code_of_text nodes_or
-
--- the answer of synchronise: the number of the refusal, else 0
-unfoldable pub code_of_synchronised : Synchronised → ℕ
-code_of_synchronised (synchronised.Refused n) = n
-code_of_synchronised (synchronised.Length n) = 0
-
--- the new model's length in bytes, else what stood there
-unfoldable pub length_or : ℕ → Synchronised → ℕ
-length_or old (synchronised.Refused n) = old
-length_or old (synchronised.Length n) = n
-
--- a call whose result is a length, over what stood there: synchronise
-abbrev pub coded_length : {A : Type 0} → ℕ → Answered Synchronised A → Answered ℕ (A × ℕ)
-coded_length = coded_result code_of_synchronised length_or
+-- a call whose result is a count, over what stood there: the nodes of a text, the bytes of a new model
+abbrev pub coded_count : {A : Type 0} → ℕ → Answered (Result ℕ Refusal) A → Answered ℕ (A × ℕ)
+coded_count = coded_result code_in value_or

@@ -10,7 +10,7 @@ use Rattle.inspection.specs.Queries as queries
 use Rattle.run.specs.Promises.{seen_check}
 use Rattle.texts.specs.Texts.{slices, typed_in}
 use Rattle.synchronisation.specs.Synchronisations.{synchronised_by}
-use Rattle.capi.specs.Codes.{coded_by, coded_rounds, coded_number, coded_sizes, coded_pick, coded_outside, coded_text, coded_length}
+use Rattle.capi.specs.Codes.{coded_by, coded_rounds, coded_number, coded_sizes, coded_pick, coded_outside, coded_count}
 
 -- the cell of the round count, by the code. 01: "so it is at most F + 1"
 unfoldable pub CellBounded : Verdict → ℕ → ℕ → Type 0
@@ -60,8 +60,8 @@ FirstOutsideCoded m values variable found looked code variable' found' looked' =
 
 abbrev pub TextCoded : List ℕ → List ℕ → List ℕ → List ℤ → ℕ → ℕ → List ℕ → List ℤ → ℕ → Type 0
 TextCoded m text kinds parameters count code kinds' parameters' count' =
-    answered code (slices kinds' parameters', count') ≡ coded_text count (typed_in (verdict m) text (slices kinds parameters))
+    answered code (slices kinds' parameters', count') ≡ coded_count count (typed_in (verdict m) text (slices kinds parameters))
 
 abbrev pub SynchroniseCoded : List ℕ → List ℕ → List ℕ → List ℕ → ℕ → ℕ → List ℕ → ℕ → Type 0
 SynchroniseCoded m mandatory optional out new_length code out' new_length' =
-    answered code (out', new_length') ≡ coded_length new_length (synchronised_by (verdict m) mandatory optional out)
+    answered code (out', new_length') ≡ coded_count new_length (synchronised_by (verdict m) mandatory optional out)

@@ -3,57 +3,37 @@
 #![tactic(auto)]
 
 ghost use Rattle.std.specs.Prelude.{◌≡◌};
-ghost use Rattle.steps.specs.Answers.{seen};
-ghost use Rattle.capi.specs.Codes.{code_of, rounds_or, number_or, found_over};
+ghost use Rattle.capi.specs.Codes.{code_in, value_or, found_over};
 ghost use Rattle.capi.specs.Promises.{CheckCoded, StartCoded, FireCoded, UndoCoded, MarksCoded, ValueCoded, PickCoded, FirstOutsideCoded, TextCoded, SynchroniseCoded};
 
-use steps::Answer;
-use synchronisation::Synchronised;
+use results::Refusal;
 
-// The cells of the sizes S F E T N.
-const STATES: usize = 0;
-
-const FLOWS: usize = 1;
-
-const EVENTS: usize = 2;
-
-const TRANSITIONS: usize = 3;
-
-const NODES: usize = 4;
-
-// How many they are.
+// How many sizes a model has.
 const SIZE_CELLS: usize = 5;
 
 // The code of an answer: the number of the refusal, else 0.
-#[tactic(auto, unfolding(crate::specs::Codes::code_of, steps::specs::Answers::seen))]
-fn code_of(answer: Answer) -> u8
-    ensures { result ≡ code_of (seen answer) }
+#[tactic(auto, unfolding(crate::specs::Codes::code_in))]
+fn code(answer: Result<(), Refusal>) -> u8
+    ensures { result ≡ code_in answer }
 {
     match answer {
-        Answer::Refused(number) => number,
-        _ => 0,
+        Err(refusal) => refusal.number(),
+        Ok(()) => 0,
     }
 }
 
-// The round count where one is answered, else what stood there.
-#[tactic(auto, unfolding(crate::specs::Codes::rounds_or, steps::specs::Answers::seen))]
-fn rounds_or(old: usize, answer: Answer) -> usize
-    ensures { result ≡ rounds_or old (seen answer) }
+// The code of an answer, whose value is handed out; where it is refused, what stood there stays.
+#[tactic(auto, unfolding(crate::specs::Codes::code_in, crate::specs::Codes::value_or))]
+fn hand<T: Copy>(answer: Result<T, Refusal>, cell: &mut T) -> u8
+    ensures code { result ≡ code_in answer }
+    ensures value { cell.new ≡ value_or cell.old answer }
 {
     match answer {
-        Answer::Rounds(count) => count,
-        _ => old,
-    }
-}
-
-// The value where one is answered, else what stood there.
-#[tactic(auto, unfolding(crate::specs::Codes::number_or, steps::specs::Answers::seen))]
-fn number_or(old: i32, answer: Answer) -> i32
-    ensures { result ≡ number_or old (seen answer) }
-{
-    match answer {
-        Answer::Number(found) => found,
-        _ => old,
+        Err(refusal) => refusal.number(),
+        Ok(value) => {
+            *cell = value;
+            0
+        }
     }
 }
 
@@ -66,7 +46,7 @@ fn hand_out(place: Option<usize>, cell: &mut usize, found: &mut u8)
     *found = u8::from(place.is_some());
 }
 
-// The five sizes; under 5 cells is 10.
+// The five sizes, S F E T N; under 5 cells is 10.
 #[unsafe(no_mangle)]
 pub extern "C" fn gts_check(model: &[u8], sizes: &mut [u32]) -> u8
     ensures { CheckCoded model.now sizes.old result sizes.new }
@@ -75,13 +55,15 @@ pub extern "C" fn gts_check(model: &[u8], sizes: &mut [u32]) -> u8
         Err(refusal) => refusal.number(),
         Ok(found) => {
             if sizes.len() < SIZE_CELLS {
-                return 10;
+                return Refusal::ShortSlice.number();
             }
-            sizes[STATES] = found.states as u32;
-            sizes[FLOWS] = found.flows as u32;
-            sizes[EVENTS] = found.events as u32;
-            sizes[TRANSITIONS] = found.transitions as u32;
-            sizes[NODES] = found.nodes as u32;
+            sizes[..SIZE_CELLS].copy_from_slice(&[
+                found.states as u32,
+                found.flows as u32,
+                found.events as u32,
+                found.transitions as u32,
+                found.nodes as u32,
+            ]);
             0
         }
     }
@@ -99,10 +81,7 @@ pub extern "C" fn gts_start(
     ensures { StartCoded model.now values.old marks.old n.old rounds.old result
         values.new marks.new n.new rounds.new }
 {
-    let old = *rounds;
-    let answer = run::start(model, values, marks, n);
-    *rounds = rounds_or(old, answer);
-    code_of(answer)
+    hand(run::start(model, values, marks, n), rounds)
 }
 
 // Fire of a transition, with the round count.
@@ -119,10 +98,10 @@ pub extern "C" fn gts_fire(
     ensures { FireCoded model.now values.old marks.old history.old n.old transition rounds.old result
         values.new marks.new history.new n.new rounds.new }
 {
-    let old = *rounds;
-    let answer = run::fire(model, values, marks, history, n, transition);
-    *rounds = rounds_or(old, answer);
-    code_of(answer)
+    hand(
+        run::fire(model, values, marks, history, n, transition),
+        rounds,
+    )
 }
 
 // Undo of the last recorded transition.
@@ -137,7 +116,7 @@ pub extern "C" fn gts_undo(
     ensures { UndoCoded model.now values.old marks.old history.now n.old result
         values.new marks.new n.new }
 {
-    code_of(run::undo(model, values, marks, history, n))
+    code(run::undo(model, values, marks, history, n))
 }
 
 // The marks that the run holds, copied, whatever its guards come to; start, fire and undo leave those of the guards.
@@ -152,7 +131,7 @@ pub extern "C" fn gts_marks(
 ) -> u8
     ensures { MarksCoded model.now values.now marks.now history.now n buffer.old result buffer.new }
 {
-    code_of(run::marks(model, values, marks, history, n, buffer))
+    code(run::marks(model, values, marks, history, n, buffer))
 }
 
 // The value of a variable.
@@ -168,10 +147,10 @@ pub extern "C" fn gts_value(
 ) -> u8
     ensures { ValueCoded model.now values.now marks.now history.now n variable value.old result value.new }
 {
-    let old = *value;
-    let answer = run::value(model, values, marks, history, n, variable);
-    *value = number_or(old, answer);
-    code_of(answer)
+    hand(
+        run::value(model, values, marks, history, n, variable),
+        value,
+    )
 }
 
 // The lowest transition whose guard is true: found is 1; where there is none found is 0 and the transition stays.
@@ -189,12 +168,11 @@ pub extern "C" fn gts_pick(
         transition.new found.new }
 {
     match run::pick(model, values, marks, history, n) {
-        Answer::Refused(number) => number,
-        Answer::Picked(picked) => {
+        Err(refusal) => refusal.number(),
+        Ok(picked) => {
             hand_out(picked, transition, found);
             0
         }
-        _ => 0,
     }
 }
 
@@ -212,13 +190,12 @@ pub extern "C" fn gts_first_outside(
         variable.new found.new looked.new }
 {
     match run::first_outside(model, values) {
-        Answer::Refused(number) => number,
-        Answer::Outside(check) => {
+        Err(refusal) => refusal.number(),
+        Ok(check) => {
             *looked = check.looked;
             hand_out(check.outside, variable, found);
             0
         }
-        _ => 0,
     }
 }
 
@@ -234,13 +211,7 @@ pub extern "C" fn gts_text(
     ensures { TextCoded model.now text.now kinds.old parameters.old count.old result
         kinds.new parameters.new count.new }
 {
-    match texts::write_nodes(model, text, kinds, parameters) {
-        Err(refusal) => refusal.number(),
-        Ok(written) => {
-            *count = written;
-            0
-        }
-    }
+    hand(texts::write_nodes(model, text, kinds, parameters), count)
 }
 
 // The model with one transition more, which fires others together, with its length in bytes.
@@ -255,11 +226,6 @@ pub extern "C" fn gts_synchronise(
     ensures { SynchroniseCoded model.now mandatory.now optional.now out.old new_len.old result
         out.new new_len.new }
 {
-    match synchronisation::synchronise(model, mandatory, optional, out) {
-        Synchronised::Refused(number) => number,
-        Synchronised::Length(bytes) => {
-            *new_len = bytes;
-            0
-        }
-    }
+    let answer = synchronisation::synchronise(model, mandatory, optional, out);
+    hand(answer, new_len)
 }

@@ -4,12 +4,12 @@
 
 #![tactic(auto)]
 
-ghost use Rattle.std.specs.Prelude.{true, false, Ok, Some, ◌≡◌, ◌+◌, ◌*◌, ◌^◌, ◌<◌, ◌≤◌, length, take, IfOk, IsTrue, ◌↔◌};
+ghost use Rattle.std.specs.Prelude.{Bool, ℕ, true, false, Ok, Some, ◌≡◌, ◌+◌, ◌*◌, ◌^◌, ◌<◌, ◌≤◌, length, take, IfOk, IsTrue, ◌↔◌};
 ghost use Rattle.std.specs.List.{list_all};
 ghost use Rattle.std.specs.Io.KnownBytes.{Consumes};
 ghost use Rattle.model.specs.Sizes.{little_at};
 ghost use Rattle.model.specs.Check as model;
-ghost use Rattle.cases.specs.Cases.{same_cells, no_cases, counted_in, Tallied};
+ghost use Rattle.cases.specs.Cases.{same_cells, wanted_by, CaseRead, no_cases, counted_in, Tallied};
 
 use std::io::{ErrorKind, Read};
 use std::{fmt, io};
@@ -22,6 +22,7 @@ pub struct Tally {
 }
 
 impl Tally {
+    // No case yet.
     pub fn empty() -> Tally
         ensures { result ≡ no_cases }
     {
@@ -66,9 +67,7 @@ pub fn number<const N: usize>(bytes: &[u8], at: usize) -> usize
     ensures value { result ≡ little_at bytes.now at N }
     ensures upper_bound { result < 256 ^ N }
 {
-    let mut widened = [0u8; 8];
-    widened[..N].copy_from_slice(&bytes[at..at + N]);
-    u64::from_le_bytes(widened) as usize
+    model::header::number(bytes, at, N)
 }
 
 // The signed number in four bytes.
@@ -99,14 +98,37 @@ fn is_filled<T: Copy + PartialEq>(cells: &[T], fill: T) -> bool
 pub fn is_same<T: Copy + PartialEq>(cells: &[T], stored: &[T], fill: T) -> bool
     ensures { result ≡ same_cells T.eq cells.now stored.now fill }
 {
-    let count = stored.len();
-    if cells.len() < count {
-        return false;
+    match cells.strip_prefix(stored) {
+        Some(rest) => is_filled(rest, fill),
+        None => false,
     }
-    if &cells[..count] != stored {
-        return false;
+}
+
+// Are the cells the stored ones, and the fill past them? If not, that is told, with the word for a cell.
+pub fn is_stored<T: Copy + PartialEq>(
+    rt: &impl Print,
+    word: &str,
+    cells: &[T],
+    stored: &[T],
+    fill: T,
+) -> io::Result<bool>
+    ensures { IfOk result (λ is_stored. is_stored ≡ same_cells T.eq cells.now stored.now fill) }
+{
+    let is_same = is_same(cells, stored, fill);
+    if !is_same {
+        print!(rt; "a {word} is another; ")?;
     }
-    is_filled(&cells[count..], fill)
+    Ok(is_same)
+}
+
+// The answer that a header asks for: so much stored, or the number of a refusal, if it is not 0.
+pub fn wanted(refusal: u8, count: usize) -> Result<usize, u8>
+    ensures { result ≡ wanted_by refusal count }
+{
+    match refusal {
+        0 => Ok(count),
+        number => Err(number),
+    }
 }
 
 // Is the answer the stored one, how much was stored or the number of a refusal? If not, both are told.
@@ -151,7 +173,42 @@ pub fn next_bytes<R: Read, const N: usize>(file: &mut R) -> io::Result<Option<[u
 {
     let mut bytes = [0u8; N];
     let is_whole = is_read(file, &mut bytes, N)?;
-    Ok(if is_whole { Some(bytes) } else { None })
+    Ok(is_whole.then_some(bytes))
+}
+
+// Stored cases of one kind, each by its header.
+pub trait Case: Copy + From<[u8; 16]> {
+    ghost size: { Self → ℕ };
+
+    // The length of the body.
+    fn body_length(self) -> usize
+        ensures { result ≡ size self };
+
+    // Runs the case of this body: is the answer, and every cell lent, as stored? What differs is told.
+    fn is_as_stored<R: Print>(self, rt: &R, body: &[u8]) -> io::Result<bool>
+        requires { length body.now ≡ size self };
+}
+
+// Reads one case into the buffer and runs it; none at the end of the file.
+pub fn next_case<C: Case, P: Print, R: Read>(
+    rt: &P,
+    file: &mut R,
+    buffer: &mut [u8],
+) -> io::Result<Option<bool>>
+    ensures { (answer : Bool) → result ≡ Ok (Some answer) → CaseRead C.from_gives C.size (R.remaining file.old) (R.remaining file.new) }
+{
+    let Some(bytes): Option<[u8; 16]> = next_bytes(file)? else {
+        return Ok(None);
+    };
+    let head = C::from(bytes);
+    let length = head.body_length();
+    if !is_read(file, buffer, length)? {
+        return Ok(None);
+    }
+    match buffer.get(..length) {
+        Some(body) => Ok(Some(head.is_as_stored(rt, body)?)),
+        None => Ok(None),
+    }
 }
 
 // The tally of the cases of a file, to its end: `next` reads one and says whether it answered what is stored, or that there is
@@ -164,6 +221,7 @@ fn tallied<R: Print, F: FnMut() -> io::Result<Option<bool>>>(
     ensures { IfOk result (λ tally. (last : F) × Tallied (λ f is_same g. F.step f (Ok (Some is_same)) g) next last tally) }
 {
     let mut tally = Tally::empty();
+    // It ends where no case is left; the number of turns is there since every function must end, whatever is read.
     for _ in 0..u64::MAX {
         let Some(is_same) = next()? else {
             break;

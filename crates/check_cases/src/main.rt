@@ -8,32 +8,73 @@
 
 #![tactic(auto)]
 
+ghost use Rattle.std.specs.Prelude.{◌≡◌, ◌<◌, length};
+
+use cases::Case;
 use model::{Sizes, Sort};
+use results::Refusal;
 use std::fs::File;
 use std::io;
-use std::io::Read;
+use syntax::Tree;
 
-// What the check answers to a case.
-#[derive(Clone, Copy, PartialEq, Eq, Debug)]
-enum Answer {
-    Accepted,
-    Refused(u8),
-    OtherSizes,
-    NoExpression,
+// The most parameters of an expression.
+const PARAMETERS: usize = 6000;
+
+// An expression handed beside a model: its sort, and how many kinds, parameters and bytes of the model stand in the body.
+#[derive(Clone, Copy)]
+struct Expression {
+    sort: Sort,
+    kinds: usize,
+    parameters: usize,
+    model: usize,
+    ghost two_bytes: { (kinds < 65536) × (parameters < 65536) × (model < 65536) },
 }
 
-// As a header has it.
-impl From<Answer> for u8 {
-    fn from(answer: Answer) -> u8 {
-        match answer {
-            Answer::Accepted => 0,
-            Answer::Refused(number) => number,
-            Answer::OtherSizes => 255,
-            Answer::NoExpression => 254,
+// What is checked.
+#[derive(Clone, Copy)]
+enum Part {
+    Model(Sizes),
+    Expression(Expression),
+}
+
+// The header of a case.
+#[derive(Clone, Copy)]
+struct Head {
+    part: Part,
+    refusal: u8,
+    body: usize,
+}
+
+impl From<[u8; 16]> for Head {
+    fn from(bytes: [u8; 16]) -> Head {
+        Head {
+            part: part_of(&bytes),
+            refusal: bytes[1],
+            body: cases::number::<4>(&bytes, 12),
         }
     }
 }
 
+// What is checked, by the bytes of a header.
+fn part_of(bytes: &[u8; 16]) -> Part {
+    match bytes[0] {
+        1 => Part::Model(Sizes {
+            states: cases::number::<2>(bytes, 2),
+            flows: cases::number::<2>(bytes, 4),
+            events: cases::number::<2>(bytes, 6),
+            transitions: cases::number::<2>(bytes, 8),
+            nodes: cases::number::<2>(bytes, 10),
+        }),
+        _ => Part::Expression(Expression {
+            sort: sort_of(bytes[2]),
+            kinds: cases::number::<2>(bytes, 4),
+            parameters: cases::number::<2>(bytes, 6),
+            model: cases::number::<2>(bytes, 8),
+        }),
+    }
+}
+
+// The stored sort.
 fn sort_of(code: u8) -> Sort {
     match code {
         1 => Sort::Boolean,
@@ -41,70 +82,71 @@ fn sort_of(code: u8) -> Sort {
     }
 }
 
-fn is_same_sizes(head: &[u8; 16], sizes: Sizes) -> bool {
-    sizes.states == cases::number::<2>(head, 2)
-        && sizes.flows == cases::number::<2>(head, 4)
-        && sizes.events == cases::number::<2>(head, 6)
-        && sizes.transitions == cases::number::<2>(head, 8)
-        && sizes.nodes == cases::number::<2>(head, 10)
-}
+// The answer of a case is the number of its nodes.
+impl Case for Head {
+    ghost size = { λ head. head.body };
 
-// Of a model.
-fn model_answer(head: &[u8; 16], body: &[u8]) -> Answer {
-    match model::check::check(body) {
-        Err(refusal) => Answer::Refused(refusal.number()),
-        Ok(sizes) if is_same_sizes(head, sizes) => Answer::Accepted,
-        Ok(_) => Answer::OtherSizes,
+    fn body_length(self) -> usize {
+        self.body
     }
-}
 
-// Of an expression handed beside a model.
-fn expression_answer(head: &[u8; 16], body: &[u8]) -> Answer {
-    let mut parameters = [0i32; 6000];
-    let count = cases::number::<2>(head, 6);
-    let kinds = cases::number::<2>(head, 4);
-    let past = kinds + 4 * count;
-    if body.len() != past + cases::number::<2>(head, 8) || parameters.len() < count {
-        return Answer::NoExpression;
-    }
-    let parameters = &mut parameters[..count];
-    cases::load_values(&body[kinds..past], parameters);
-    match decoding::check_expression(&body[past..], &body[..kinds], parameters, sort_of(head[2])) {
-        Err(refusal) => Answer::Refused(refusal.number()),
-        Ok(()) => Answer::Accepted,
+    fn is_as_stored<R: Print>(self, rt: &R, body: &[u8]) -> io::Result<bool> {
+        match self.part {
+            Part::Model(sizes) => self.is_checked(rt, body, sizes),
+            Part::Expression(expression) => self.is_expression_checked(rt, body, expression),
+        }
     }
 }
 
-// Is the answer the stored one? If not, both are told.
-fn is_wanted(rt: &impl Print, answer: u8, wanted: u8) -> io::Result<bool> {
-    if answer == wanted {
-        return Ok(true);
+impl Head {
+    // Checks a model: are the answer and the sizes as stored? If not, that is told.
+    fn is_checked<R: Print>(self, rt: &R, body: &[u8], sizes: Sizes) -> io::Result<bool> {
+        let checked = model::check::check(body);
+        let answer = checked.map(|found| found.nodes).map_err(Refusal::number);
+        if !cases::is_wanted(
+            rt,
+            "nodes",
+            cases::wanted(self.refusal, sizes.nodes),
+            answer,
+        )? {
+            return Ok(false);
+        }
+        let is_other = checked.is_ok_and(|found| found != sizes);
+        if is_other {
+            print!(rt; "a size is another; ")?;
+        }
+        Ok(!is_other)
     }
-    print!(rt; "answers {answer}, wanted {wanted}; ")?;
-    Ok(false)
-}
 
-// Reads one case and runs it; none at the end of the file.
-fn next_case(rt: &impl Print, file: &mut impl Read, buffer: &mut [u8]) -> io::Result<Option<bool>> {
-    let Some(head): Option<[u8; 16]> = cases::next_bytes(file)? else {
-        return Ok(None);
-    };
-    let length = cases::number::<4>(&head, 12);
-    if !cases::is_read(file, buffer, length)? {
-        return Ok(None);
+    // Checks an expression handed beside a model: is the answer as stored? If not, that is told. False where there is no such case.
+    fn is_expression_checked<R: Print>(
+        self,
+        rt: &R,
+        body: &[u8],
+        expression: Expression,
+    ) -> io::Result<bool> {
+        let count = expression.parameters;
+        let past = expression.kinds + 4 * count;
+        if body.len() != past + expression.model || PARAMETERS < count {
+            return Ok(false);
+        }
+        let mut parameters = [0i32; PARAMETERS];
+        let parameters = &mut parameters[..count];
+        let (kinds, rest) = body.split_at(expression.kinds);
+        let (stored, model) = rest.split_at(4 * count);
+        cases::load_values(stored, parameters);
+        let tree = Tree { kinds, parameters };
+        let answer = decoding::check_expression(model, &tree, expression.sort)
+            .map(|()| count)
+            .map_err(Refusal::number);
+        cases::is_wanted(rt, "nodes", cases::wanted(self.refusal, count), answer)
     }
-    let Some(body) = buffer.get(..length) else {
-        return Ok(None);
-    };
-    let answer = match head[0] {
-        1 => model_answer(&head, body),
-        _ => expression_answer(&head, body),
-    };
-    Ok(Some(is_wanted(rt, u8::from(answer), head[1])?))
 }
 
 fn main(rt: HostRuntime) -> io::Result<()> {
     let mut file = File::open(&rt, "cases")?;
     let mut buffer = [0u8; 32768];
-    cases::run(&rt, "cases", || next_case(&rt, &mut file, &mut buffer))
+    cases::run(&rt, "cases", || {
+        cases::next_case::<Head, _, _>(&rt, &mut file, &mut buffer)
+    })
 }

@@ -3,19 +3,18 @@ use mathlib.Core.Path.{◌≡◌, refl, sym, ap, ◌∙◌}
 use mathlib.Core.Bool.{Bool, true, false, cond, ◌&&◌, and-false}
 use mathlib.Core.Logic.{◌⊎◌, inl, inr}
 use mathlib.Core.List.{List, [], ◌∷◌}
-use Prim.Native.Nat.{ℕ, ◌+◌, ◌*◌, ◌-◌, ◌≤◌, ◌<◌, ◌^◌}
-use native.Mathlib.Nat.{lt_of_lt_of_le, pow-le-pow_right}
+use Prim.Native.Nat.{ℕ, ◌-◌, ◌≤◌, ◌<◌}
 use native.Mathlib.Omega.{arith}
 use borrow.Author.Tests.{ltb-true, ltb-false, le-leb, lt-leb, ne_eqb, eqb-true, eqb-false}
 use lib.Dec.{ltb, leb, eqb}
 use lib.ListN.{length, take, drop, get_or, length-drop}
-use lib.Seq.{drop-cons, take_all, length-take-le}
+use lib.Seq.{take_all, length-take-le}
 use Rattle.std.proofs.lemmas.List.{take_rest}
+use Rattle.std.proofs.lemmas.Option.{none-some, cond_some}
 use Rattle.std.specs.Prelude.{Option, Some, None}
 use Rattle.commands.specs.declared.Command.{Command}
 use Rattle.commands.specs.declared.Command.TheVariants.{Fire, Undo, Marks}
-use Rattle.ascii.specs.Ascii.{same, is_digit, are_digits, value_after}
-use Rattle.ascii.proofs.Digits.{next_digit, no_more_digits}
+use Rattle.ascii.specs.Ascii.{same, are_digits, value_after, value_of, capped, number_of}
 use Rattle.ascii.proofs.Sameness.{other_length}
 use Rattle.commands.specs.Commands.{is_number, fire_of, command_of}
 use Rattle.commands.specs.Theorems.{LongLineUnknown, CommandOfFirst}
@@ -57,35 +56,37 @@ command_of_first l = by (ltb 6 (length l)) refl
 
 -- ---- the digits after `f` and a space
 
--- the command of these digits after those that gave n
-abbrev pub number_after : ℕ → List ℕ → Option Command
-number_after n l = cond (are_digits l) (Some (Fire (value_after n l))) None
+-- at most 3 digits are a number below the greatest of 32 bits
+few_digits : (l : List ℕ) → ((i : ℕ) → get_or l i 0 < 256) → length l ≤ 3 → capped (value_of l) ≡ value_of l
+unfolding value_after
+few_digits [] b k = omega arith
+few_digits (x ∷ []) b k = omega (arith, b 0)
+few_digits (x ∷ y ∷ []) b k = omega (arith, b 0, b 1)
+few_digits (x ∷ y ∷ z ∷ []) b k = omega (arith, b 0, b 1, b 2)
+few_digits (x ∷ y ∷ z ∷ w ∷ l) b k = absurd (omega arith)
 
-module _ (l : List ℕ) (n i : ℕ) where
-  -- a byte that is no digit
-  pub other_byte : i < length l → {r : Bool} → r ≡ is_digit (get_or l i 0) → r ≡ false → None ≡ number_after n (drop i l)
-  unfolding are_digits
-  other_byte h d f = rw (drop-cons l i 0 h, sym d ∙ f)
+-- 1 to 3 bytes
+module _ (l : List ℕ) {r : Bool} (e : r ≡ eqb (length l) 0) (f : r ≡ false) (k : length l ≤ 3) where
+  number_fires : fire_of l ≡ cond (are_digits l) (Some (Fire (value_of l))) None
+  unfolding fire_of is_number
+  number_fires =
+      let some : (length l ≡ 0 → ⊥) = eqb-false (length l) 0 (sym e ∙ f) in
+      rw (le-leb 1 (length l) (omega arith), le-leb (length l) 3 k)
 
-  -- a digit
-  pub digit_read : i < length l → 48 ≤ get_or l i 0 → get_or l i 0 ≤ 57
-      → number_after n (drop i l) ≡ number_after (10 * n + (get_or l i 0 - 48)) (drop (i + 1) l)
-  digit_read h low high = let s = next_digit l i n h low high in rw (s.0, s.1)
+  -- not all are digits
+  pub no_number : number_of l ≡ None → None ≡ fire_of l
+  no_number h = by (are_digits l) h ∙ sym number_fires
+    where
+      by : (t : Bool) → cond t (Some (capped (value_of l))) None ≡ None → None ≡ cond t (Some (Fire (value_of l))) None
+      by true g = absurd (none-some _ (sym g))
+      by false g = refl
 
-  -- all are read
-  pub digits_end : length l ≤ i → Some (Fire n) ≡ number_after n (drop i l)
-  digits_end h = let s = no_more_digits l i n h in rw (s.0, s.1)
-
--- so many digits are below a power of 10
-pub few_digits : (i n : ℕ) → i ≤ 3 → n < 10 ^ i → n < 1000
-few_digits i n h b = lt_of_lt_of_le b (pow-le-pow_right (omega arith) h)
-
--- 1 to 3 digits
-pub some_digits : (l : List ℕ) {r : Bool} → r ≡ eqb (length l) 0 → r ≡ false → length l ≤ 3 → number_after 0 l ≡ fire_of l
-unfolding fire_of is_number
-some_digits l e f k =
-    let some : (length l ≡ 0 → ⊥) = eqb-false (length l) 0 (sym e ∙ f) in
-    rw (le-leb 1 (length l) (omega arith), le-leb (length l) 3 k)
+  -- digits
+  pub number_read : ((i : ℕ) → get_or l i 0 < 256) → {v : ℕ} → number_of l ≡ Some v → Some (Fire v) ≡ fire_of l
+  number_read b {v} h =
+      let n = cond_some (are_digits l) (capped (value_of l)) v h in
+      let same : value_of l ≡ v = sym (few_digits l b k) ∙ n.1 in
+      sym (number_fires ∙ rw (n.0, same))
 
 -- ---- lines of one byte
 

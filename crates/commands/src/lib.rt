@@ -23,14 +23,8 @@ fn fire_of(digits: &[u8]) -> Option<Command>
     if digits.is_empty() || MOST_DIGITS < digits.len() {
         return None;
     }
-    let mut value = 0;
-    for &byte in digits {
-        if !byte.is_ascii_digit() {
-            return None;
-        }
-        value = 10 * value + usize::from(byte - b'0');
-    }
-    Some(Command::Fire(value))
+    let value = ascii::number(digits)?;
+    Some(Command::Fire(value as usize))
 }
 
 // The command that a line without its line feed is; none, refusal 13, if it is no command.

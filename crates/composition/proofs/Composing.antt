@@ -4,17 +4,17 @@ use mathlib.Core.Bool.{Bool, true, false, ◌&&◌, and_assoc}
 use mathlib.Core.List.{List, [], ◌∷◌, ◌++◌, map, map-append, append_assoc}
 use Rattle.std.proofs.Common.{Option, Some, slice_get}
 use Rattle.std.proofs.lemmas.Option.{slice_get-get_or, slice_get_past}
-use Prim.Native.Nat.{ℕ, ◌+◌, ◌-◌, ◌≤◌, ◌<◌, min, max}
-use native.Mathlib.Numerals.{add-one}
+use Prim.Native.Nat.{ℕ, ◌+◌, ◌≤◌, ◌<◌, min, max}
 use native.Mathlib.Omega.{arith}
 use borrow.Author.Tests.{lt-ltb, le-ltb}
 use lib.IntN.{pos}
-use lib.ListN.{length, take, drop, get_or, set}
-use lib.Seq.{take-take, take_at, drop_at, length-take-le, take-suc-set}
+use lib.ListN.{length, take, drop, get_or}
+use lib.Seq.{take_at, drop_at, length-take-le}
 use Rattle.kinds.specs.declared.kind.Kind.{Kind}
 use Rattle.kinds.specs.declared.kind.Kind.TheVariants as kind
 use Rattle.kinds.specs.declared.Sort.{Sort}
-use Rattle.kinds.specs.Kinds.{code_of, kind_of, boolean_sort, number_sort, no_sort, same_sort}
+use Rattle.kinds.specs.Kinds.{code_of, kind_of, boolean_sort, number_sort, no_sort}
+use Rattle.kinds.specs.Sameness.{same_sort}
 use Rattle.model.specs.Trees.{Expression, depth_of_expression}
 use Rattle.model.specs.Trees.Expression.{numeral as number, truth as boolean, variable as cell, negation, binary, if_then_else}
 use Rattle.model.specs.Nodes as nodes
@@ -25,21 +25,20 @@ use Rattle.grammar.specs.Phrases.{Phrase}
 use Rattle.grammar.specs.Phrases.Phrase.{numeral, truth, variable, prefixed, operation, call, conditional}
 use Rattle.grammar.specs.Held.{capped}
 use Rattle.composition.specs.declared.Node.{Node}
+use Rattle.composition.specs.declared.list.Nodes.{Nodes}
 use Rattle.composition.specs.declared.Part.{Part}
 use Rattle.composition.specs.Typing.{provided, sort_in, variables_below, prefix_sort, prefixed_by, operation_sort, call_operator, expression_of}
-use Rattle.composition.specs.Parts.{held, cells_of, Holds}
+use Rattle.composition.specs.Parts.{kind_at, held, cells_of, written, Holds}
 use Rattle.composition.specs.Arranging.{plain, operator_cells, arranged}
+use Rattle.composition.proofs.Bytes.{kind_itself}
 use Rattle.composition.proofs.Putting.{front, back, put_before}
 use Rattle.composition.proofs.Operators.{operator_nodes, operator_depth}
 
 -- a part that was made of these
 abbrev pub made : ℕ → ℕ → ℕ → Option Sort → Bool → Part
-made next end depth sort below = record { next = next; end = end; depth = depth; sort = sort; below = below }
+made next from depth sort below = record { next = next; from = from; depth = depth; sort = sort; below = below }
 
 -- ---- one node
-
-stored : (nodes : List Node) (from : ℕ) (x : Node) → from < length nodes → take (from + 1) (set nodes from x) ≡ take from nodes ++ (x ∷ [])
-stored nodes from x h = rw add-one (take-suc-set nodes from x h)
 
 -- a number that is held in 32 bits
 abbrev pub numbered : Kind → ℕ → Node
@@ -49,36 +48,43 @@ same_number : (kind : Kind) (value n : ℕ) → value ≡ capped n → numbered 
 unfolding held
 same_number kind value n e =
     let m : min value 2147483647 ≡ min n 2147483647 = omega (arith, e) in
-    ap (λ (k : ℕ). record { kind = code_of kind; parameter = pos k }) m
+    ap (λ (k : ℕ). record { kind = kind_at (code_of kind); parameter = pos k }) m
 
-module _ (nodes : List Node) (from next number : ℕ) (fits : from < length nodes) where
-  pub number_holds : (vs : List Sort) (n : ℕ) → number ≡ capped n
-      → Holds vs (numeral n) (take from nodes) (set nodes from (numbered kind.Numeral number)) (made next (from + 1) 1 number_sort true)
+module _ (old new : Nodes) (next number : ℕ) (fits : old.count ≤ length old.cells) where
+  begins_at : old.count ≡ length (written old)
+  begins_at = sym (length-take-le old.count old.cells fits)
+
+  pub number_holds : (vs : List Sort) (n : ℕ) → number ≡ capped n → written new ≡ written old ++ (numbered kind.Numeral number ∷ [])
+      → Holds vs (numeral n) (written old) new (made next old.count 1 number_sort true)
   unfolding expression_of sort_in variables_below nodes_of_expression depth_of_expression
-  number_holds vs n e =
+  number_holds vs n e put =
       record {
-        nodes = stored nodes from (numbered kind.Numeral number) fits ∙ ap (λ k. take from nodes ++ (k ∷ [])) (same_number kind.Numeral number n e);
+        begins = begins_at;
+        nodes = put ∙ ap (λ k. written old ++ (k ∷ [])) (same_number kind.Numeral number n e);
         depth = refl;
         sort = refl;
         below = refl;
       }
 
-  pub truth_holds : (vs : List Sort) → Holds vs (truth number) (take from nodes) (set nodes from (numbered kind.Truth number)) (made next (from + 1) 1 boolean_sort true)
+  pub truth_holds : (vs : List Sort) → written new ≡ written old ++ (numbered kind.Truth number ∷ [])
+      → Holds vs (truth number) (written old) new (made next old.count 1 boolean_sort true)
   unfolding expression_of sort_in variables_below nodes_of_expression depth_of_expression
-  truth_holds vs = record { nodes = stored nodes from (numbered kind.Truth number) fits; depth = refl; sort = refl; below = refl }
+  truth_holds vs put = record { begins = begins_at; nodes = put; depth = refl; sort = refl; below = refl }
 
-  module _ (sorts : List Sort) (few : length sorts ≤ 4294967295) (x : ℕ) (e : number ≡ capped x) where
+  module _ (sorts : List Sort) (few : length sorts ≤ 4294967295) (x : ℕ) (e : number ≡ capped x)
+      (put : written new ≡ written old ++ (numbered kind.Variable number ∷ [])) where
     -- of a variable, be there one of its number or not
-    variable_nodes : take (from + 1) (set nodes from (numbered kind.Variable number)) ≡ take from nodes ++ cells_of sorts (variable x)
+    variable_nodes : written new ≡ written old ++ cells_of sorts (variable x)
     unfolding expression_of nodes_of_expression
-    variable_nodes = stored nodes from (numbered kind.Variable number) fits ∙ ap (λ k. take from nodes ++ (k ∷ [])) (same_number kind.Variable number x e)
+    variable_nodes = put ∙ ap (λ k. written old ++ (k ∷ [])) (same_number kind.Variable number x e)
 
     pub known_holds : (d : Sort) → number < length sorts
-        → Holds sorts (variable x) (take from nodes) (set nodes from (numbered kind.Variable number)) (made next (from + 1) 1 (Some (get_or sorts number d)) true)
+        → Holds sorts (variable x) (written old) new (made next old.count 1 (Some (get_or sorts number d)) true)
     unfolding expression_of sort_in variables_below depth_of_expression
     known_holds d h =
         let same : number ≡ x = omega arith in
         record {
+          begins = begins_at;
           nodes = variable_nodes;
           depth = refl;
           sort = sym (slice_get-get_or sorts number d h) ∙ ap (λ k. slice_get sorts k) same;
@@ -86,10 +92,11 @@ module _ (nodes : List Node) (from next number : ℕ) (fits : from < length node
         }
 
     pub unknown_holds : length sorts ≤ number
-        → Holds sorts (variable x) (take from nodes) (set nodes from (numbered kind.Variable number)) (made next (from + 1) 1 no_sort false)
+        → Holds sorts (variable x) (written old) new (made next old.count 1 no_sort false)
     unfolding expression_of sort_in variables_below depth_of_expression
     unknown_holds h =
         record {
+          begins = begins_at;
           nodes = variable_nodes;
           depth = refl;
           sort = sym (slice_get_past sorts x (omega arith));
@@ -100,7 +107,7 @@ module _ (nodes : List Node) (from next number : ℕ) (fits : from < length node
 
 plain_held : (k : Kind) → held (node (code_of k) (pos 0)) ≡ plain k
 unfolding held
-plain_held k = refl
+plain_held k = ap (λ (x : Kind). record { kind = x; parameter = pos 0 }) (kind_itself k)
 
 -- a node of two operands
 binary_nodes : (k : Kind) (l m : List nodes.Node) → map held (node (code_of k) (pos 0) ∷ l ++ m) ≡ plain k ∷ (map held l ++ map held m)
@@ -128,34 +135,35 @@ depth_least (binary op a b) = omega arith
 depth_least (if_then_else c a b) = omega arith
 
 module _ (before : List Node) (from : ℕ) (starts : length before ≡ from) where
-  module _ (vs : List Sort) (p : Phrase) (old : List Node) (part : Part) (holds : Holds vs p before old part) (ends : from ≤ part.end)
+  module _ (vs : List Sort) (p : Phrase) (old : Nodes) (part : Part) (holds : Holds vs p before old part)
       (next : ℕ) (c : Token) (sort : Option Sort) where
-    pub not_holds : (new : List Node) → c ≡ Not → sort ≡ provided (same_sort part.sort boolean_sort) boolean_sort
-        → take (part.end + 1) new ≡ take from old ++ (plain kind.Negation ∷ drop from (take part.end old))
-        → Holds vs (prefixed c p) before new (made next (part.end + 1) (part.depth + 1) sort part.below)
-    unfolding expression_of sort_in variables_below prefix_sort prefixed_by nodes_of_expression depth_of_expression held
+    pub not_holds : (new : Nodes) → c ≡ Not → sort ≡ provided (same_sort part.sort boolean_sort) boolean_sort
+        → written new ≡ take from (written old) ++ (plain kind.Negation ∷ drop from (written old))
+        → Holds vs (prefixed c p) before new (made next from (part.depth + 1) sort part.below)
+    unfolding expression_of sort_in variables_below prefix_sort prefixed_by nodes_of_expression depth_of_expression held kind_at
     not_holds new e s put =
-        subst (λ k. Holds vs (prefixed k p) before new (made next (part.end + 1) (part.depth + 1) sort part.below)) (sym e)
+        subst (λ k. Holds vs (prefixed k p) before new (made next from (part.depth + 1) sort part.below)) (sym e)
         (record {
-          nodes = put_before before from starts old (cells_of vs p) new (plain kind.Negation ∷ []) part.end (part.end + 1) ends holds.nodes put;
+          begins = sym starts;
+          nodes = put_before before from starts (written old) (cells_of vs p) (written new) (plain kind.Negation ∷ []) holds.nodes put;
           depth = ap (λ d. d + 1) holds.depth ∙ omega arith;
           sort = s ∙ ap (λ s. provided (same_sort s boolean_sort) boolean_sort) holds.sort;
           below = holds.below;
         })
 
     -- 0 minus the operand, whose depth is at least that of 0
-    pub minus_holds : (middle new : List Node) → c ≡ Minus → sort ≡ provided (same_sort part.sort number_sort) number_sort
-        → take (part.end + 1) middle ≡ take from old ++ (plain kind.Numeral ∷ drop from (take part.end old))
-        → take (part.end + 1 + 1) new ≡ take from middle ++ (plain kind.Difference ∷ drop from (take (part.end + 1) middle))
-        → Holds vs (prefixed c p) before new (made next (part.end + 2) (part.depth + 1) sort part.below)
-    unfolding expression_of sort_in variables_below prefix_sort prefixed_by nodes_of_expression depth_of_expression held kind_of
+    pub minus_holds : (middle new : Nodes) → c ≡ Minus → sort ≡ provided (same_sort part.sort number_sort) number_sort
+        → written middle ≡ take from (written old) ++ (plain kind.Numeral ∷ drop from (written old))
+        → written new ≡ take from (written middle) ++ (plain kind.Difference ∷ drop from (written middle))
+        → Holds vs (prefixed c p) before new (made next from (part.depth + 1) sort part.below)
+    unfolding expression_of sort_in variables_below prefix_sort prefixed_by nodes_of_expression depth_of_expression held kind_of kind_at
     minus_holds middle new e s first second =
-        let one = put_before before from starts old (cells_of vs p) middle (plain kind.Numeral ∷ []) part.end (part.end + 1) ends holds.nodes first in
-        let two = put_before before from starts middle (plain kind.Numeral ∷ cells_of vs p) new (plain kind.Difference ∷ []) (part.end + 1) (part.end + 1 + 1) (omega arith) one second in
-        let sum : part.end + 2 ≡ part.end + 1 + 1 = omega arith in
-        subst (λ k. Holds vs (prefixed k p) before new (made next (part.end + 2) (part.depth + 1) sort part.below)) (sym e)
+        let one = put_before before from starts (written old) (cells_of vs p) (written middle) (plain kind.Numeral ∷ []) holds.nodes first in
+        let two = put_before before from starts (written middle) (plain kind.Numeral ∷ cells_of vs p) (written new) (plain kind.Difference ∷ []) one second in
+        subst (λ k. Holds vs (prefixed k p) before new (made next from (part.depth + 1) sort part.below)) (sym e)
         (record {
-          nodes = ap (λ k. take k new) sum ∙ two;
+          begins = sym starts;
+          nodes = two;
           depth = ap (λ d. d + 1) holds.depth ∙ omega (arith, depth_least (expression_of vs p));
           sort = s ∙ ap (λ s. provided (same_sort s number_sort) number_sort) holds.sort;
           below = holds.below;
@@ -163,10 +171,11 @@ module _ (before : List Node) (from : ℕ) (starts : length before ≡ from) whe
 
     -- no node more
     pub plus_holds : (c ≡ Not → ⊥) → (c ≡ Minus → ⊥) → sort ≡ provided (same_sort part.sort number_sort) number_sort
-        → Holds vs (prefixed c p) before old (made next part.end part.depth sort part.below)
+        → Holds vs (prefixed c p) before old (made next from part.depth sort part.below)
     unfolding expression_of sort_in variables_below
     plus_holds g h s =
         record {
+          begins = sym starts;
           nodes = rw (no_prefix c (expression_of vs p) g h) holds.nodes;
           depth = rw (no_prefix c (expression_of vs p) g h) holds.depth;
           sort = s ∙ ap (λ s. provided (same_sort s number_sort) number_sort) holds.sort ∙ number_prefix c (sort_in vs p) g;
@@ -174,11 +183,11 @@ module _ (before : List Node) (from : ℕ) (starts : length before ≡ from) whe
         }
 
   -- two parts, the second after the first
-  module _ (vs : List Sort) (p q : Phrase) (cells old : List Node) (left right : Part)
-      (first : Holds vs p before cells left) (second : Holds vs q (take left.end cells) old right)
+  module _ (vs : List Sort) (p q : Phrase) (cells old : Nodes) (left right : Part)
+      (first : Holds vs p before cells left) (second : Holds vs q (written cells) old right)
       (next : ℕ) (c : Token) (depth : ℕ) (sort : Option Sort) (below : Bool) (isDepth : depth ≡ max left.depth right.depth) (isBelow : below ≡ (left.below && right.below)) where
     -- both parts' cells
-    both : take right.end old ≡ before ++ (cells_of vs p ++ cells_of vs q)
+    both : written old ≡ before ++ (cells_of vs p ++ cells_of vs q)
     both = second.nodes ∙ ap (λ l. l ++ cells_of vs q) first.nodes ∙ append_assoc before (cells_of vs p) (cells_of vs q)
 
     both_below : below ≡ (variables_below (length vs) p && variables_below (length vs) q)
@@ -187,15 +196,16 @@ module _ (before : List Node) (from : ℕ) (starts : length before ≡ from) whe
     both_depth : depth ≡ max (depth_of_expression (expression_of vs p)) (depth_of_expression (expression_of vs q))
     both_depth = isDepth ∙ ap (λ d. max d right.depth) first.depth ∙ ap (max (depth_of_expression (expression_of vs p))) second.depth
 
-    pub call_holds : (kind : Kind) (new : List Node) → from ≤ right.end → code_of kind ≡ kind_of (call_operator c)
+    pub call_holds : (kind : Kind) (new : Nodes) → code_of kind ≡ kind_of (call_operator c)
         → sort ≡ provided (same_sort left.sort number_sort && same_sort right.sort number_sort) number_sort
-        → take (right.end + 1) new ≡ take from old ++ (plain kind ∷ drop from (take right.end old))
-        → Holds vs (call c p q) before new (made next (right.end + 1) (depth + 1) sort below)
+        → written new ≡ take from (written old) ++ (plain kind ∷ drop from (written old))
+        → Holds vs (call c p q) before new (made next from (depth + 1) sort below)
     unfolding expression_of sort_in variables_below nodes_of_expression depth_of_expression
-    call_holds kind new h k s put =
+    call_holds kind new k s put =
         record {
+          begins = sym starts;
           nodes =
-              put_before before from starts old (cells_of vs p ++ cells_of vs q) new (plain kind ∷ []) right.end (right.end + 1) h both put
+              put_before before from starts (written old) (cells_of vs p ++ cells_of vs q) (written new) (plain kind ∷ []) both put
               ∙ ap (λ l. before ++ l)
               (sym (binary_nodes kind (nodes_of_expression (expression_of vs p)) (nodes_of_expression (expression_of vs q)))
               ∙ ap (λ n. map held (node n (pos 0) ∷ nodes_of_expression (expression_of vs p) ++ nodes_of_expression (expression_of vs q))) k);
@@ -206,62 +216,61 @@ module _ (before : List Node) (from : ℕ) (starts : length before ≡ from) whe
           below = both_below;
         }
 
-    -- the operands' cells are told apart at the first one's end, which is within its cells
-    pub operation_holds : (middle new : List Node) (end : ℕ) → from ≤ left.end → left.end ≤ right.end → left.end ≤ length cells
-        → sort ≡ operation_sort c left.sort right.sort
-        → take right.end middle ≡ take from old ++ arranged c (drop from (take left.end old)) (drop left.end (take right.end old))
-        → end ≡ right.end + length (operator_cells c left.sort)
-        → take end new ≡ take from middle ++ (operator_cells c left.sort ++ drop from (take right.end middle))
-        → Holds vs (operation c p q) before new (made next end (depth + (end - right.end)) sort below)
+    -- the operands' nodes are told apart where the right one begins
+    pub operation_holds : (middle new : Nodes) (more : ℕ) → sort ≡ operation_sort c left.sort right.sort
+        → written middle ≡ take from (written old) ++ arranged c (drop from (take right.from (written old))) (drop right.from (written old))
+        → more ≡ length (operator_cells c left.sort)
+        → written new ≡ take from (written middle) ++ (operator_cells c left.sort ++ drop from (written middle))
+        → Holds vs (operation c p q) before new (made next from (depth + more) sort below)
     unfolding expression_of sort_in variables_below
-    operation_holds middle new end g h w s arrange ended put =
+    operation_holds middle new more s arrange ended put =
         let a = cells_of vs p in
         let b = cells_of vs q in
-        let width : length (take left.end cells) ≡ left.end = length-take-le left.end cells w in
-        let lower : take left.end old ≡ before ++ a =
-        sym (take-take left.end right.end old h) ∙ ap (take left.end) second.nodes
-        ∙ take_at (take left.end cells) b left.end width ∙ first.nodes in
-        let upper : drop left.end (take right.end old) ≡ b =
-        ap (drop left.end) second.nodes ∙ drop_at (take left.end cells) b left.end width in
-        let ordered : take right.end middle ≡ before ++ arranged c a b =
-        arrange ∙ ap (λ f. f ++ arranged c (drop from (take left.end old)) (drop left.end (take right.end old))) (front before from starts old a left.end g lower)
-        ∙ ap (λ l. before ++ arranged c l (drop left.end (take right.end old))) (back before from starts old a left.end lower)
+        let lower : take right.from (written old) ≡ before ++ a =
+        ap (take right.from) second.nodes ∙ take_at (written cells) b right.from (sym second.begins) ∙ first.nodes in
+        let upper : drop right.from (written old) ≡ b =
+        ap (drop right.from) second.nodes ∙ drop_at (written cells) b right.from (sym second.begins) in
+        let ordered : written middle ≡ before ++ arranged c a b =
+        arrange ∙ ap (λ f. f ++ arranged c (drop from (take right.from (written old))) (drop right.from (written old))) (front before from starts (written old) (a ++ b) both)
+        ∙ ap (λ l. before ++ arranged c l (drop right.from (written old))) (back before from starts (take right.from (written old)) a lower)
         ∙ ap (λ r. before ++ arranged c a r) upper in
         record {
+          begins = sym starts;
           nodes =
-              put_before before from starts middle (arranged c a b) new (operator_cells c left.sort) right.end end (omega arith) ordered put
+              put_before before from starts (written middle) (arranged c a b) (written new) (operator_cells c left.sort) ordered put
               ∙ ap (λ s. before ++ (operator_cells c s ++ arranged c a b)) first.sort
               ∙ ap (λ l. before ++ l) (sym (operator_nodes (sort_in vs p) (expression_of vs p) (expression_of vs q) c));
           depth =
-              ap (λ d. d + (end - right.end)) both_depth
+              ap (λ d. d + more) both_depth
               ∙ ap (λ n. max (depth_of_expression (expression_of vs p)) (depth_of_expression (expression_of vs q)) + n)
-              ((omega arith) ∙ ap (λ s. length (operator_cells c s)) first.sort)
+              (ended ∙ ap (λ s. length (operator_cells c s)) first.sort)
               ∙ operator_depth (sort_in vs p) (expression_of vs p) (expression_of vs q) c;
           sort = s ∙ ap (λ a. operation_sort c a right.sort) first.sort ∙ ap (operation_sort c (sort_in vs p)) second.sort;
           below = both_below;
         }
 
   -- three parts, each after the one before
-  module _ (vs : List Sort) (p q r : Phrase) (cells others old : List Node) (condition first second : Part)
-      (asked : Holds vs p before cells condition) (one : Holds vs q (take condition.end cells) others first)
-      (other : Holds vs r (take first.end others) old second) where
-    pub conditional_holds : (new : List Node) (next deep depth : ℕ) (sort : Option Sort) (below : Bool) → from ≤ second.end
+  module _ (vs : List Sort) (p q r : Phrase) (cells others old : Nodes) (condition first second : Part)
+      (asked : Holds vs p before cells condition) (one : Holds vs q (written cells) others first)
+      (other : Holds vs r (written others) old second) where
+    pub conditional_holds : (new : Nodes) (next deep depth : ℕ) (sort : Option Sort) (below : Bool)
         → deep ≡ max first.depth second.depth → depth ≡ max condition.depth deep
         → below ≡ ((condition.below && first.below) && second.below)
         → sort ≡ provided (same_sort condition.sort boolean_sort && same_sort first.sort second.sort) first.sort
-        → take (second.end + 1) new ≡ take from old ++ (plain kind.Conditional ∷ drop from (take second.end old))
-        → Holds vs (conditional p q r) before new (made next (second.end + 1) (depth + 1) sort below)
+        → written new ≡ take from (written old) ++ (plain kind.Conditional ∷ drop from (written old))
+        → Holds vs (conditional p q r) before new (made next from (depth + 1) sort below)
     unfolding expression_of sort_in variables_below nodes_of_expression depth_of_expression
-    conditional_holds new next deep depth sort below h d e g s put =
+    conditional_holds new next deep depth sort below d e g s put =
         let a = cells_of vs p in
         let b = cells_of vs q in
         let l = cells_of vs r in
-        let all : take second.end old ≡ before ++ (a ++ (b ++ l)) =
+        let all : written old ≡ before ++ (a ++ (b ++ l)) =
         other.nodes ∙ ap (λ x. x ++ l) (one.nodes ∙ ap (λ x. x ++ b) asked.nodes)
         ∙ append_assoc (before ++ a) b l ∙ append_assoc before a (b ++ l) in
         record {
+          begins = sym starts;
           nodes =
-              put_before before from starts old (a ++ (b ++ l)) new (plain kind.Conditional ∷ []) second.end (second.end + 1) h all put
+              put_before before from starts (written old) (a ++ (b ++ l)) (written new) (plain kind.Conditional ∷ []) all put
               ∙ ap (λ x. before ++ (plain kind.Conditional ∷ (a ++ x))) (sym (map-append held (nodes_of_expression (expression_of vs q)) (nodes_of_expression (expression_of vs r))))
               ∙ ap (λ x. before ++ x)
               (sym (binary_nodes kind.Conditional (nodes_of_expression (expression_of vs p)) (nodes_of_expression (expression_of vs q) ++ nodes_of_expression (expression_of vs r))));

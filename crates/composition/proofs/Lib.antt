@@ -1,5 +1,6 @@
 -- Proofs of crate `composition`.
 pub mod Branches
+pub mod Bytes
 pub mod Turning
 pub mod Operators
 pub mod Putting

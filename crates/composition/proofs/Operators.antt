@@ -16,7 +16,7 @@ use Rattle.model.specs.Nodes.{nodes_of_expression}
 use Rattle.grammar.specs.declared.Token.{Token}
 use Rattle.grammar.specs.declared.Token.TheVariants.{And, Or, Plus, Minus, Times, Equal, Unequal, Less, Greater, GreaterOrEqual}
 use Rattle.composition.specs.Typing.{equal, operated_by}
-use Rattle.composition.specs.Parts.{held}
+use Rattle.composition.specs.Parts.{held, kind_at}
 use Rattle.composition.specs.Arranging.{equality_kind, operator_kind, operator_cells, arranged, plain}
 
 -- ---- cells
@@ -31,6 +31,10 @@ unfolding operator_cells
 one_cell Unequal sort h = absurd (h refl)
 one_cell _ sort h = refl
 
+pub two_cells : (c : Token) (sort : Option Sort) → c ≡ Unequal → length (operator_cells c sort) ≡ 2
+unfolding operator_cells
+two_cells c sort e = rw e
+
 -- two operands after the node of their operator
 operands : (a b : Expression) (k : Kind)
     → plain k ∷ map held (nodes_of_expression a ++ nodes_of_expression b) ≡ plain k ∷ (map held (nodes_of_expression a) ++ map held (nodes_of_expression b))
@@ -39,7 +43,7 @@ operands a b k = ap (λ l. plain k ∷ l) (map-append held (nodes_of_expression 
 module _ (sort : Option Sort) (a b : Expression) where
   equality : (o : Option Sort) → map held (nodes_of_expression (equal o a b))
       ≡ plain (equality_kind o) ∷ (map held (nodes_of_expression a) ++ map held (nodes_of_expression b))
-  unfolding equal nodes_of_expression held kind_of
+  unfolding equal nodes_of_expression held kind_of kind_at
   equality (Some Number) = operands a b kind.Equality
   equality (Some Boolean) = operands a b kind.Equivalence
   equality None = operands a b kind.Equivalence
@@ -47,7 +51,7 @@ module _ (sort : Option Sort) (a b : Expression) where
   -- the nodes of an operation are those of its operator, and of its operands as they are arranged
   pub operator_nodes : (c : Token) → map held (nodes_of_expression (operated_by c sort a b))
       ≡ operator_cells c sort ++ arranged c (map held (nodes_of_expression a)) (map held (nodes_of_expression b))
-  unfolding operated_by nodes_of_expression operator_cells operator_kind arranged held kind_of
+  unfolding operated_by nodes_of_expression operator_cells operator_kind arranged held kind_of kind_at
   operator_nodes Plus = operands a b kind.Sum
   operator_nodes Minus = operands a b kind.Difference
   operator_nodes Times = operands a b kind.Product

@@ -1,7 +1,7 @@
 -- Runs of a slice that a rotation has made change places.
 use Rattle.std.proofs.Common.{◌≡◌, ℕ, ◌+◌, ◌-◌, ◌≤◌, ◌<◌, List, [], ◌∷◌, ◌++◌, length, take, drop, set, refl, sym, ap, ◌∙◌, arith, append_assoc}
-use Rattle.std.proofs.lemmas.List.{take-append-drop, take-take, drop-drop, take-set-le, drop-set-lt, take_more_set, drop-append-le, take_at, drop_at, length-take-le, length-take, length-drop, length-set, length-append}
-use Rattle.std.proofs.lemmas.Slice.{between_is, take-put_mid, drop-put_mid}
+use Rattle.std.proofs.lemmas.List.{take-append-drop, take-take, drop-drop, take-set-le, take_more_set, drop-append-le, take_at, drop_at, length-take-le, length-take, length-drop, length-set, length-append}
+use Rattle.std.proofs.lemmas.Slice.{between_is, take-put_mid}
 use borrow.Rule.Slice.PartMut.{put_mid}
 
 module _ {A : Type 0} where
@@ -48,8 +48,7 @@ module _ {A : Type 0} where
         ∙ drop-append-le from (take end l) (x ∷ []) (omega (arith, length-take-le end l (omega arith)))
 
     pub moved_first : length new ≡ length longer → new ≡ drop (length longer - 1) longer ++ take (length longer - 1) longer
-        → (take (end + 1) (put_mid from (end + 1 - from) (set l end x) new) ≡ take from l ++ (x ∷ drop from (take end l)))
-        × (drop (end + 1) (put_mid from (end + 1 - from) (set l end x) new) ≡ drop (end + 1) l)
+        → take (end + 1) (put_mid from (end + 1 - from) (set l end x) new) ≡ take from l ++ (x ∷ drop from (take end l))
     moved_first size is =
         let own = drop from (take end l) in
         let width : length longer ≡ end + 1 - from = run_length (set l end x) from (end + 1) (omega arith) (omega (arith, length-set l end x)) in
@@ -58,10 +57,7 @@ module _ {A : Type 0} where
         let last : drop (length longer - 1) longer ≡ x ∷ [] =
         ap (λ n. drop n longer) one ∙ ap (drop (length own)) longer_is ∙ drop_at own (x ∷ []) (length own) refl in
         let others : take (length longer - 1) longer ≡ own =
-        ap (λ n. take n longer) one ∙ ap (take (length own)) longer_is ∙ take_at own (x ∷ []) (length own) refl in (
-          take-put_mid from (end + 1 - from) (set l end x) new (end + 1) (omega (arith, size, width)) (omega (arith, length-set l end x))
-              ∙ ap (λ m. m ++ new) (take-set-le from l end x g)
-              ∙ ap (λ m. take from l ++ m) (is ∙ ap (λ m. m ++ take (length longer - 1) longer) last ∙ ap (λ m. x ∷ m) others),
-          drop-put_mid from (end + 1 - from) (set l end x) new (end + 1) (omega arith) (omega (arith, length-set l end x)) (size ∙ width)
-              ∙ drop-set-lt (end + 1) l end x (omega arith),
-        )
+        ap (λ n. take n longer) one ∙ ap (take (length own)) longer_is ∙ take_at own (x ∷ []) (length own) refl in
+        take-put_mid from (end + 1 - from) (set l end x) new (end + 1) (omega (arith, size, width)) (omega (arith, length-set l end x))
+        ∙ ap (λ m. m ++ new) (take-set-le from l end x g)
+        ∙ ap (λ m. take from l ++ m) (is ∙ ap (λ m. m ++ take (length longer - 1) longer) last ∙ ap (λ m. x ∷ m) others)

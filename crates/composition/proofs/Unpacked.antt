@@ -1,12 +1,11 @@
 -- The loop that takes nodes apart: those before the present one are done, the other cells are as they were.
-use mathlib.Core.Path.{◌≡◌, refl, sym, ap, ◌∙◌}
+use mathlib.Core.Path.{◌≡◌, sym, ◌∙◌}
 use mathlib.Core.List.{List, [], ◌∷◌, ◌++◌, map, map-append, append_assoc}
 use Prim.Native.Nat.{ℕ, suc, ◌+◌, ◌≤◌, ◌<◌}
 use native.Mathlib.Numerals.{add-one}
 use native.Mathlib.Omega.{arith}
 use lib.ListN.{length, get_or, set, take, drop, length-map}
-use lib.Seq.{take-suc, take-length, drop-cons, set_at, length-take-le}
-use Rattle.results.specs.Results.{over}
+use lib.Seq.{take-suc, drop-cons, set_at, length-take-le}
 
 module _ {A B : Type 0} (f : A → B) (cells : List A) (old : List B) where
   -- what the first i cells give stands in the first i places
@@ -14,10 +13,6 @@ module _ {A B : Type 0} (f : A → B) (cells : List A) (old : List B) where
     pub within : i ≤ length cells
     pub room : length cells ≤ length old
     pub is : new ≡ map f (take i cells) ++ drop i old
-
-  -- none yet
-  pub apart_begin : length cells ≤ length old → TakenApart 0 old
-  apart_begin h = record { within = omega arith; room = h; is = refl }
 
   module _ (i : ℕ) (new : List B) (t : TakenApart i new) where
     done : length (map f (take i cells)) ≡ i
@@ -34,13 +29,3 @@ module _ {A B : Type 0} (f : A → B) (cells : List A) (old : List B) where
               (set_at (map f (take i cells)) (get_or old i (f d)) (drop (suc i) old) (f (get_or cells i d)) i done
               ∙ sym (append_assoc (map f (take i cells)) (f (get_or cells i d) ∷ []) (drop (suc i) old)));
         }
-
-    -- all of them
-    pub apart_end : length cells ≤ i → new ≡ over (map f cells) old
-    apart_end h =
-        let all : i ≡ length cells = omega (arith, t.within) in
-        let size : length cells ≡ length (map f cells) = sym (length-map cells f) in
-        t.is
-        ∙ ap (λ (k : ℕ). map f (take k cells) ++ drop k old) all
-        ∙ ap (λ (l : List A). map f l ++ drop (length cells) old) (take-length cells)
-        ∙ ap (λ (k : ℕ). map f cells ++ drop k old) size

@@ -4,14 +4,13 @@ use Rattle.kinds.specs.declared.kind.Kind.{Kind}
 use Rattle.kinds.specs.declared.kind.Kind.TheVariants as kind
 use Rattle.kinds.specs.declared.Sort.{Sort}
 use Rattle.kinds.specs.declared.Sort.TheVariants.{Number}
-use Rattle.kinds.specs.Kinds.{code_of}
 use Rattle.grammar.specs.declared.Token.{Token}
 use Rattle.grammar.specs.declared.Token.TheVariants.{And, Or, Plus, Minus, Times, Equal, Unequal, Less, Greater, GreaterOrEqual}
 use Rattle.composition.specs.declared.Node.{Node}
 
 -- a node without a parameter
 abbrev pub plain : Kind → Node
-plain kind = record { kind = code_of kind; parameter = pos 0 }
+plain kind = record { kind = kind; parameter = pos 0 }
 
 -- of equal numbers (38), or of equal Booleans (47)
 abbrev pub equality_kind : Option Sort → Kind

@@ -6,7 +6,8 @@ use Rattle.evaluation.specs.declared.Operator.TheVariants as operator
 use Rattle.evaluation.specs.declared.Operator.TheVariants.{Conjunction, Disjunction, Equality, LessOrEqual, Sum, Difference, Product, Quotient, Remainder, Equivalence}
 use Rattle.kinds.specs.declared.Sort.{Sort}
 use Rattle.kinds.specs.declared.Sort.TheVariants.{Number}
-use Rattle.kinds.specs.Kinds.{boolean_sort, number_sort, no_sort, same_sort}
+use Rattle.kinds.specs.Kinds.{boolean_sort, number_sort, no_sort}
+use Rattle.kinds.specs.Sameness.{same_sort}
 use Rattle.model.specs.Trees.{Expression}
 use Rattle.model.specs.Trees.Expression.{numeral as number, truth as boolean, variable as cell, negation, binary, if_then_else}
 use Rattle.grammar.specs.declared.Token.{Token}

@@ -2,46 +2,45 @@
 
 #![tactic(auto)]
 
-ghost use Rattle.std.specs.Prelude.{◌≡◌, cond, ◌&&◌, List, ◌∷◌, ◌++◌, map, ℕ, ◌+◌, ◌≤◌, ◌<◌, true, pos, length, take, drop, set, Some, is_some};
+ghost use Rattle.std.specs.Prelude.{◌≡◌, [], cond, ◌&&◌, List, ◌∷◌, ◌++◌, map, ℕ, ◌+◌, ◌≤◌, ◌<◌, true, pos, length, take, drop, set, Some, is_some};
 ghost use Rattle.results.specs.Results.{over};
 ghost use Rattle.kinds.specs.declared.Sort.{Sort};
-ghost use Rattle.kinds.specs.Kinds.{boolean_sort, same_sort, code_of, kind_of};
+ghost use Rattle.kinds.specs.Kinds.{boolean_sort, code_of, kind_of};
+ghost use Rattle.kinds.specs.Sameness.{same_sort};
 ghost use Rattle.grammar.specs.Phrases.{Phrase};
 ghost use Rattle.grammar.specs.Phrases.Phrase.{numeral, truth, variable, prefixed, operation, call, conditional};
 ghost use Rattle.grammar.specs.Held.{capped};
 ghost use Rattle.composition.specs.Typing.{provided, operation_sort, call_operator};
 ghost use Rattle.composition.specs.declared.Node.{Node};
 ghost use Rattle.model.specs.Nodes.{node};
-ghost use Rattle.composition.specs.Parts.{held, Holds, Placed, Composed};
+ghost use Rattle.composition.specs.Parts.{held, written, Holds, Placed, Composed, SameCells};
+ghost use Rattle.composition.specs.declared.list.Nodes.{Nodes};
 ghost use Rattle.composition.specs.Arranging.{plain, is_greater, equality_kind, operator_kind, operator_cells, arranged};
 
 use grammar::Token;
 use kinds::{Kind, Sort};
 
+mod list; // list.rt: nodes that are written one after another
+
+pub use list::{MAX_NODES, Nodes};
+
 // A node of an expression.
 #[derive(Clone, Copy)]
 pub struct Node {
-    pub kind: u8,
+    pub kind: Kind,
     pub parameter: i32,
 }
 
-// A phrase as it was read: the places after its words and after its nodes, the depth of its nodes, its sort (None: types do not
-// fit), and whether its variables are all below S+F (apart from the sort, which the nodes go by whatever `below` is: one Result
-// of both would need a rule for two errors at each operator).
+// A phrase as it was read: the place after its words, where its nodes begin, their depth, its sort (None: types do not fit), and
+// whether its variables are all below S+F (apart from the sort, which the nodes go by whatever `below` is: one Result of both would
+// need a rule for two errors at each operator).
 #[derive(Clone, Copy)]
 pub struct Part {
     pub next: u16,
-    pub end: u16,
+    pub from: u16,
     pub depth: u16,
     pub sort: Option<Sort>,
     pub below: bool,
-}
-
-// The byte of a kind.
-fn code(kind: Kind) -> u8
-    ensures { result ≡ code_of kind }
-{
-    kind as u8
 }
 
 // A node whose parameter is this number; the greatest of 31 bits stands for all from there on.
@@ -49,40 +48,13 @@ fn numbered(kind: Kind, number: u32) -> Node
     ensures { result ≡ held (node (code_of kind) (pos number)) }
 {
     let parameter = i32::try_from(number).unwrap_or(i32::MAX);
-    Node {
-        kind: code(kind),
-        parameter,
-    }
-}
-
-// Puts a node of this kind in at place `from`; those from there up to place `end` move up by one, the others stay.
-fn insert(nodes: &mut [Node], from: usize, end: usize, kind: Kind)
-    requires { (from ≤ end) × (end < length nodes.old) }
-    ensures { (take (end + 1) nodes.new ≡ take from nodes.old ++ (plain kind ∷ drop from (take end nodes.old)))
-        × (drop (end + 1) nodes.new ≡ drop (end + 1) nodes.old) }
-{
-    nodes[end] = Node {
-        kind: code(kind),
-        parameter: 0,
-    };
-    nodes[from..end + 1].rotate_right(1);
+    Node { kind, parameter }
 }
 
 fn is_greater(operator: Token) -> bool
     ensures { result ≡ is_greater operator }
 {
     matches!(operator, Token::Greater | Token::GreaterOrEqual)
-}
-
-// Arranges the nodes of two operands of an operator, which meet at place `middle`.
-fn arrange(nodes: &mut [Node], operator: Token, from: usize, middle: usize, end: usize)
-    requires { (from ≤ middle) × (middle ≤ end) × (end ≤ length nodes.old) }
-    ensures { take end nodes.new ≡ take from nodes.old
-        ++ arranged operator (drop from (take middle nodes.old)) (drop middle (take end nodes.old)) }
-{
-    if is_greater(operator) {
-        nodes[from..end].rotate_left(middle - from);
-    }
 }
 
 // The kind of an operator's node, its left operand being of this sort.
@@ -108,28 +80,6 @@ fn equality_kind(sort: Option<Sort>) -> Kind
     match sort {
         Some(Sort::Number) => Kind::Equality,
         _ => Kind::Equivalence,
-    }
-}
-
-// Puts the nodes of an operator before those of its operands; the place after them all.
-fn put_operator(
-    nodes: &mut [Node],
-    operator: Token,
-    sort: Option<Sort>,
-    from: usize,
-    end: usize,
-) -> usize
-    requires { (from ≤ end) × (end + 2 ≤ length nodes.old) }
-    ensures { (result ≡ end + length (operator_cells operator sort))
-        × (take result nodes.new ≡ take from nodes.old ++ (operator_cells operator sort ++ drop from (take end nodes.old))) }
-{
-    insert(nodes, from, end, operator_kind(operator, sort));
-    match operator {
-        Token::Unequal => {
-            insert(nodes, from, end + 1, Kind::Negation);
-            end + 2
-        }
-        _ => end + 1,
     }
 }
 
@@ -193,18 +143,77 @@ fn choice_sort(condition: Option<Sort>, first: Option<Sort>, second: Option<Sort
     ((condition == Sort::Boolean) & (first == second)).then_some(first)
 }
 
-// A part is composed of others, whose nodes stand one after another from place `from` on.
-impl Part {
-    // One node alone.
-    fn leaf(nodes: &mut [Node], from: u16, node: Node, sort: Option<Sort>, next: u16) -> Part
-        requires { (from < length nodes.old) × (length nodes.old ≤ 400) }
-        ensures stored { nodes.new ≡ set nodes.old from node }
-        ensures part { result ≡ record { next = next; end = from + 1; depth = 1; sort = sort; below = true } }
+impl Node {
+    // What a cell holds before a node is written into it.
+    pub const BLANK: Node = Node {
+        kind: Kind::Skip,
+        parameter: 0,
+    };
+}
+
+impl Nodes {
+    // Puts a node at the end.
+    fn push(&mut self, node: Node)
+        requires { self.old.count < 400 }
+        ensures count { self.new.count ≡ self.old.count + 1 }
+        ensures nodes { written self.new ≡ written self.old ++ (node ∷ []) }
     {
-        nodes[from as usize] = node;
+        self.cells[self.count as usize] = node;
+        self.count += 1;
+    }
+
+    // Puts a node of this kind in at place `from`; those from there on move up by one.
+    fn insert(&mut self, from: u16, kind: Kind)
+        requires { (from ≤ self.old.count) × (self.old.count < 400) }
+        ensures count { self.new.count ≡ self.old.count + 1 }
+        ensures nodes { written self.new ≡ take from (written self.old) ++ (plain kind ∷ drop from (written self.old)) }
+    {
+        let end = self.count as usize;
+        self.cells[end] = Node { kind, parameter: 0 };
+        self.cells[from as usize..end + 1].rotate_right(1);
+        self.count += 1;
+    }
+
+    // Arranges the nodes of two operands of an operator, from places `from` and `middle` on.
+    fn arrange(&mut self, operator: Token, from: u16, middle: u16)
+        requires { (from ≤ middle) × (middle ≤ self.old.count) × (self.old.count ≤ 400) }
+        ensures count { self.new.count ≡ self.old.count }
+        ensures nodes { written self.new ≡ take from (written self.old)
+            ++ arranged operator (drop from (take middle (written self.old))) (drop middle (written self.old)) }
+    {
+        if is_greater(operator) {
+            let from = from as usize;
+            self.cells[from..self.count as usize].rotate_left(middle as usize - from);
+        }
+    }
+
+    // Puts the nodes of an operator, whose left operand is of this sort, before those of its operands.
+    fn put_operator(&mut self, operator: Token, sort: Option<Sort>, from: u16)
+        requires { (from ≤ self.old.count) × (self.old.count + 2 ≤ 400) }
+        ensures count { self.new.count ≡ self.old.count + length (operator_cells operator sort) }
+        ensures nodes { written self.new ≡ take from (written self.old) ++ (operator_cells operator sort ++ drop from (written self.old)) }
+    {
+        self.insert(from, operator_kind(operator, sort));
+        if operator == Token::Unequal {
+            self.insert(from, Kind::Negation);
+        }
+    }
+}
+
+// A part is composed of others, whose nodes stand one after another, those of the last one last.
+impl Part {
+    // One node alone, the next one.
+    fn leaf(nodes: &mut Nodes, node: Node, sort: Option<Sort>, next: u16) -> Part
+        requires { nodes.old.count < 400 }
+        ensures count { nodes.new.count ≡ nodes.old.count + 1 }
+        ensures stored { written nodes.new ≡ written nodes.old ++ (node ∷ []) }
+        ensures part { result ≡ record { next = next; from = nodes.old.count; depth = 1; sort = sort; below = true } }
+    {
+        let from = nodes.count;
+        nodes.push(node);
         Part {
             next,
-            end: from + 1,
+            from,
             depth: 1,
             sort,
             below: true,
@@ -212,40 +221,40 @@ impl Part {
     }
 
     // A number.
-    pub fn numeral(nodes: &mut [Node], from: u16, number: u32, next: u16) -> Part
-        requires { (from < length nodes.old) × (length nodes.old ≤ 400) }
-        ensures composed { Composed from from next result }
+    pub fn numeral(nodes: &mut Nodes, number: u32, next: u16) -> Part
+        requires { nodes.old.count < 400 }
+        ensures composed { Composed nodes.old.count next nodes.new result }
         ensures holds { (vs : List Sort) (n : ℕ) → number ≡ capped n
-            → Holds vs (numeral n) (take from nodes.old) nodes.new result }
+            → Holds vs (numeral n) (written nodes.old) nodes.new result }
     {
         let node = numbered(Kind::Numeral, number);
-        Part::leaf(nodes, from, node, Some(Sort::Number), next)
+        Part::leaf(nodes, node, Some(Sort::Number), next)
     }
 
-    // True (1) or false (0).
-    pub fn truth(nodes: &mut [Node], from: u16, value: u8, next: u16) -> Part
-        requires { (from < length nodes.old) × (length nodes.old ≤ 400) }
-        ensures composed { Composed from from next result }
+    // True (1) or false (0): a number, as the phrase has it.
+    pub fn truth(nodes: &mut Nodes, value: u8, next: u16) -> Part
+        requires { nodes.old.count < 400 }
+        ensures composed { Composed nodes.old.count next nodes.new result }
         ensures holds { (vs : List Sort)
-            → Holds vs (truth value) (take from nodes.old) nodes.new result }
+            → Holds vs (truth value) (written nodes.old) nodes.new result }
     {
         let node = numbered(Kind::Truth, u32::from(value));
-        Part::leaf(nodes, from, node, Some(Sort::Boolean), next)
+        Part::leaf(nodes, node, Some(Sort::Boolean), next)
     }
 
     // A variable.
-    pub fn variable(nodes: &mut [Node], sorts: &[Sort], from: u16, number: u32, next: u16) -> Part
-        requires { (from < length nodes.old) × (length nodes.old ≤ 400) × (length sorts.now ≤ 4294967295) }
-        ensures composed { Composed from from next result }
+    pub fn variable(nodes: &mut Nodes, sorts: &[Sort], number: u32, next: u16) -> Part
+        requires { (nodes.old.count < 400) × (length sorts.now ≤ 4294967295) }
+        ensures composed { Composed nodes.old.count next nodes.new result }
         ensures holds { (x : ℕ) → number ≡ capped x
-            → Holds sorts.now (variable x) (take from nodes.old) nodes.new result }
+            → Holds sorts.now (variable x) (written nodes.old) nodes.new result }
     {
         let node = numbered(Kind::Variable, number);
         match sorts.get(number as usize) {
-            Some(sort) => Part::leaf(nodes, from, node, Some(*sort), next),
+            Some(sort) => Part::leaf(nodes, node, Some(*sort), next),
             None => Part {
                 below: false,
-                ..Part::leaf(nodes, from, node, None, next)
+                ..Part::leaf(nodes, node, None, next)
             },
         }
     }
@@ -258,29 +267,25 @@ impl Part {
     }
 
     // Not, a minus sign (0 minus its operand) or a plus sign (no node, but it wants a number).
-    pub fn prefixed(self, nodes: &mut [Node], from: u16, operator: Token) -> Part
-        requires { Placed from self × (self.end + 2 ≤ length nodes.old) × (length nodes.old ≤ 400) }
-        ensures composed { Composed from self.end self.next result }
-        ensures holds { (vs : List Sort) (p : Phrase) (before : List Node) → length before ≡ from
+    pub fn prefixed(self, nodes: &mut Nodes, operator: Token) -> Part
+        requires { Placed nodes.old.count self × (nodes.old.count + 2 ≤ 400) }
+        ensures composed { Composed nodes.old.count self.next nodes.new result }
+        ensures holds { (vs : List Sort) (p : Phrase) (before : List Node)
             → Holds vs p before nodes.old self → Holds vs (prefixed operator p) before nodes.new result }
     {
-        let begin = from as usize;
-        let end = self.end as usize;
         match operator {
             Token::Not => {
-                insert(nodes, begin, end, Kind::Negation);
+                nodes.insert(self.from, Kind::Negation);
                 Part {
-                    end: self.end + 1,
                     depth: self.depth + 1,
                     sort: only(self.sort, Sort::Boolean),
                     ..self
                 }
             }
             Token::Minus => {
-                insert(nodes, begin, end, Kind::Numeral);
-                insert(nodes, begin, end + 1, Kind::Difference);
+                nodes.insert(self.from, Kind::Numeral);
+                nodes.insert(self.from, Kind::Difference);
                 Part {
-                    end: self.end + 2,
                     depth: self.depth + 1,
                     sort: only(self.sort, Sort::Number),
                     ..self
@@ -294,84 +299,82 @@ impl Part {
     }
 
     // An operator between this operand and the right one.
-    pub fn operated(self, nodes: &mut [Node], from: u16, operator: Token, right: Part) -> Part
-        requires { Placed from self × Placed self.end right × (right.end + 2 ≤ length nodes.old) × (length nodes.old ≤ 400) }
-        ensures composed { Composed from right.end right.next result }
-        ensures holds { (vs : List Sort) (p q : Phrase) (before cells : List Node) → length before ≡ from → self.end ≤ length cells
-            → Holds vs p before cells self → Holds vs q (take self.end cells) nodes.old right
+    pub fn operated(self, nodes: &mut Nodes, operator: Token, right: Part) -> Part
+        requires { Placed right.from self × Placed nodes.old.count right × (nodes.old.count + 2 ≤ 400) }
+        ensures composed { Composed nodes.old.count right.next nodes.new result }
+        ensures holds { (vs : List Sort) (p q : Phrase) (before : List Node) (left : Nodes)
+            → Holds vs p before left self → Holds vs q (written left) nodes.old right
             → Holds vs (operation operator p q) before nodes.new result }
     {
-        let middle = self.end as usize;
-        let last = right.end as usize;
-        arrange(nodes, operator, from as usize, middle, last);
-        let end = put_operator(nodes, operator, self.sort, from as usize, last);
+        let count = nodes.count;
+        nodes.arrange(operator, self.from, right.from);
+        nodes.put_operator(operator, self.sort, self.from);
         Part {
             next: right.next,
-            end: end as u16,
-            depth: self.depth.max(right.depth) + (end - last) as u16,
+            depth: self.depth.max(right.depth) + (nodes.count - count),
             sort: operation_sort(operator, self.sort, right.sort),
             below: self.below & right.below,
+            ..self
         }
     }
 
     // A call of div or mod, which ends before place `next`.
-    pub fn called(
-        self,
-        nodes: &mut [Node],
-        from: u16,
-        function: Token,
-        right: Part,
-        next: u16,
-    ) -> Part
-        requires { Placed from self × Placed self.end right × (right.end + 2 ≤ length nodes.old) × (length nodes.old ≤ 400) }
-        ensures composed { Composed from right.end next result }
-        ensures holds { (vs : List Sort) (p q : Phrase) (before cells : List Node) → length before ≡ from
-            → Holds vs p before cells self → Holds vs q (take self.end cells) nodes.old right
+    pub fn called(self, nodes: &mut Nodes, function: Token, right: Part, next: u16) -> Part
+        requires { Placed right.from self × Placed nodes.old.count right × (nodes.old.count + 2 ≤ 400) }
+        ensures composed { Composed nodes.old.count next nodes.new result }
+        ensures holds { (vs : List Sort) (p q : Phrase) (before : List Node) (left : Nodes)
+            → Holds vs p before left self → Holds vs q (written left) nodes.old right
             → Holds vs (call function p q) before nodes.new result }
     {
-        insert(
-            nodes,
-            from as usize,
-            right.end as usize,
-            call_kind(function),
-        );
+        nodes.insert(self.from, call_kind(function));
         Part {
             next,
-            end: right.end + 1,
             depth: self.depth.max(right.depth) + 1,
             sort: of_both(self.sort, right.sort, Sort::Number, Sort::Number),
             below: self.below & right.below,
+            ..self
         }
     }
 
     // If-then-else, by its condition.
-    pub fn chosen(self, nodes: &mut [Node], from: u16, first: Part, second: Part) -> Part
-        requires { Placed from self × Placed self.end first × Placed first.end second × (second.end + 2 ≤ length nodes.old) × (length nodes.old ≤ 400) }
-        ensures composed { Composed from second.end second.next result }
-        ensures holds { (vs : List Sort) (p q s : Phrase) (before cells others : List Node) → length before ≡ from
-            → Holds vs p before cells self → Holds vs q (take self.end cells) others first
-            → Holds vs s (take first.end others) nodes.old second
+    pub fn chosen(self, nodes: &mut Nodes, first: Part, second: Part) -> Part
+        requires { Placed first.from self × Placed second.from first × Placed nodes.old.count second × (nodes.old.count + 2 ≤ 400) }
+        ensures composed { Composed nodes.old.count second.next nodes.new result }
+        ensures holds { (vs : List Sort) (p q s : Phrase) (before : List Node) (condition branch : Nodes)
+            → Holds vs p before condition self → Holds vs q (written condition) branch first
+            → Holds vs s (written branch) nodes.old second
             → Holds vs (conditional p q s) before nodes.new result }
     {
-        insert(nodes, from as usize, second.end as usize, Kind::Conditional);
+        nodes.insert(self.from, Kind::Conditional);
         Part {
             next: second.next,
-            end: second.end + 1,
             depth: self.depth.max(first.depth.max(second.depth)) + 1,
             sort: choice_sort(self.sort, first.sort, second.sort),
             below: self.below & first.below & second.below,
+            ..self
         }
     }
 }
 
-// Writes the nodes into two slices, the kinds and the parameters.
-pub fn unpack(nodes: &[Node], kinds: &mut [u8], parameters: &mut [i32])
-    requires { (length nodes.now ≤ length kinds.old) × (length nodes.now ≤ length parameters.old) }
-    ensures { (kinds.new ≡ over (map (λ n. n.kind) nodes.now) kinds.old)
-        × (parameters.new ≡ over (map (λ n. n.parameter) nodes.now) parameters.old) }
-{
-    for (i, node) in nodes.iter().enumerate() {
-        kinds[i] = node.kind;
-        parameters[i] = node.parameter;
+// Two slices lent for the nodes of an expression.
+#[derive(Drop)]
+pub struct Cells<'a> {
+    pub kinds: &'a mut [u8],
+    pub parameters: &'a mut [i32],
+}
+
+impl Cells<'_> {
+    // Writes the nodes at the beginning of the two slices.
+    pub fn write(&mut self, nodes: &[Node])
+        requires { (length nodes.now ≤ length self.old.kinds.now) × (length nodes.now ≤ length self.old.parameters.now) }
+        ensures kinds { self.new.kinds.now ≡ over (map (λ n. code_of n.kind) nodes.now) self.old.kinds.now }
+        ensures parameters { self.new.parameters.now ≡ over (map (λ n. n.parameter) nodes.now) self.old.parameters.now }
+        ensures same { SameCells self.old self.new }
+    {
+        // By a place: a node goes into two slices, and a zip of the three reads no plainer.
+        for (i, node) in nodes.iter().enumerate() {
+            self.kinds[i] = node.kind.code();
+            self.parameters[i] = node.parameter;
+        }
     }
 }

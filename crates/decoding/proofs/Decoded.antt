@@ -10,6 +10,7 @@ use Rattle.model.specs.declared.Model.{Model}
 use Rattle.model.specs.Trees.{Expression, Instruction, Transition, variables}
 use Rattle.model.specs.Standing.{ExpressionAt, InstructionAt, size_of_expression, size_of, size_of_transition}
 use Rattle.model.proofs.NodeLists.{TransitionsAt}
+use Rattle.variables.specs.declared.VariableRow.{VariableRow}
 use Rattle.variables.specs.Rows.{variable_row}
 use Rattle.decoding.specs.Decoding.{Decoded, guard_places, transitions_place}
 use Rattle.decoding.proofs.Accepted.{FileRead, accepted_file}
@@ -42,7 +43,7 @@ guards_length (t ∷ ts) at = ap suc (guards_length ts (at + size_of_transition 
 
 -- ---- the slices
 
-module _ (m : List ℕ) (model : Model) (kinds : List ℕ) (parameters : List ℤ) (rows : List (List ℤ)) (nexts guards : List ℕ)
+module _ (m : List ℕ) (model : Model) (kinds : List ℕ) (parameters : List ℤ) (rows : List VariableRow) (nexts guards : List ℕ)
     (d : Decoded m model kinds parameters rows nexts guards) where
   file : FileRead m model.sizes d.system
   file = accepted_file m model.sizes d.system d.checked

@@ -6,8 +6,8 @@ use mathlib.Core.List.{List}
 use Prim.Native.Nat.{ℕ, zero, suc, ◌+◌, ◌-◌, ◌≤◌, ◌<◌}
 use native.Mathlib.Nat.{eq-or-lt_of_le}
 use native.Mathlib.Omega.{arith}
-use borrow.Author.Tests.{lt-ltb, le-ltb, ltb-true, eq-eqb, ne_eqb}
-use lib.Dec.{ltb}
+use borrow.Author.Tests.{lt-ltb, le-ltb, ltb-true}
+use lib.Dec.{eqb, ltb}
 use lib.IntN.{ℤ, pos, nat_abs}
 use lib.ListN.{length, get_or, set, drop, length-set}
 use lib.Seq.{get_or-set_same, get_or-set_other, drop-set-lt}
@@ -39,13 +39,13 @@ following_turn nexts nodes (suc n) at h l =
 
 -- ---- children
 
-pub children_block : (k : ℕ) (p : ℤ) → k ≡ 19 → nat_abs p ≡ children_by k p
+pub children_block : (k : ℕ) (p : ℤ) → eqb k 19 ≡ true → nat_abs p ≡ children_by k p
 unfolding children_by
-children_block k p e = rw (eq-eqb k 19 e)
+children_block k p e = rw (e)
 
-pub children_row : (k : ℕ) (p : ℤ) → (k ≡ 19 → ⊥) → children_of k ≡ children_by k p
+pub children_row : (k : ℕ) (p : ℤ) → eqb k 19 ≡ false → children_of k ≡ children_by k p
 unfolding children_by
-children_row k p h = rw (ne_eqb k 19 h)
+children_row k p h = rw (h)
 
 -- ---- two tables that agree from a place on
 

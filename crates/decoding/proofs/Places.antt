@@ -9,7 +9,7 @@ use lib.IntN.{ℤ, pos}
 use lib.ListN.{length, get_or, take, drop, replicate, length-replicate, length-append, take-append-drop, drop_of_length-le}
 use lib.Seq.{drop-cons, drop-drop, take-add, length-take-le}
 use Rattle.kinds.specs.declared.Sort.TheVariants.{Boolean}
-use Rattle.kinds.specs.Kinds.{is_sort}
+use Rattle.kinds.specs.Sameness.{is_sort}
 use Rattle.evaluation.specs.declared.Operator.{Operator}
 use Rattle.evaluation.specs.declared.Operator.TheVariants.{Conjunction, Disjunction, Equality, Less, LessOrEqual, Sum, Difference, Product, Quotient, Remainder, Equivalence}
 use Rattle.kinds.specs.Kinds.{children_of, kind_of}

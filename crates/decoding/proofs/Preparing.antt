@@ -12,7 +12,7 @@ use lib.Seq.{take_at, drop_at, length-take-le}
 use Rattle.std.specs.Prelude.{Ok, Err}
 use Rattle.results.specs.declared.refusal.Refusal.{Refusal}
 use Rattle.kinds.specs.declared.Sort.TheVariants.{Boolean}
-use Rattle.kinds.specs.Kinds.{is_sort}
+use Rattle.kinds.specs.Sameness.{is_sort}
 use Rattle.model.specs.declared.Sizes.{Sizes}
 use Rattle.model.specs.Trees.{Variable, Transition, System, variables}
 use Rattle.model.specs.Sizes.{byte_layout}
@@ -21,6 +21,7 @@ use Rattle.model.specs.Check.Verdict.{refusal, accepted}
 use Rattle.decoding.specs.NextPlaces.{filled}
 use Rattle.model.specs.Standing.{size_of_transitions}
 use Rattle.results.specs.Results.{over, answered}
+use Rattle.variables.specs.declared.VariableRow.{VariableRow}
 use Rattle.variables.specs.Rows.{variable_rows}
 use Rattle.decoding.specs.Decoding.{VariablesRead, Arrays, arrays, decoded_over, prepared_by, guard_places, nexts_of, nexts_of_variables, nexts_of_transitions, nexts_of_system, size_of_variable, size_of_variables, transitions_place, assertion_place}
 use Rattle.decoding.proofs.Accepted.{FileRead, accepted_file}
@@ -79,7 +80,7 @@ variables_nexts_length (v ∷ vs) at =
     length-append (cond (is_sort v.sort Boolean) ((at + 1) ∷ []) ((at + 1) ∷ (at + 2) ∷ (at + 3) ∷ [])) (nexts_of_variables vs (at + size_of_variable v))
     ∙ omega (arith, variable_nexts_length v at, variables_nexts_length vs (at + size_of_variable v))
 
-arrays_same : {a a' : List ℤ} {b b' : List (List ℤ)} {c c' d d' : List ℕ}
+arrays_same : {a a' : List ℤ} {b b' : List VariableRow} {c c' d d' : List ℕ}
     → a ≡ a' → b ≡ b' → c ≡ c' → d ≡ d' → arrays a b c d ≡ arrays a' b' c' d'
 arrays_same p q r s = λ i. arrays (p i) (q i) (r i) (s i)
 
@@ -101,7 +102,7 @@ pub sorts_asked : (m : List ℕ) (s : Sizes) (ks : List ℕ) → ks ≡ kinds_in
 sorts_asked m s ks k e = (parameters_in byte_layout s.nodes m, variables_asked m s ks _ k refl e)
 
 -- the parameters and the rows of the variables, from what the functions leave that read them
-pub variables_decoded_lem : (m : List ℕ) (s : Sizes) (ks : List ℕ) (old new : List ℤ) (before after : List (List ℤ)) (place : ℕ)
+pub variables_decoded_lem : (m : List ℕ) (s : Sizes) (ks : List ℕ) (old new : List ℤ) (before after : List VariableRow) (place : ℕ)
     → ks ≡ kinds_in byte_layout s.nodes m → new ≡ parameters_at m (6 + s.nodes) s.nodes ++ drop s.nodes old
     → ((r : VariablesRead ks (take s.nodes new) (s.states + s.flows)) → (place ≡ r.next) × (after ≡ over (variable_rows r.variables) before))
     → (t : System) → verdict m ≡ accepted s t

@@ -4,8 +4,8 @@ use mathlib.Core.List.{List, [], ◌∷◌, ◌++◌, append_assoc}
 use Prim.Native.Nat.{ℕ, suc, ◌+◌, ◌-◌, ◌≤◌, ◌<◌}
 use native.Mathlib.Numerals.{add-one}
 use native.Mathlib.Omega.{arith}
-use lib.ListN.{length, get_or, set, drop, length-set, length-append, length-drop}
-use lib.Seq.{sets, drop-drop, drop_at, get_or-drop}
+use lib.ListN.{length, get_or, set, take, drop, length-set, length-append, length-drop}
+use lib.Seq.{sets, drop-drop, drop_at, get_or-drop, length-take-le}
 use Rattle.model.specs.Trees.{Expression, Instruction, Instructions, Transition}
 use Rattle.model.specs.Trees.Expression.{numeral, truth, variable, negation, binary, if_then_else}
 use Rattle.model.specs.Trees.Instruction.{skip, assign, if_then, block}
@@ -14,7 +14,7 @@ use Rattle.model.specs.Standing.{size_of_expression, size_of, size_of_all, size_
 use Rattle.results.specs.Results.{over}
 use Rattle.decoding.specs.Decoding.{guard_places, nexts_of_transitions, nexts_of_expression, nexts_of, nexts_of_all}
 use Rattle.decoding.proofs.Decoded.{guards_length}
-use Rattle.decoding.proofs.StoredVariables.{sets_over}
+use Rattle.decoding.proofs.StoredVariables.{sets_over, part_over}
 
 expression_nexts_length : (e : Expression) (at : ℕ) → length (nexts_of_expression e at) ≡ size_of_expression e
 unfolding nexts_of_expression size_of_expression
@@ -150,10 +150,14 @@ module _ (nexts : List ℕ) (count from : ℕ) where
         let g = s.left ts rest n e in
         stop_by g.transitions (count - i) at rest g.number (omega arith) g.entries h
 
-  pub guards_end : (i at : ℕ) (now then : List ℕ) → GuardsStored nexts count from i at now then → count ≤ i → count ≤ length then
+  pub guards_end : (i at : ℕ) (now old : List ℕ) → GuardsStored nexts count from i at now (take count old) → count ≤ i → count ≤ length old
       → (ts : List Transition) (rest : List ℕ) → length ts ≡ count → Entries nexts ts from rest
-      → (at ≡ from + size_of_transitions ts) × (now ≡ over (guard_places ts from) then)
-  guards_end i at now then s h b ts rest n e =
+      → (at ≡ from + size_of_transitions ts) × (now ++ drop count old ≡ over (guard_places ts from) old)
+  guards_end i at now old s h b ts rest n e =
       let g = s.left ts rest n e in
-      let r = end_by g.transitions (count - i) at i now then ts g.number (omega arith) g.same g.after in
-      (r.0, r.1 ∙ sets_over (guard_places ts from) then (omega (arith, guards_length ts from)))
+      let r = end_by g.transitions (count - i) at i now (take count old) ts g.number (omega arith) g.same g.after in
+      let m : length (guard_places ts from) ≡ count = guards_length ts from ∙ n in (
+        r.0,
+        ap (λ cells. cells ++ drop count old) (r.1 ∙ sets_over (guard_places ts from) (take count old) (omega (arith, m, length-take-le count old b)))
+            ∙ part_over (guard_places ts from) old count m b,
+      )

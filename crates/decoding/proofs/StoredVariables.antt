@@ -1,16 +1,16 @@
 -- The loops of the decoding that store something of each variable, its sort or its row, by what is left to store.
 use mathlib.Core.Path.{◌≡◌, refl, sym, ap, ◌∙◌, subst}
 use mathlib.Core.Bool.{Bool, true, false, cond}
-use mathlib.Core.List.{List, [], ◌∷◌, ◌++◌, map}
+use mathlib.Core.List.{List, [], ◌∷◌, ◌++◌, map, append-nil}
 use Prim.Native.Nat.{ℕ, zero, suc, ◌+◌, ◌-◌, ◌≤◌, ◌<◌}
 use native.Mathlib.Numerals.{add-one}
 use native.Mathlib.Nat.{zero-add}
 use native.Mathlib.Omega.{arith}
-use borrow.Author.Tests.{eqb-true, eqb-false}
+use Rattle.std.proofs.lemmas.Bool.{true≢false}
 use lib.Dec.{eqb}
 use lib.IntN.{ℤ, pos}
-use lib.ListN.{length, get_or, set, drop, length-set, length-map}
-use lib.Seq.{sets, sets-eq}
+use lib.ListN.{length, get_or, set, take, drop, length-set, length-map, drop_of_length-le}
+use lib.Seq.{sets, sets-eq, length-take-le}
 use Rattle.kinds.specs.declared.Sort.TheVariants.{Boolean, Number}
 use Rattle.results.specs.Results.{over}
 use Rattle.syntax.specs.Readings.{variable_refusal, end_refusal}
@@ -18,6 +18,7 @@ use Rattle.model.specs.Trees.{Variable}
 use Rattle.model.specs.Walk.{Walk, and_then, row_at, range_at, variable_at}
 use Rattle.model.specs.Walk.Walk.{refused, found}
 use Rattle.model.proofs.WalkClaims.{Holds, holds_found, holds_unless, no_refusal}
+use Rattle.variables.specs.declared.VariableRow.{VariableRow}
 use Rattle.variables.specs.Rows.{variable_row}
 use Rattle.decoding.specs.Decoding.{VariablesRead}
 
@@ -69,8 +70,8 @@ module _ (ks : List ℕ) (ps : List ℤ) where
 
   record VariableRead (at : ℕ) (v : Variable) (next : ℕ) : Type 0 where
     within : at < length ks
-    boolean : get_or ks at 0 ≡ 1 → found v next ≡ found (boolean_at at) (at + 1)
-    number : (get_or ks at 0 ≡ 1 → ⊥) → (at + 2 < length ks) × (found v next ≡ found (number_at at) (at + 3))
+    boolean : eqb (get_or ks at 0) 1 ≡ true → found v next ≡ found (boolean_at at) (at + 1)
+    number : eqb (get_or ks at 0) 1 ≡ false → (at + 2 < length ks) × (found v next ≡ found (number_at at) (at + 3))
 
   variable_found : (at : ℕ) → Holds (VariableRead at) (variable_at ks ps at)
   unfolding Holds variable_at variable_refusal range_at end_refusal
@@ -82,7 +83,7 @@ module _ (ks : List ℕ) (ps : List ℤ) where
     where
       go : at < length ks → (b : Bool) → eqb (get_or ks at 0) 1 ≡ b
           → Holds (VariableRead at) (cond b (found (boolean_at at) (at + 1)) (range_at ks ps (get_or ps at (pos 0)) (at + 1)))
-      go l true e = record { within = l; boolean = λ k. refl; number = λ k. absurd (k (eqb-true (get_or ks at 0) 1 e)) }
+      go l true e = record { within = l; boolean = λ k. refl; number = λ k. absurd (true≢false (sym e ∙ k)) }
       go l false e =
           holds_unless (VariableRead at) _ _
           (λ f.
@@ -93,7 +94,7 @@ module _ (ks : List ℕ) (ps : List ℤ) where
           let three : at + 1 + 2 ≡ at + 3 = omega arith in
           record {
             within = l;
-            boolean = λ k. absurd (eqb-false (get_or ks at 0) 1 e k);
+            boolean = λ k. absurd (true≢false (sym k ∙ e));
             number = λ k. (
               omega (arith, d.within),
               (λ i. found (record { sort = Number; low = get_or ps at (pos 0); high = get_or ps (at + 1) (pos 0); first = get_or ps (two i) (pos 0) }) (three i)),
@@ -104,6 +105,11 @@ module _ (ks : List ℕ) (ps : List ℤ) where
 
 pub sets_over : {A : Type 0} (new old : List A) → length new ≤ length old → sets old 0 new ≡ over new old
 sets_over new old h = sets-eq new old 0 (omega arith) ∙ ap (λ n. new ++ drop n old) (zero-add (length new))
+
+-- what stands over the first cells, which were lent alone, stands over all of them
+pub part_over : {A : Type 0} (new old : List A) (n : ℕ) → length new ≡ n → n ≤ length old → over new (take n old) ++ drop n old ≡ over new old
+part_over new old n e h =
+    rw (drop_of_length-le (take n old) {i = length new} (omega (arith, length-take-le n old h, e)), append-nil new) (ap (λ m. new ++ drop m old) (sym e))
 
 record VariablesLeft {A : Type 0} (f : Variable → A) (ks : List ℕ) (ps : List ℤ) (n at i : ℕ) (now then : List A) (vs : List Variable) (next : ℕ) : Type 0 where
   rest : List Variable
@@ -157,10 +163,10 @@ module _ {A : Type 0} (f : Variable → A) (ks : List ℕ) (ps : List ℤ) (coun
     first_read r = holds_found (VariableRead ks ps at) (variable_found ks ps at) (first_left r).read
 
     -- the node, or the three nodes, are there
-    pub node_within : VariablesRead ks ps count → at < length ks
+    node_within : VariablesRead ks ps count → at < length ks
     node_within r = (first_read r).within
 
-    pub nodes_within : VariablesRead ks ps count → (get_or ks at 0 ≡ 1 → ⊥) → at + 2 < length ks
+    nodes_within : VariablesRead ks ps count → eqb (get_or ks at 0) 1 ≡ false → at + 2 < length ks
     nodes_within r k = ((first_read r).number k).0
 
     turn : (v : Variable) (second : ℕ) → ((r : VariablesRead ks ps count) → variable_at ks ps at ≡ found v second)
@@ -172,39 +178,49 @@ module _ {A : Type 0} (f : Variable → A) (ks : List ℕ) (ps : List ℤ) (coun
           left = λ r. left_turn (count - (i + 1)) at i now then r.variables r.next v second (h r) (left_now r);
         }
 
-    pub boolean_turn : get_or ks at 0 ≡ 1 → VariablesStored f ks ps count (i + 1) (at + 1) (set now i (f (boolean_at ks ps at))) then
+    pub boolean_turn : eqb (get_or ks at 0) 1 ≡ true → VariablesStored f ks ps count (i + 1) (at + 1) (set now i (f (boolean_at ks ps at))) then
     boolean_turn k = turn (boolean_at ks ps at) (at + 1) (λ r. (first_left r).read ∙ (first_read r).boolean k)
 
-    pub number_turn : (get_or ks at 0 ≡ 1 → ⊥) → VariablesStored f ks ps count (i + 1) (at + 3) (set now i (f (number_at ks ps at))) then
+    pub number_turn : eqb (get_or ks at 0) 1 ≡ false → VariablesStored f ks ps count (i + 1) (at + 3) (set now i (f (number_at ks ps at))) then
     number_turn k = turn (number_at ks ps at) (at + 3) (λ r. (first_left r).read ∙ ((first_read r).number k).1)
+
+  -- the node, or the three nodes, by the test of a loop over the first cells
+  module _ (i at : ℕ) (now old : List A) (s : VariablesStored f ks ps count i at now (take count old)) (l : i < length (take count old)) (h : count ≤ length old) where
+    pub node_left : VariablesRead ks ps count → at < length ks
+    node_left = node_within i at now (take count old) s (rw (length-take-le count old h) at l)
+
+    pub nodes_left : VariablesRead ks ps count → {b : Bool} → b ≡ eqb (get_or ks at 0) 1 → b ≡ false → at + 2 < length ks
+    nodes_left r e n = nodes_within i at now (take count old) s (rw (length-take-le count old h) at l) r (sym e ∙ n)
 
   -- the same, by other names
   pub stored_same : {i at at' : ℕ} {now now' then : List A} → now' ≡ now → at' ≡ at
       → VariablesStored f ks ps count i at now then → VariablesStored f ks ps count i at' now' then
   stored_same a b s = rw (a, b) s
 
-  -- what the loop has stored at its end
-  pub variables_end : (i at : ℕ) (now then : List A) → VariablesStored f ks ps count i at now then → count ≤ i → count ≤ length then
-      → (r : VariablesRead ks ps count) → (at ≡ r.next) × (now ≡ over (map f r.variables) then)
+  -- what the loop over the first cells has stored at its end
+  pub variables_end : (i at : ℕ) (now old : List A) → VariablesStored f ks ps count i at now (take count old) → count ≤ i → count ≤ length old
+      → (r : VariablesRead ks ps count) → (at ≡ r.next) × (now ++ drop count old ≡ over (map f r.variables) old)
   unfolding row_at
-  variables_end i at now then s h a r =
+  variables_end i at now old s h a r =
       let l = s.left r in
       let none : count - i ≡ 0 = omega arith in
       let e : found [] at ≡ found l.rest r.next = subst (λ n. row_at (variable_at ks ps) n at ≡ found l.rest r.next) none l.row in
       let p : [] ≡ l.rest = cc in
       let q : at ≡ r.next = cc in
-      let n = row_length (variable_at ks ps) count 0 r.variables r.next r.row in (
+      let n : length (map f r.variables) ≡ count = length-map r.variables f ∙ row_length (variable_at ks ps) count 0 r.variables r.next r.row in (
         q,
-        ap (λ vs. sets now i (map f vs)) p ∙ l.same ∙ sets_over (map f r.variables) then (omega (arith, n, length-map r.variables f)),
+        ap (λ cells. cells ++ drop count old)
+            (ap (λ vs. sets now i (map f vs)) p ∙ l.same ∙ sets_over (map f r.variables) (take count old) (omega (arith, n, length-take-le count old a)))
+            ∙ part_over (map f r.variables) old count n a,
       )
 
 -- ---- a turn that stores a row, by what was read of it
 
-module _ (ks : List ℕ) (ps : List ℤ) (count i at : ℕ) (now then : List (List ℤ)) (s : VariablesStored variable_row ks ps count i at now then) (l : i < count) where
-  pub boolean_row : (first : ℤ) → first ≡ get_or ps at (pos 0) → get_or ks at 0 ≡ 1
-      → VariablesStored variable_row ks ps count (i + 1) (at + 1) (set now i (pos 0 ∷ pos 1 ∷ first ∷ [])) then
+module _ (ks : List ℕ) (ps : List ℤ) (count i at : ℕ) (now then : List VariableRow) (s : VariablesStored variable_row ks ps count i at now then) (l : i < count) where
+  pub boolean_row : (first : ℤ) → first ≡ get_or ps at (pos 0) → eqb (get_or ks at 0) 1 ≡ true
+      → VariablesStored variable_row ks ps count (i + 1) (at + 1) (set now i (record { low = pos 0; high = pos 1; first = first })) then
   boolean_row first e k = rw e (boolean_turn variable_row ks ps count i at now then s l k)
 
   pub number_row : (low high first : ℤ) → low ≡ get_or ps at (pos 0) → high ≡ get_or ps (at + 1) (pos 0) → first ≡ get_or ps (at + 2) (pos 0)
-      → (get_or ks at 0 ≡ 1 → ⊥) → VariablesStored variable_row ks ps count (i + 1) (at + 3) (set now i (low ∷ high ∷ first ∷ [])) then
+      → eqb (get_or ks at 0) 1 ≡ false → VariablesStored variable_row ks ps count (i + 1) (at + 3) (set now i (record { low = low; high = high; first = first })) then
   number_row low high first a b c k = rw (a, b, c) (number_turn variable_row ks ps count i at now then s l k)

@@ -15,6 +15,7 @@ use Rattle.model.specs.Trees.{Variable, System, variables, sorts_of}
 use Rattle.model.specs.Sizes.{byte_layout}
 use Rattle.model.specs.Check.{Verdict, verdict, answer_of, kinds_in, parameters_in}
 use Rattle.model.specs.Check.Verdict.{refusal, accepted}
+use Rattle.variables.specs.declared.VariableRow.{VariableRow}
 use Rattle.variables.specs.Rows.{variable_row, variable_rows}
 use Rattle.decoding.specs.Decoding.{VariablesRead, variables_after, sorts_after, rows_after}
 use Rattle.decoding.proofs.Accepted.{accepted_file}
@@ -105,9 +106,9 @@ sorts_in_use = in_use_lem sorts_of (λ vs. length-map vs (λ v. v.sort))
 
 -- ---- rows
 
-abbrev pub RowsInUse : List ℕ → Sizes → List (List ℤ) → Type 0
+abbrev pub RowsInUse : List ℕ → Sizes → List VariableRow → Type 0
 RowsInUse = VariablesInUse variable_rows
 
-pub rows_in_use : (m : List ℕ) → ((i : ℕ) → Fits w8 (get_or m i 0)) → (old left : List (List ℤ)) (s : Sizes) (r : Result Sizes Refusal)
+pub rows_in_use : (m : List ℕ) → ((i : ℕ) → Fits w8 (get_or m i 0)) → (old left : List VariableRow) (s : Sizes) (r : Result Sizes Refusal)
     → answered r left ≡ rows_after (verdict m) old → r ≡ Ok s → RowsInUse m s left
 rows_in_use = in_use_lem variable_rows (λ vs. length-map vs variable_row)

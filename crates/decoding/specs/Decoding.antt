@@ -4,7 +4,7 @@ use Rattle.results.specs.Results.{Answered, answered, over}
 use Rattle.results.specs.declared.refusal.Refusal.{Refusal}
 use Rattle.kinds.specs.declared.Sort.{Sort}
 use Rattle.kinds.specs.declared.Sort.TheVariants.{Boolean}
-use Rattle.kinds.specs.Kinds.{is_sort}
+use Rattle.kinds.specs.Sameness.{is_sort}
 use Rattle.model.specs.declared.Sizes.{Sizes}
 use Rattle.model.specs.declared.Model.{Model}
 use Rattle.model.specs.Trees.{Expression, Instruction, Instructions, Variable, Transition, System, variables, sorts_of}
@@ -17,6 +17,7 @@ use Rattle.model.specs.Walk.Walk.{found}
 use Rattle.model.specs.Check.{Verdict, verdict, kinds_in, parameters_in}
 use Rattle.model.specs.Check.Verdict.{accepted, refusal}
 use Rattle.model.specs.Standing.{size_of_expression, size_of, size_of_transition, size_of_transitions}
+use Rattle.variables.specs.declared.VariableRow.{VariableRow}
 use Rattle.variables.specs.Rows.{variable_rows}
 
 -- the places after each node with its children, in prefix order, of a tree that stands at place `at`
@@ -91,7 +92,7 @@ pub record VariablesRead (ks : List ℕ) (ps : List ℤ) (count : ℕ) : Type 0 
   pub row : row_at (variable_at ks ps) count 0 ≡ found variables next
 
 -- The slices are the decoding of the accepted bytes m: what the layers above may ask.
-pub record Decoded (m : List ℕ) (model : Model) (kinds : List ℕ) (parameters : List ℤ) (rows : List (List ℤ)) (nexts guards : List ℕ) : Type 0 where
+pub record Decoded (m : List ℕ) (model : Model) (kinds : List ℕ) (parameters : List ℤ) (rows : List VariableRow) (nexts guards : List ℕ) : Type 0 where
   pub system : System
   pub checked : verdict m ≡ accepted model.sizes system
   pub assertion_decoded : model.assertion ≡ assertion_place system
@@ -110,11 +111,11 @@ Enough s parameters rows nexts guards =
 -- the arrays that `prepare` is lent
 pub record Arrays : Type 0 where
   pub parameters : List ℤ
-  pub variables : List (List ℤ)
+  pub variables : List VariableRow
   pub nexts : List ℕ
   pub guards : List ℕ
 
-abbrev pub arrays : List ℤ → List (List ℤ) → List ℕ → List ℕ → Arrays
+abbrev pub arrays : List ℤ → List VariableRow → List ℕ → List ℕ → Arrays
 arrays parameters rows nexts guards = record { parameters = parameters; variables = rows; nexts = nexts; guards = guards }
 
 -- the arrays after the decoding; cells past it stay
@@ -140,5 +141,5 @@ variables_after f (accepted s t) old = answered (Ok s) (over (f (variables t)) o
 abbrev pub sorts_after : Verdict → List Sort → Answered (Result Sizes Refusal) (List Sort)
 sorts_after = variables_after sorts_of
 
-abbrev pub rows_after : Verdict → List (List ℤ) → Answered (Result Sizes Refusal) (List (List ℤ))
+abbrev pub rows_after : Verdict → List VariableRow → Answered (Result Sizes Refusal) (List VariableRow)
 rows_after = variables_after variable_rows

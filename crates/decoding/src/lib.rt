@@ -18,21 +18,23 @@ ghost use Rattle.decoding.specs.Outside.{given_after};
 use kinds::Kind;
 use model::{Model, Sizes, Sort, check, header};
 use results::Refusal;
-use syntax::nodes;
+use syntax::{Tree, nodes};
+use variables::VariableRow;
 
 // The sorts of so many variables from the first node on. A Boolean is one node, a number three.
+// Not one walk with `read_variables`: the sorts are asked of the kinds alone.
 pub fn sorts_in(kinds: &[u8], count: usize, sorts: &mut [Sort])
     requires { ((ps : List ℤ) × VariablesRead kinds.now ps count) × (count ≤ length sorts.old) }
     ensures { (ps : List ℤ) (read : VariablesRead kinds.now ps count) →
         sorts.new ≡ over (sorts_of read.variables) sorts.old }
 {
     let mut at = 0;
-    for i in 0..count {
-        if kinds[at] == Kind::BooleanVariable as u8 {
-            sorts[i] = Sort::Boolean;
+    for sort in sorts[..count].iter_mut() {
+        if kinds::stands_for(kinds[at], Kind::BooleanVariable) {
+            *sort = Sort::Boolean;
             at += 1;
         } else {
-            sorts[i] = Sort::Number;
+            *sort = Sort::Number;
             at += 3;
         }
     }
@@ -40,26 +42,29 @@ pub fn sorts_in(kinds: &[u8], count: usize, sorts: &mut [Sort])
 
 // So many variables from the first node on: their rows, and the place after them. The three nodes of a number are its low
 // end, its high end and its first value.
-fn read_variables(
-    kinds: &[u8],
-    parameters: &[i32],
-    count: usize,
-    variables: &mut [[i32; 3]],
-) -> usize
-    requires { (length parameters.now ≡ length kinds.now) × VariablesRead kinds.now parameters.now count × (count ≤ length variables.old) }
-    ensures { (read : VariablesRead kinds.now parameters.now count) →
+fn read_variables(tree: &Tree, count: usize, variables: &mut [VariableRow]) -> usize
+    requires { (length tree.now.parameters.now ≡ length tree.now.kinds.now) × VariablesRead tree.now.kinds.now tree.now.parameters.now count × (count ≤ length variables.old) }
+    ensures { (read : VariablesRead tree.now.kinds.now tree.now.parameters.now count) →
         (result ≡ read.next) × (variables.new ≡ over (variable_rows read.variables) variables.old) }
 {
     let mut at = 0;
-    for i in 0..count {
-        let parameter = parameters[at];
-        if kinds[at] == Kind::BooleanVariable as u8 {
-            variables[i] = [0, 1, parameter];
+    for row in variables[..count].iter_mut() {
+        let parameter = tree.parameters[at];
+        if kinds::stands_for(tree.kinds[at], Kind::BooleanVariable) {
+            *row = VariableRow {
+                low: 0,
+                high: 1,
+                first: parameter,
+            };
             at += 1;
         } else {
-            let high = parameters[at + 1];
-            let first = parameters[at + 2];
-            variables[i] = [parameter, high, first];
+            let high = tree.parameters[at + 1];
+            let first = tree.parameters[at + 2];
+            *row = VariableRow {
+                low: parameter,
+                high,
+                first,
+            };
             at += 3;
         }
     }
@@ -70,7 +75,7 @@ fn read_variables(
 fn children_of(kind: u8, parameter: i32) -> usize
     ensures { result ≡ children_by kind parameter }
 {
-    if kind == Kind::Block as u8 {
+    if kinds::stands_for(kind, Kind::Block) {
         return nodes::magnitude(parameter);
     }
     usize::from(kinds::row_of(kind).children)
@@ -92,13 +97,13 @@ fn follow(nexts: &[u16], nodes: usize, count: usize, from: usize) -> usize
 }
 
 // The place after each node with its children, from the last node to the first.
-fn next_places(kinds: &[u8], parameters: &[i32], nexts: &mut [u16])
-    requires { (length kinds.now < 65536) × (length kinds.now ≤ length nexts.old) × (length parameters.now ≡ length kinds.now) }
-    ensures { nexts.new ≡ filled kinds.now parameters.now (length kinds.now) nexts.old }
+fn next_places(tree: &Tree, nexts: &mut [u16])
+    requires { (length tree.now.kinds.now < 65536) × (length tree.now.kinds.now ≤ length nexts.old) × (length tree.now.parameters.now ≡ length tree.now.kinds.now) }
+    ensures { nexts.new ≡ filled tree.now.kinds.now tree.now.parameters.now (length tree.now.kinds.now) nexts.old }
 {
-    let nodes = kinds.len();
+    let nodes = tree.kinds.len();
     for at in (0..nodes).rev() {
-        let children = children_of(kinds[at], parameters[at]);
+        let children = children_of(tree.kinds[at], tree.parameters[at]);
         let after = follow(nexts, nodes, children, at + 1);
         nexts[at] = after as u16;
     }
@@ -111,11 +116,11 @@ fn guard_places(nexts: &[u16], count: usize, from: usize, guards: &mut [u16]) ->
         (result ≡ from + size_of_transitions ts) × (guards.new ≡ over (guard_places ts from) guards.old) }
 {
     let mut at = from;
-    for i in 0..count {
+    for guard in guards[..count].iter_mut() {
         if nexts.len() <= at {
             return at;
         }
-        guards[i] = (at + 1) as u16;
+        *guard = (at + 1) as u16;
         at = usize::from(nexts[at]);
     }
     at
@@ -126,7 +131,7 @@ fn decode_variables(
     model: &[u8],
     sizes: Sizes,
     parameters: &mut [i32],
-    variables: &mut [[i32; 3]],
+    variables: &mut [VariableRow],
 ) -> usize
     requires { (answer_of (verdict model.now) ≡ Ok sizes) × (sizes.nodes ≤ length parameters.old) × (sizes.states + sizes.flows ≤ length variables.old) }
     ensures { (t : System) → verdict model.now ≡ accepted sizes t →
@@ -136,13 +141,11 @@ fn decode_variables(
 {
     let nodes = sizes.nodes;
     header::parameters_in(model, Model::HEADER + nodes, nodes, parameters);
-    let kinds = kinds_of(model, nodes);
-    read_variables(
-        kinds,
-        &parameters[..nodes],
-        sizes.states + sizes.flows,
-        variables,
-    )
+    let tree = Tree {
+        kinds: kinds_of(model, nodes),
+        parameters: &parameters[..nodes],
+    };
+    read_variables(&tree, sizes.variables(), variables)
 }
 
 // The decoding of an accepted file, into cells that are enough for it; the place of its assertion.
@@ -150,7 +153,7 @@ pub fn decode(
     model: &[u8],
     sizes: Sizes,
     parameters: &mut [i32],
-    variables: &mut [[i32; 3]],
+    variables: &mut [VariableRow],
     nexts: &mut [u16],
     guards: &mut [u16],
 ) -> usize
@@ -164,8 +167,11 @@ pub fn decode(
 {
     let nodes = sizes.nodes;
     let transitions = decode_variables(model, sizes, parameters, variables);
-    let kinds = kinds_of(model, nodes);
-    next_places(kinds, &parameters[..nodes], nexts);
+    let tree = Tree {
+        kinds: kinds_of(model, nodes),
+        parameters: &parameters[..nodes],
+    };
+    next_places(&tree, nexts);
     guard_places(nexts, sizes.transitions, transitions, guards)
 }
 
@@ -174,7 +180,7 @@ pub fn decode(
 pub fn prepare(
     model: &[u8],
     parameters: &mut [i32; Model::MAX_NODES],
-    variables: &mut [[i32; 3]; Model::MAX_VARIABLES],
+    variables: &mut [VariableRow; Model::MAX_VARIABLES],
     nexts: &mut [u16; Model::MAX_NODES],
     guards: &mut [u16; Model::MAX_TRANSITIONS],
 ) -> Result<Model, Refusal>
@@ -193,15 +199,8 @@ pub fn prepare(
 pub fn kinds_of(model: &[u8], nodes: usize) -> &[u8]
     ensures { result.now ≡ kinds_in byte_layout nodes model.now }
 {
-    let length = model.len();
-    if length < Model::HEADER {
-        return &model[0..0];
-    }
-    if length - Model::HEADER < nodes {
-        return &model[Model::HEADER..length];
-    }
-    let past = Model::HEADER + nodes;
-    &model[Model::HEADER..past]
+    let rest = model.get(Model::HEADER..).unwrap_or(&[]);
+    &rest[..nodes.min(rest.len())]
 }
 
 // The check of a model file, and the sorts of an accepted one's variables, which depend on its kinds alone.
@@ -210,14 +209,14 @@ pub fn sorts_of(model: &[u8], sorts: &mut [Sort; Model::MAX_VARIABLES]) -> Resul
 {
     let sizes = check::check(model)?;
     let kinds = kinds_of(model, sizes.nodes);
-    sorts_in(kinds, sizes.states + sizes.flows, sorts);
+    sorts_in(kinds, sizes.variables(), sorts);
     Ok(sizes)
 }
 
 // The check of a model file, and the rows of an accepted one's variables.
 pub fn variables_of(
     model: &[u8],
-    variables: &mut [[i32; 3]; Model::MAX_VARIABLES],
+    variables: &mut [VariableRow; Model::MAX_VARIABLES],
 ) -> Result<Sizes, Refusal>
     ensures { answered result variables.new ≡ rows_after (verdict model.now) variables.old }
 {
@@ -228,16 +227,10 @@ pub fn variables_of(
 }
 
 // The check of an expression handed outside a model: the model's refusal, or the expression's over the model's variables.
-pub fn check_expression(
-    model: &[u8],
-    kinds: &[u8],
-    parameters: &[i32],
-    wanted: Sort,
-) -> Result<(), Refusal>
-    ensures { result ≡ given_after (verdict model.now) kinds.now parameters.now (Some wanted) }
+pub fn check_expression(model: &[u8], tree: &Tree, wanted: Sort) -> Result<(), Refusal>
+    ensures { result ≡ given_after (verdict model.now) tree.now.kinds.now tree.now.parameters.now (Some wanted) }
 {
     let mut sorts = [Sort::Boolean; Model::MAX_VARIABLES];
     let sizes = sorts_of(model, &mut sorts)?;
-    let count = sizes.states + sizes.flows;
-    check::check_over_sorts(kinds, parameters, &sorts[..count], wanted)
+    check::check_over_sorts(tree, &sorts[..sizes.variables()], wanted)
 }

@@ -1,8 +1,9 @@
 -- The first cells of a slice, lent and given back; a line for which there is room.
-use mathlib.Core.Path.{◌≡◌, refl, sym, ap, ap₂, ◌∙◌}
-use mathlib.Core.Bool.{Bool, true, false, cond, ◌||◌}
+use mathlib.Core.Path.{◌≡◌, refl, sym, ap, ap₂, ◌∙◌, subst}
+use mathlib.Core.Bool.{Bool, true, false, ◌||◌}
 use mathlib.Core.List.{List, ◌++◌, append-nil}
-use Prim.Native.Nat.{ℕ, ◌+◌, ◌≤◌, ◌<◌}
+use Prim.Native.Nat.{ℕ, ◌+◌, ◌≤◌, ◌<◌, min}
+use Rattle.std.proofs.Math.Nat.{min_comm, min-eq_left}
 use native.Mathlib.Omega.{arith}
 use borrow.Author.Tests.{ltb-true, ltb-false, le-ltb}
 use lib.Dec.{ltb}
@@ -20,19 +21,20 @@ use Rattle.replies.specs.Printing.{is_short, reply_into}
 use Rattle.replies.proofs.Answering.{replied_whole}
 use Rattle.dialogue.specs.declared.Dimensions.{Dimensions}
 use Rattle.dialogue.specs.Sizes.{line_bytes}
-use Rattle.dialogue.specs.Cells.{at_most, in_use, past_use, into}
+use Rattle.dialogue.specs.Cells.{in_use, past_use, into}
 
 module _ {A : Type 0} (old : List A) (n : ℕ) where
   abbrev count : ℕ
-  count = at_most (length old) n
+  count = min n (length old)
 
   by_count : (P : ℕ → Type 0) → (length old < n → P (length old)) → (n ≤ length old → P n) → P count
-  unfolding at_most
   by_count P more fewer = by (ltb (length old) n) refl
     where
-      by : (t : Bool) → ltb (length old) n ≡ t → P (cond t (length old) n)
-      by true e = more (ltb-true (length old) n e)
-      by false e = fewer (ltb-false (length old) n e)
+      by : (t : Bool) → ltb (length old) n ≡ t → P count
+      by true e =
+          let h : length old < n = ltb-true (length old) n e in
+          subst P (sym (min_comm n (length old) ∙ min-eq_left (omega (arith, h)))) (more h)
+      by false e = let h : n ≤ length old = ltb-false (length old) n e in subst P (sym (min-eq_left h)) (fewer h)
 
   pub first_cells : take count old ≡ take n old
   first_cells =
@@ -57,12 +59,12 @@ module _ {A : Type 0} (old : List A) (n : ℕ) where
 -- ---- a run in the first cells
 
 -- the first cells lent, as they are given back
-module _ {A : Type 0} (old : List A) (n : ℕ) {k : ℕ} (e : k ≡ at_most (length old) n) where
+module _ {A : Type 0} (old : List A) (n : ℕ) {k : ℕ} (e : k ≡ min n (length old)) where
   lent_cells : take k old ≡ take n old
   lent_cells = ap (λ k. take k old) e ∙ first_cells old n
 
   module _ (new : List A) (long : length new ≡ length (take k old)) where
-    long' : length new ≡ length (take (at_most (length old) n) old)
+    long' : length new ≡ length (take (min n (length old)) old)
     long' = long ∙ ap (λ k. length (take k old)) e
 
     returned_cells : take n (new ++ drop k old) ≡ new
@@ -71,8 +73,8 @@ module _ {A : Type 0} (old : List A) (n : ℕ) {k : ℕ} (e : k ≡ at_most (len
     kept_cells : drop n (new ++ drop k old) ≡ drop n old
     kept_cells = ap (λ k. drop n (new ++ drop k old)) e ∙ past_given old n new long'
 
-module _ (d : Dimensions) (values : List ℤ) (marks buffer : List ℕ) {v t u : ℕ} (e : v ≡ at_most (length values) d.variables)
-    (f : t ≡ at_most (length marks) d.transitions) (g : u ≡ at_most (length buffer) d.transitions) where
+module _ (d : Dimensions) (values : List ℤ) (marks buffer : List ℕ) {v t u : ℕ} (e : v ≡ min d.variables (length values))
+    (f : t ≡ min d.transitions (length marks)) (g : u ≡ min d.transitions (length buffer)) where
   pub lent : (history : List ℕ) (n : ℕ)
       → store (run (take v values) (take t marks) history n) (take u buffer) ≡ in_use d (store (run values marks history n) buffer)
   lent history n =

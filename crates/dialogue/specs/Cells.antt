@@ -1,6 +1,6 @@
 -- What the functions find and leave in the arrays of a dialogue. A run takes the first cells of the values, of the marks and of the buffer that
 -- they are copied into, and the model the first bytes of the file; what is printed stands at the beginning of the array for the lines.
-use Rattle.std.specs.Prelude.{◌≡◌, cond, List, ℕ, ◌+◌, ltb, ℤ, length, take, drop}
+use Rattle.std.specs.Prelude.{◌≡◌, List, ℕ, ◌+◌, ℤ, length, take, drop}
 use Rattle.results.specs.Results.{Answered, answered, over}
 use Rattle.model.specs.Check.{Verdict}
 use Rattle.model.specs.Check.Verdict.{refusal, accepted}
@@ -31,10 +31,6 @@ in_use d s =
 abbrev pub past_use : Dimensions → Store → List ℤ × (List ℕ × List ℕ)
 past_use d s = (drop d.variables s.run.values, (drop d.transitions s.run.marks, drop d.transitions s.buffer))
 
--- a count, or the most that it may be
-unfoldable pub at_most : ℕ → ℕ → ℕ
-at_most most count = cond (ltb most count) most count
-
 -- a text at the beginning of a slice, told by its length; the cells from there on stay
 abbrev pub placed : List ℕ → List ℕ → Answered ℕ (List ℕ)
 placed text out = answered (length text) (over text out)
@@ -48,6 +44,7 @@ into out r = answered (placed r.answer out) r.left
 abbrev pub store_of : Dialogue → Store
 store_of s = store (run s.values s.marks s.history s.n) s.buffer
 
+-- the cells that the run of its model takes
 abbrev pub used : Dialogue → Store
 used s = in_use s.dimensions (store_of s)
 

@@ -1,6 +1,6 @@
 -- What a program prints that is made of these functions, by their promises: it reads the file, opens the run, takes the input part by part,
 -- each part piece by piece (a piece ends with a line feed, or where the part ends), and closes, with one array for all lines. After each
--- call it prints the text at the beginning of the slice.
+-- call it prints the text at the beginning of the array.
 use Rattle.std.specs.Prelude.{cond, ℕ, zero, suc, ◌+◌, ltb, pos, length, take, drop, replicate}
 use mathlib.Core.List.{List, [], ◌∷◌, ◌++◌, map, flatten}
 use Rattle.results.specs.Results.{Answered}

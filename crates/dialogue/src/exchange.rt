@@ -12,33 +12,18 @@ ghost use Rattle.replies.specs.Printing.{is_short, reply_into};
 ghost use Rattle.replies.specs.Replies.{reply, opening, is_started};
 ghost use Rattle.dialogue.specs.Sizes.{file_bytes, line_bytes};
 ghost use Rattle.dialogue.specs.Turns.{progress, turns, closing, to_line_feed, first_line};
-ghost use Rattle.dialogue.specs.Cells.{kept_of, dimensions_of, at_most, in_use, past_use, into, store_of, model_of, used, KeepsRest};
+ghost use Rattle.dialogue.specs.Cells.{kept_of, dimensions_of, in_use, past_use, into, store_of, model_of, used, KeepsRest};
 ghost use Rattle.dialogue.specs.Program.{empty};
 
 use super::{Dialogue, Dimensions, Line, Opening, Program, Taken};
 use commands::Command;
 use model::Model;
 
-// The first bytes of a slice: the model in its file, or the line to be printed.
-fn first(bytes: &[u8], count: usize) -> &[u8]
+// The first bytes of a slice, as far as there are any: the model in its file, or the line to be printed.
+pub fn first(bytes: &[u8], count: usize) -> &[u8]
     ensures { result.now ≡ take count bytes.now }
 {
-    let length = bytes.len();
-    if length < count {
-        return &bytes[0..length];
-    }
-    &bytes[0..count]
-}
-
-// A number, or the most that it may be.
-fn at_most(most: usize, count: usize) -> usize
-    ensures value { result ≡ at_most most count }
-    ensures upper_bound { result ≤ most }
-{
-    if most < count {
-        return most;
-    }
-    count
+    &bytes[..count.min(bytes.len())]
 }
 
 // What the run of a model of so many bytes takes; nothing, if it is refused.
@@ -60,7 +45,8 @@ fn dimensions_of(model: &[u8], bytes: usize) -> Dimensions
     }
 }
 
-// The start of a run in the first cells of the slices.
+// The start of a run in the first cells of the slices, which are arguments one by one: a part of a slice that is put into a struct is
+// not known to be that part afterwards. It and the next differ in what they call, and in what that answers.
 fn open_first(
     model: &[u8],
     dimensions: Dimensions,
@@ -79,9 +65,9 @@ fn open_first(
     ensures buffer_unchanged { past_use dimensions (store (run values.new marks.new history.new n.new) buffer.new)
         ≡ past_use dimensions (store (run values.old marks.old history.old n.old) buffer.old) }
 {
-    let variables = at_most(values.len(), dimensions.variables);
-    let held = at_most(marks.len(), dimensions.transitions);
-    let copied = at_most(buffer.len(), dimensions.transitions);
+    let variables = dimensions.variables.min(values.len());
+    let held = dimensions.transitions.min(marks.len());
+    let copied = dimensions.transitions.min(buffer.len());
     replies::open(
         model,
         &mut values[..variables],
@@ -111,9 +97,9 @@ fn respond_first(
     ensures buffer_unchanged { past_use dimensions (store (run values.new marks.new history.new n.new) buffer.new)
         ≡ past_use dimensions (store (run values.old marks.old history.old n.old) buffer.old) }
 {
-    let variables = at_most(values.len(), dimensions.variables);
-    let held = at_most(marks.len(), dimensions.transitions);
-    let copied = at_most(buffer.len(), dimensions.transitions);
+    let variables = dimensions.variables.min(values.len());
+    let held = dimensions.transitions.min(marks.len());
+    let copied = dimensions.transitions.min(buffer.len());
     replies::respond(
         command,
         model,

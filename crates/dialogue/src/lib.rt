@@ -1,4 +1,4 @@
-// The program between its input and its output: the start, then the input part by part, each line answered by a line in a lent array.
+// The program between its input and its output: the start, then the input part by part, each line answered by a line in an array of its own.
 
 #![tactic(auto)]
 
@@ -64,7 +64,7 @@ pub struct Dialogue {
     pub file: [u8; Program::FILE_BYTES],
 }
 
-// The start: is the run started, and how many bytes are to be printed.
+// The start: is the run started, and how many bytes are to be printed, which are some in both cases.
 #[derive(Clone, Copy, PartialEq, Eq, Debug)]
 pub struct Opening {
     pub is_started: bool,
@@ -78,7 +78,8 @@ pub struct Taken {
     pub length: usize,
 }
 
-// A part of the input read to the end of a line: the line, the place after the bytes read, and whether a line feed ended it.
+// A part of the input read to the end of a line: the line, the place after the bytes read, and whether a line feed ended it; line and place
+// are read in both cases.
 #[derive(Clone, Copy)]
 struct Scan {
     line: Line,
@@ -133,7 +134,7 @@ impl Line {
     {
         let mut line = self;
         let mut at = from;
-        // It ends at a line feed, and the place after it is told: no iterator tells that place.
+        // Each byte is kept as it is passed: a search for the line feed beforehand would pass them twice.
         while at < part.len() {
             let byte = part[at];
             at += 1;

@@ -7,8 +7,8 @@ use Rattle.model.specs.declared.Sizes.{Sizes}
 use Rattle.model.specs.Nodes.{little_bytes, parameter_bytes}
 use Rattle.model.specs.Sizes.{header_bytes}
 use Rattle.encoding.specs.Files.{file_bytes}
-use Rattle.encoding.specs.Tapes.{Tape, put_all}
-use Rattle.encoding.proofs.Tapes.{put_append}
+use Rattle.tapes.specs.Tapes.{Tape, put_all}
+use Rattle.tapes.proofs.Tapes.{put_append}
 
 -- a piece has been put, and then the rest
 then_put : {A : Type 0} (front back : List A) (t : Tape A) {u v : Tape A} → u ≡ put_all front t → v ≡ put_all back u → v ≡ put_all (front ++ back) t

@@ -5,32 +5,11 @@
 ghost use Rattle.std.specs.Prelude.{◌≡◌, ◌≤◌};
 ghost use Rattle.model.specs.Nodes.{little_bytes, parameter_bytes};
 ghost use Rattle.encoding.specs.Files.{file_bytes};
-ghost use Rattle.encoding.specs.Tapes.{tape, tape_in, put_all};
+ghost use Rattle.tapes.specs.Tapes.{tape, tape_in, put_all};
 
 use model::{Layout, Model, Sizes};
-
-// Cells that are written one after another. Past the last cell nothing is written.
-#[derive(Drop)]
-pub struct Tape<'a, T> {
-    pub cells: &'a mut [T],
-    pub at: usize,
-}
-
-impl<T: Copy> Tape<'_, T> {
-    // Writes what is given into the next cells.
-    pub fn put(&mut self, items: &[T])
-        ensures put { tape_in self.new ≡ put_all items.now (tape_in self.old) }
-        ensures same_cells { self.new.cells.ghost_name ≡ self.old.cells.ghost_name }
-    {
-        for item in items {
-            if self.cells.len() <= self.at {
-                return;
-            }
-            self.cells[self.at] = *item;
-            self.at += 1;
-        }
-    }
-}
+use syntax::Tree;
+use tapes::Tape;
 
 // Writes a number in so many bytes, low byte first.
 fn put_number(tape: &mut Tape<'_, u8>, number: usize, width: usize)
@@ -50,8 +29,9 @@ fn put_parameter(tape: &mut Tape<'_, u8>, parameter: i32)
 }
 
 // Writes the five numbers of the header, the kinds and the parameters.
-fn put_file(tape: &mut Tape<'_, u8>, sizes: Sizes, kinds: &[u8], parameters: &[i32])
-    ensures put { tape_in tape.new ≡ put_all (file_bytes sizes kinds.now parameters.now) (tape_in tape.old) }
+#[tactic(auto, using(crate::proofs::Files::file_put, tapes::proofs::Tapes::pieces_done))]
+fn put_file(tape: &mut Tape<'_, u8>, sizes: Sizes, tree: &Tree<'_>)
+    ensures put { tape_in tape.new ≡ put_all (file_bytes sizes tree.now.kinds.now tree.now.parameters.now) (tape_in tape.old) }
     ensures same_cells { tape.new.cells.ghost_name ≡ tape.old.cells.ghost_name }
 {
     put_number(tape, sizes.states, Model::SIZE_WIDTH);
@@ -59,17 +39,17 @@ fn put_file(tape: &mut Tape<'_, u8>, sizes: Sizes, kinds: &[u8], parameters: &[i
     put_number(tape, sizes.events, Model::SIZE_WIDTH);
     put_number(tape, sizes.transitions, Model::SIZE_WIDTH);
     put_number(tape, sizes.nodes, Layout::NODES_WIDTH);
-    tape.put(kinds);
-    for parameter in parameters {
+    tape.put(tree.kinds);
+    for parameter in tree.parameters {
         put_parameter(tape, *parameter);
     }
 }
 
 // Writes a model file from the first cell on; the place after it. What has no room is not written.
-pub fn write_file(sizes: Sizes, kinds: &[u8], parameters: &[i32], out: &mut [u8]) -> usize
-    ensures { tape out.new result ≡ put_all (file_bytes sizes kinds.now parameters.now) (tape out.old 0) }
+pub fn write_file(sizes: Sizes, tree: &Tree<'_>, out: &mut [u8]) -> usize
+    ensures { tape out.new result ≡ put_all (file_bytes sizes tree.now.kinds.now tree.now.parameters.now) (tape out.old 0) }
 {
     let mut file = Tape { cells: out, at: 0 };
-    put_file(&mut file, sizes, kinds, parameters);
+    put_file(&mut file, sizes, tree);
     file.at
 }

@@ -32,6 +32,7 @@ use Rattle.engine.specs.Cells.{Loaded, AllHeld, admission, LeftByChanging}
 use Rattle.engine.proofs.Loading.{loaded_well_formed, loaded_states, loaded_places, loaded_guards, loaded_guard, loaded_action, loaded_scoped}
 use Rattle.engine.proofs.Counts.{rows_count}
 use Rattle.engine.proofs.Guards.{length_all, all_rows, guard_missing, left_over, left_open, not_unknown}
+use Rattle.variables.specs.declared.VariableRow.{VariableRow}
 
 -- ---- by what the action comes to
 
@@ -58,7 +59,7 @@ action_of : (s : System) (k : ℕ) (t : Transition) → get_elem? s.transitions 
 unfolding meaning_of action_in
 action_of s k t e values = rw e
 
-module _ {model : Model} {kinds : List ℕ} {parameters : List ℤ} {rows : List (List ℤ)} {nexts guards : List ℕ}
+module _ {model : Model} {kinds : List ℕ} {parameters : List ℤ} {rows : List VariableRow} {nexts guards : List ℕ}
     (d : Loaded model kinds parameters rows nexts guards) (k : ℕ) (old blank : List ℤ) (zeros : blank ≡ replicate (length rows) (pos 0)) where
   no_states : (l : List ℤ) → l ≡ replicate (length rows) (pos 0) → l ≡ replicate (length (meaning_of d.decoded.system).declarations) (pos 0)
   unfolding meaning_of

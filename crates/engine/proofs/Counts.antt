@@ -11,8 +11,9 @@ use Rattle.variables.proofs.Columns.{row_count}
 use Rattle.semantics.specs.Meanings.{Meaning, meaning_of}
 use Rattle.engine.specs.Cells.{Loaded}
 use Rattle.engine.proofs.Loading.{loaded_well_formed, loaded_guards}
+use Rattle.variables.specs.declared.VariableRow.{VariableRow}
 
-module _ {model : Model} {kinds : List ℕ} {parameters : List ℤ} {rows : List (List ℤ)} {nexts guards : List ℕ}
+module _ {model : Model} {kinds : List ℕ} {parameters : List ℤ} {rows : List VariableRow} {nexts guards : List ℕ}
     (d : Loaded model kinds parameters rows nexts guards) where
   abbrev pub meaning : Meaning
   meaning = meaning_of d.decoded.system

@@ -28,6 +28,7 @@ use Rattle.rounds.proofs.Propagating.{rows_counted}
 use Rattle.semantics.proofs.Derived.{derived_extends}
 use Rattle.semantics.proofs.Rounds.{Outcome, outcome, assertion_targets, finished, rounds_bounded_tree}
 use Rattle.semantics.proofs.Rounds.Outcome.{fault, rest}
+use Rattle.variables.specs.declared.VariableRow.{VariableRow}
 
 -- ---- what settles keeps the states
 
@@ -88,7 +89,7 @@ stored s n old ss new l u h t k =
     let first : take s new ≡ ss = subst (λ m. take m new ≡ ss) h t in
     rw (h, drop_at (take s old) (drop s new ++ drop (n - s) (drop s old)) s front, drop-drop (n - s) s old, e, k, ← append_assoc ss (drop s new) (drop n old), ← first, take-append-drop s new)
 
-module _ {ks : List ℕ} {ps : List ℤ} {nexts : List ℕ} {rows : List (List ℤ)} {at : ℕ} (s n : ℕ) (ss old : List ℤ) (long : length ss ≡ s)
+module _ {ks : List ℕ} {ps : List ℤ} {nexts : List ℕ} {rows : List VariableRow} {at : ℕ} (s n : ℕ) (ss old : List ℤ) (long : length ss ≡ s)
     (all : length rows ≡ n) (p : PropagationStands ks ps nexts rows at (length ss) (n - s)) (room : n ≤ length old) where
   pub states_first : s ≤ n
   states_first = omega (arith, long, all, p.state_cells, rows_counted p.assertion)

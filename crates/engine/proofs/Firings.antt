@@ -1,6 +1,9 @@
 -- Starting and firing on a loaded model: what the code answers and leaves is as the definitions `begun` and `fired` have it.
 use Rattle.std.specs.Prelude.{Err, Result, Ok}
-use mathlib.Core.Path.{◌≡◌, sym, ap, subst, ◌∙◌}
+use Rattle.std.specs.Result.{is_ok, MatchResult}
+use Rattle.std.proofs.lemmas.Result.{MatchResult-at_ok}
+use mathlib.Core.Bool.{true, false, true≢false}
+use mathlib.Core.Path.{◌≡◌, refl, sym, ap, subst, ◌∙◌}
 use mathlib.Core.List.{List}
 use Prim.Native.Nat.{ℕ, ◌+◌, ◌-◌, ◌≤◌, ◌<◌}
 use native.Mathlib.Omega.{arith}
@@ -10,18 +13,43 @@ use lib.ListN.{length, take, replicate, length-take, length-replicate}
 use Rattle.model.specs.declared.Model.{Model}
 use Rattle.model.specs.Trees.{variables}
 use Rattle.semantics.specs.declared.NotFired.{NotFired}
-use Rattle.semantics.specs.declared.NotFired.TheVariants.{Disabled}
+use Rattle.semantics.specs.declared.NotFired.TheVariants.{Disabled, AssertionFault}
+use Rattle.interpreter.specs.declared.Fault.{Fault}
 use Rattle.semantics.specs.Propagation.{settle}
 use Rattle.semantics.specs.Meanings.{meaning_of}
 use Rattle.semantics.specs.Firing.{Firing, left_by_settling, fired, begun}
 use Rattle.scratch.specs.Blank.{unknown_cell, BlankFiring}
-use Rattle.propagation.specs.Cells.{PropagationStands}
-use Rattle.results.specs.Results.{answered}
-use Rattle.engine.specs.Cells.{Loaded, AllHeld, LeftByChanging}
+use Rattle.propagation.specs.Cells.{PropagationStands, flows_by_settling}
+use Rattle.results.specs.Results.{answered, over}
+use Rattle.engine.specs.Cells.{Loaded, LeftByChanging}
 use Rattle.engine.proofs.Loading.{loaded_states, loaded_flows, assertion_stands}
 use Rattle.engine.proofs.Guards.{length_all, all_rows}
+use Rattle.engine.proofs.Entering.{flow_part, with_flows, part_stands, enter_refused, enter_settled}
+use Rattle.variables.specs.declared.VariableRow.{VariableRow}
 
-module _ {model : Model} {kinds : List ℕ} {parameters : List ℤ} {rows : List (List ℤ)} {nexts guards : List ℕ}
+-- ---- an error that is mapped: which result was there before
+
+module _ {T E D : Type 0} (r : Result T E) (out : Result T D) (variant : is_ok out ≡ is_ok r) where
+  -- the error that there was
+  pub err_of : {d : D} → out ≡ Err d → (e : E) × (r ≡ Err e)
+  err_of {d} is = by r (sym variant ∙ ap is_ok is)
+    where
+      by : (r : Result T E) → is_ok r ≡ false → (e : E) × (r ≡ Err e)
+      by (Ok x) h = absurd (true≢false h)
+      by (Err e) h = (e, refl)
+
+  -- a value stays
+  pub ok_of : (Q : E → Type 0) → MatchResult r (λ x. out ≡ Ok x) Q → {y : T} → out ≡ Ok y → r ≡ Ok y
+  ok_of Q same {y} is = by r refl (sym variant ∙ ap is_ok is)
+    where
+      by : (s : Result T E) → r ≡ s → is_ok s ≡ true → r ≡ Ok y
+      by (Ok x) e h =
+          let z : out ≡ Ok x = MatchResult-at_ok (λ x. out ≡ Ok x) Q x e same in
+          let w : x ≡ y = cc (z, is) in
+          e ∙ ap Ok w
+      by (Err x) e h = absurd (true≢false (sym h))
+
+module _ {model : Model} {kinds : List ℕ} {parameters : List ℤ} {rows : List VariableRow} {nexts guards : List ℕ}
     (d : Loaded model kinds parameters rows nexts guards) where
   pub length_rows : length rows ≡ model.sizes.states + model.sizes.flows
   length_rows = all_rows d ∙ length_all d
@@ -64,15 +92,26 @@ module _ {model : Model} {kinds : List ℕ} {parameters : List ℤ} {rows : List
       unfolding meaning_of
       begin_entered r left e = e ∙ sym begun_is
 
+      abbrev pub flows_stand : PropagationStands kinds parameters nexts rows model.assertion (length ss) (length (flow_part model.sizes.states (model.sizes.states + model.sizes.flows) old))
+      flows_stand = part_stands _ _ ss old long length_rows begin_stands room
+
+      module _ (r : Result ℕ Fault) (flows : List ℤ)
+          (left : answered r flows ≡ flows_by_settling (length ss) (flow_part model.sizes.states (model.sizes.states + model.sizes.flows) old) (settle d.decoded.system ss)) where
+        pub begin_refused : (f : Fault) → r ≡ Err f
+            → answered (Err (AssertionFault f)) (with_flows model.sizes.states (model.sizes.states + model.sizes.flows) old flows) ≡ begun (meaning_of d.decoded.system) ss old
+        begin_refused f k = begin_entered _ _ (enter_refused _ _ ss old long length_rows begin_stands room r flows left f k)
+
+        pub begin_settled : (count : ℕ) → r ≡ Ok count → (new : List ℤ)
+            → new ≡ over ss (with_flows model.sizes.states (model.sizes.states + model.sizes.flows) old flows)
+            → answered (Ok count) new ≡ begun (meaning_of d.decoded.system) ss old
+        begin_settled count k new h = begin_entered _ _ (enter_settled _ _ ss old long length_rows begin_stands room r flows left count k new h)
+
   -- ---- firing
 
   module _ (k : ℕ) (old : List ℤ) {nodes : ℕ} {states blank given : List ℤ} {queue waits : List ℕ}
       (b : BlankFiring (length rows) nodes states blank given queue waits) where
     length_blank : length blank ≡ length rows
     length_blank = ap length b.valuation.nothing_known ∙ length-replicate (length rows) unknown_cell
-
-    pub all_held : (cells : List ℤ) → (length blank ≤ length old → AllHeld (length blank) old cells) → length rows ≤ length old → AllHeld (length rows) old cells
-    all_held cells = subst (λ n. n ≤ length old → AllHeld n old cells) length_blank
 
     pub nothing_known_lem : (cells forgotten : List ℤ) → length cells ≡ length blank → forgotten ≡ replicate (length cells) unknown_cell
         → forgotten ≡ replicate (length rows) unknown_cell
@@ -99,9 +138,6 @@ module _ {model : Model} {kinds : List ℕ} {parameters : List ℤ} {rows : List
 
       pub length_states : model.sizes.states ≡ length (take model.sizes.states new)
       length_states = simp length-take (omega (arith, states_within))
-
-      pub states_zeros : (cleared : List ℤ) → cleared ≡ replicate (length new) (pos 0) → cleared ≡ replicate (length rows) (pos 0)
-      states_zeros cleared e = e ∙ ap (λ n. replicate n (pos 0)) length_new
 
       module _ (going : x ≡ Ok tt) where
         is_open : LeftByChanging (meaning_of d.decoded.system) k old new (Ok tt)

@@ -1,14 +1,12 @@
--- Guards of a loaded model: the values of all variables are held as cells, and what the guard over them comes to either ends the
--- firing or lets it go on.
+-- Guards of a loaded model: what the guard over the values of all variables comes to either ends the firing or lets it go on.
 use Rattle.std.specs.Prelude.{Result, Ok, Err}
-use mathlib.Core.Path.{◌≡◌, refl, sym, ap, ◌∙◌}
+use mathlib.Core.Path.{◌≡◌, refl, ap, ◌∙◌}
 use mathlib.Core.Bool.{Bool, true, false, cond, true≢false}
 use mathlib.Core.List.{List}
 use Prim.Native.Nat.{ℕ, ◌+◌, ◌≤◌, ◌<◌, ◌^◌}
 use native.Mathlib.Omega.{arith}
 use lib.IntN.{ℤ, pos}
-use lib.ListN.{length, take, get_or, length-append, length-take, length-drop}
-use lib.Seq.{take_at, take_all}
+use lib.ListN.{length, take, get_or, length-append}
 use lib.Signed.{mag}
 use mir.Syntax.{w32}
 use mir.Val.{of_z}
@@ -28,33 +26,13 @@ use Rattle.semantics.specs.declared.NotFired.{NotFired}
 use Rattle.semantics.specs.Meanings.{Meaning, guard_in, guard_over}
 use Rattle.semantics.specs.Firing.{Left, left_by_acting, left_by_guard}
 use Rattle.semantics.proofs.Knowing.{element_below}
-use Rattle.propagation.specs.Cells.{AllRepresentable}
-use Rattle.results.specs.Results.{answered, over}
+use Rattle.results.specs.Results.{answered}
 use Rattle.variables.proofs.Columns.{row_count}
-use Rattle.engine.specs.Cells.{Loaded, AllHeld, admission}
+use Rattle.engine.specs.Cells.{Loaded, admission}
 use Rattle.engine.proofs.Loading.{loaded_well_formed, loaded_states, loaded_flows, loaded_guards, loaded_guard}
+use Rattle.variables.specs.declared.VariableRow.{VariableRow}
 
--- ---- values held as cells
-
-module _ (values cells : List ℤ) (room : length cells ≤ length values) where
-  pub length_values : length cells ≡ length (take (length cells) values)
-  length_values = simp length-take (omega arith)
-
-  pub values_fit : length (take (length cells) values) ≤ length cells
-  values_fit = omega (arith, length_values)
-
-  pub values_held : (new : List ℤ) → new ≡ over (take (length cells) values) cells → AllRepresentable (take (length cells) values)
-      → AllHeld (length cells) values new
-  values_held new e known = record { room = room; held = same; known = rw same known }
-    where
-      length_new : length new ≡ length cells
-      length_new = ap length e ∙ simp (length-append, length-drop) (omega (arith, length_values))
-
-      same : new ≡ take (length cells) values
-      same =
-          sym (take_all (length cells) new (omega (arith, length_new))) ∙ ap (take (length cells)) e ∙ take_at _ _ _ (sym length_values)
-
-module _ {model : Model} {kinds : List ℕ} {parameters : List ℤ} {rows : List (List ℤ)} {nexts guards : List ℕ}
+module _ {model : Model} {kinds : List ℕ} {parameters : List ℤ} {rows : List VariableRow} {nexts guards : List ℕ}
     (d : Loaded model kinds parameters rows nexts guards) where
   pub length_all : length (variables d.decoded.system) ≡ model.sizes.states + model.sizes.flows
   length_all =

@@ -5,3 +5,4 @@ pub mod Loading
 pub mod Guards
 pub mod Changing
 pub mod Firings
+pub mod Accepted

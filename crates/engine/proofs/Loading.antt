@@ -17,8 +17,9 @@ use Rattle.semantics.proofs.Knowing.{element_all}
 use Rattle.rounds.specs.Cells.{AssertionStands}
 use Rattle.engine.specs.Cells.{Loaded}
 use Rattle.interpreter.specs.Cells.{NextPlaces}
+use Rattle.variables.specs.declared.VariableRow.{VariableRow}
 
-module _ {model : Model} {kinds : List ℕ} {parameters : List ℤ} {rows : List (List ℤ)} {nexts guards : List ℕ}
+module _ {model : Model} {kinds : List ℕ} {parameters : List ℤ} {rows : List VariableRow} {nexts guards : List ℕ}
     (d : Loaded model kinds parameters rows nexts guards) where
   pub exact : (d.file ≡ encode d.decoded.system) × (model.sizes ≡ sizes_of d.decoded.system) × WellFormed d.decoded.system
   exact = (check_exact d.file d.bytes model.sizes d.decoded.system).0 d.decoded.checked

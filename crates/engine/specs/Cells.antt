@@ -12,6 +12,7 @@ use Rattle.semantics.specs.declared.NotFired.{NotFired}
 use Rattle.semantics.specs.declared.NotFired.TheVariants.{Disabled, GuardFailed}
 use Rattle.semantics.specs.Meanings.{Meaning, meaning_of}
 use Rattle.semantics.specs.Firing.{left_by_settling, fired}
+use Rattle.variables.specs.declared.VariableRow.{VariableRow}
 
 -- the values of so many variables, the first of those lent, are held as cells
 pub record AllHeld (count : ℕ) (values cells : List ℤ) : Type 0 where
@@ -33,12 +34,12 @@ LeftByChanging m t old states (Ok tt) =
     (length m.declarations ≤ length old) × (left_by_settling old (m.propagate (take m.states states)) ≡ fired m t old)
 
 -- the slices are the decoding of an accepted file: what the functions exported here ask
-pub record Loaded (model : Model) (kinds : List ℕ) (parameters : List ℤ) (rows : List (List ℤ)) (nexts guards : List ℕ) : Type 0 where
+pub record Loaded (model : Model) (kinds : List ℕ) (parameters : List ℤ) (rows : List VariableRow) (nexts guards : List ℕ) : Type 0 where
   pub file : List ℕ
   pub bytes : Bytes file
   pub decoded : Decoded file model kinds parameters rows nexts guards
 
 -- this is true of the meaning of the model whose decoding is lent
-abbrev pub OnLoaded : Model → List ℕ → List ℤ → List (List ℤ) → List ℕ → List ℕ → (Meaning → Type 0) → Type 0
+abbrev pub OnLoaded : Model → List ℕ → List ℤ → List VariableRow → List ℕ → List ℕ → (Meaning → Type 0) → Type 0
 OnLoaded model kinds parameters rows nexts guards P =
     (d : Loaded model kinds parameters rows nexts guards) → P (meaning_of d.decoded.system)

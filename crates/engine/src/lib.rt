@@ -2,4 +2,24 @@
 
 #![tactic(auto)]
 
+ghost use Rattle.rounds.specs.Lent.{IndexHeld};
+ghost use Rattle.engine.specs.Lent.{LoadedIn};
+
+use tables::{Index, Tables};
+
 pub mod transitions; // transitions.rt: guards, firing, starting
+
+// The tables that an accepted file is decoded to; which file is no part of it.
+#[derive(Clone, Copy)]
+pub struct DecodedModel<'a> {
+    pub tables: Tables<'a>,
+    pub ghost accepted: { ∥ LoadedIn tables ∥₁ },
+}
+
+// A decoded model, with the index of its assertion.
+#[derive(Clone, Copy)]
+pub struct LoadedModel<'a> {
+    pub decoded: DecodedModel<'a>,
+    pub index: Index<'a>,
+    pub ghost indexed: { IndexHeld decoded.tables index },
+}

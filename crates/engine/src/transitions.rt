@@ -1,46 +1,36 @@
-// Guards, firing and starting, on the slices of a decoded model and lent values.
+// Guards, firing and starting, on a decoded model and lent values.
+
+#![tactic(auto)]
 
 ghost use Rattle.std.specs.Prelude.{◌≡◌, ◌≤◌, pos, length, replicate};
 ghost use Rattle.results.specs.Results.{answered};
-ghost use Rattle.scratch.specs.Blank.{BlankGathering, BlankCells, BlankFiring};
-ghost use Rattle.waiting.specs.Index.{Indexed};
 ghost use Rattle.expressions.specs.Cells.{valuation_of};
 ghost use Rattle.semantics.specs.Meanings.{guard_over, meaning_of};
 ghost use Rattle.semantics.specs.Firing.{fired, begun};
-ghost use Rattle.engine.specs.Cells.{Loaded, AllHeld, admission, LeftByChanging};
+ghost use Rattle.reading.specs.Readings.{SameCells};
+ghost use Rattle.propagation.specs.Lent.{BlankIn, BlankCellsIn};
+ghost use Rattle.engine.specs.Cells.{AllHeld, admission, LeftByChanging};
+ghost use Rattle.engine.specs.Lent.{LoadedIn, OnLoadedIn, BlankFiringIn};
 
+use crate::{DecodedModel, LoadedModel};
 use evaluation::Evaluation;
-use interpreter::Gathered;
-use model::Model;
 use reading::Gathering;
 use semantics::{Firing, NotFired};
 use syntax::Cursor;
-use tables::{Index, Tables};
 
 // What a true expression comes to.
 const TRUE: i32 = 1;
 
 // The guard of a transition over cells.
-pub fn guard(
-    model: Model,
-    kinds: &[u8],
-    parameters: &[i32],
-    variables: &[[i32; 3]],
-    nexts: &[u16],
-    guards: &[u16],
-    cells: &[i64],
-    transition: usize,
-) -> Evaluation
-    requires { Loaded model kinds.now parameters.now variables.now nexts.now guards.now }
-    ensures { (d : Loaded model kinds.now parameters.now variables.now nexts.now guards.now)
-        → result ≡ guard_over d.decoded.system transition (valuation_of cells.now) }
+pub fn guard(decoded: &DecodedModel<'_>, cells: &[i64], transition: usize) -> Evaluation
+    ensures { (d : LoadedIn decoded.now.tables) → result ≡ guard_over d.decoded.system transition (valuation_of cells.now) }
 {
-    if guards.len() <= transition {
+    let tables = &decoded.tables;
+    let Some(place) = tables.guards.get(transition) else {
         return Evaluation::Unknown;
-    }
-    let at = guards[transition] as usize;
-    let r = expressions::evaluate(kinds, parameters, cells, Cursor { at });
-    r.evaluation
+    };
+    let at = usize::from(*place);
+    expressions::evaluate(tables.kinds, tables.parameters, cells, Cursor { at }).evaluation
 }
 
 // As many of the values lent as there are cells are held as cells; nothing is done where they are too few.
@@ -65,59 +55,35 @@ fn admit(guard: Evaluation) -> Result<(), NotFired>
     }
 }
 
-// Guard and action over the values of all variables, held as cells: where the firing goes on the new states stand first.
+// Guard and action over the values of all variables, held as cells: where the firing goes on the new states stand first. What is worked in
+// stays apart, here and in what follows: of one struct two parts cannot be lent on at once.
 fn change_states(
-    model: Model,
-    kinds: &[u8],
-    parameters: &[i32],
-    variables: &[[i32; 3]],
-    nexts: &[u16],
-    guards: &[u16],
+    decoded: &DecodedModel<'_>,
     values: &[i32],
     cells: &[i64],
-    given: &mut [i64],
-    queue: &mut [u16],
-    waits: &mut [u16],
+    gathering: &mut Gathering<'_>,
     states: &mut [i32],
     transition: usize,
 ) -> Result<(), NotFired>
-    requires { Loaded model kinds.now parameters.now variables.now nexts.now guards.now
-        × (length variables.now ≤ length values.now → AllHeld (length variables.now) values.now cells.now)
-        × (states.old ≡ replicate (length variables.now) (pos 0))
-        × BlankGathering (length variables.now) (length kinds.now) given.old queue.old waits.old }
-    ensures { ((d : Loaded model kinds.now parameters.now variables.now nexts.now guards.now)
-        → LeftByChanging (meaning_of d.decoded.system) transition values.now states.new result)
-        × BlankGathering (length variables.now) (length kinds.now) given.new queue.new waits.new }
+    requires { (length decoded.now.tables.variables.now ≤ length values.now → AllHeld (length decoded.now.tables.variables.now) values.now cells.now)
+        × (states.old ≡ replicate (length decoded.now.tables.variables.now) (pos 0))
+        × BlankIn decoded.now.tables gathering.old }
+    ensures changed { OnLoadedIn decoded.now.tables (λ m. LeftByChanging m transition values.now states.new result) }
+    ensures blank { BlankIn decoded.now.tables gathering.new }
+    ensures same { SameCells gathering.old gathering.new }
 {
-    let n = model.sizes.states + model.sizes.flows;
+    let tables = &decoded.tables;
+    let s = tables.model.sizes.states;
+    let n = s + tables.model.sizes.flows;
     if values.len() < n {
         return Err(NotFired::Disabled);
     }
-    let evaluation = guard(
-        model, kinds, parameters, variables, nexts, guards, cells, transition,
-    );
+    let evaluation = guard(decoded, cells, transition);
     admit(evaluation)?;
-    let s = model.sizes.states;
     propagation::store(&values[..s], states);
-    let place = guards[transition] as usize;
-    let action = nexts[place] as usize;
-    let tables = Tables {
-        model,
-        kinds,
-        parameters,
-        variables,
-        nexts,
-        guards,
-    };
-    let mut gathering = Gathering {
-        found: Gathered::default(),
-        given,
-        queue,
-        queued: 0,
-        waits,
-        pending: 0,
-    };
-    match propagation::act(&tables, cells, &mut gathering, action, &mut states[..s]) {
+    let place = tables.guards[transition] as usize;
+    let action = tables.nexts[place] as usize;
+    match propagation::act(tables, cells, gathering, action, &mut states[..s]) {
         Ok(()) => Ok(()),
         Err(fault) => {
             states.fill(0);
@@ -128,118 +94,65 @@ fn change_states(
 
 // The states take these values, then the assertion.
 pub fn begin(
-    model: Model,
-    kinds: &[u8],
-    parameters: &[i32],
-    variables: &[[i32; 3]],
-    nexts: &[u16],
-    guards: &[u16],
-    heads: &[u16],
-    links: &[u16],
+    loaded: &LoadedModel<'_>,
     states: &[i32],
     cells: &mut [i64],
-    given: &mut [i64],
-    queue: &mut [u16],
-    waits: &mut [u16],
+    gathering: &mut Gathering<'_>,
     values: &mut [i32],
 ) -> Firing
-    requires { Loaded model kinds.now parameters.now variables.now nexts.now guards.now
-        × Indexed kinds.now parameters.now model.assertion (length variables.now) heads.now links.now
-        × BlankCells (length variables.now) (length kinds.now) cells.old given.old queue.old waits.old }
-    ensures { ((d : Loaded model kinds.now parameters.now variables.now nexts.now guards.now)
-        → answered result values.new ≡ begun (meaning_of d.decoded.system) states.now values.old)
-        × BlankCells (length variables.now) (length kinds.now) cells.new given.new queue.new waits.new }
+    requires { BlankCellsIn loaded.now.decoded.tables cells.old gathering.old }
+    ensures begun { OnLoadedIn loaded.now.decoded.tables (λ m. answered result values.new ≡ begun m states.now values.old) }
+    ensures blank { BlankCellsIn loaded.now.decoded.tables cells.new gathering.new }
+    ensures same { SameCells gathering.old gathering.new }
 {
-    let s = model.sizes.states;
-    let n = s + model.sizes.flows;
+    let s = loaded.decoded.tables.model.sizes.states;
+    let n = s + loaded.decoded.tables.model.sizes.flows;
     if values.len() < n {
         return Err(NotFired::Disabled);
     }
     if states.len() != s {
         return Err(NotFired::Disabled);
     }
-    let tables = Tables {
-        model,
-        kinds,
-        parameters,
-        variables,
-        nexts,
-        guards,
-    };
-    let index = Index { heads, links };
-    let mut gathering = Gathering {
-        found: Gathered::default(),
-        given,
-        queue,
-        queued: 0,
-        waits,
-        pending: 0,
-    };
-    match propagation::propagate(
-        &tables,
-        &index,
+    let count = propagation::propagate(
+        &loaded.decoded.tables,
+        &loaded.index,
         states,
         cells,
-        &mut gathering,
+        gathering,
         &mut values[s..n],
-    ) {
-        Err(fault) => Err(NotFired::AssertionFault(fault)),
-        Ok(count) => {
-            propagation::store(states, values);
-            Ok(count)
-        }
-    }
+    )
+    .map_err(NotFired::AssertionFault)?;
+    propagation::store(states, values);
+    Ok(count)
 }
 
 // Guard, action, assertion; nothing is recorded.
 pub fn fire(
-    model: Model,
-    kinds: &[u8],
-    parameters: &[i32],
-    variables: &[[i32; 3]],
-    nexts: &[u16],
-    guards: &[u16],
-    heads: &[u16],
-    links: &[u16],
+    loaded: &LoadedModel<'_>,
     states: &mut [i32],
     cells: &mut [i64],
-    given: &mut [i64],
-    queue: &mut [u16],
-    waits: &mut [u16],
+    gathering: &mut Gathering<'_>,
     values: &mut [i32],
     transition: usize,
 ) -> Firing
-    requires { Loaded model kinds.now parameters.now variables.now nexts.now guards.now
-        × Indexed kinds.now parameters.now model.assertion (length variables.now) heads.now links.now
-        × BlankFiring (length variables.now) (length kinds.now) states.old cells.old given.old queue.old waits.old }
-    ensures { ((d : Loaded model kinds.now parameters.now variables.now nexts.now guards.now)
-        → answered result values.new ≡ fired (meaning_of d.decoded.system) transition values.old)
-        × BlankFiring (length variables.now) (length kinds.now) states.new cells.new given.new queue.new waits.new }
+    requires { BlankFiringIn loaded.now.decoded.tables states.old cells.old gathering.old }
+    ensures fired { OnLoadedIn loaded.now.decoded.tables (λ m. answered result values.new ≡ fired m transition values.old) }
+    ensures blank { BlankFiringIn loaded.now.decoded.tables states.new cells.new gathering.new }
+    ensures same { SameCells gathering.old gathering.new }
 {
     hold(values, cells);
     let changed = change_states(
-        model, kinds, parameters, variables, nexts, guards, values, cells, given, queue, waits,
-        states, transition,
+        &loaded.decoded,
+        values,
+        cells,
+        gathering,
+        states,
+        transition,
     );
     scratch::forget(cells);
     changed?;
-    let s = model.sizes.states;
-    let firing = begin(
-        model,
-        kinds,
-        parameters,
-        variables,
-        nexts,
-        guards,
-        heads,
-        links,
-        &states[..s],
-        cells,
-        given,
-        queue,
-        waits,
-        values,
-    );
+    let s = loaded.decoded.tables.model.sizes.states;
+    let firing = begin(loaded, &states[..s], cells, gathering, values);
     states.fill(0);
     firing
 }

@@ -1,13 +1,13 @@
 -- Signed numbers as the machine has them. `SFits w z` says that z is a signed number of width w: `mag z` is below half the
 -- width's power. The sum, difference, product, quotient and remainder of two 32-bit numbers fit 64 bits.
 use mathlib.Core.Path.{◌≡◌, refl, sym, ap, ◌∙◌}
-use mathlib.Core.Bool.{Bool, true, false, true≢false, cond}
-use Prim.Native.Nat.{ℕ, zero, suc, ◌+◌, ◌-◌, ◌*◌, ◌/◌, ◌≤◌, ◌<◌, ◌^◌}
-use native.Mathlib.Nat.{mul-le-mul, div-le_self}
+use mathlib.Core.Bool.{Bool, true, false, true≢false}
+use Prim.Native.Nat.{ℕ, zero, suc, ◌/◌, ◌≤◌, ◌<◌, ◌^◌}
+use native.Mathlib.Nat.{div-le_self}
 use native.Mathlib.Omega.{arith}
 use borrow.Author.Tests.{eq-eqb, ne_eqb, le-leb, lt-leb}
-use lib.Dec.{eqb, ltb}
-use lib.IntN.{ℤ, pos, negsuc, neg_ℤ, nat_abs, sub_ℕ, ◌+ℤ◌, ◌-ℤ◌, ◌*ℤ◌}
+use lib.Dec.{eqb}
+use lib.IntN.{ℤ, pos, negsuc, neg_ℤ, nat_abs}
 use lib.Signed.{mag, mag_rem, nat_abs-le, quot_z, rem_z}
 use mir.Syntax.{Width, w32, w64}
 use mir.Val.{to_z, of_z, SFits}
@@ -91,30 +91,6 @@ mag_neg : (n : ℕ) → mag (neg_ℤ (pos n)) ≤ n
 mag_neg zero = omega arith
 mag_neg (suc n) = omega arith
 
-mag_sub : (m n : ℕ) → mag (sub_ℕ m n) ≤ m + n
-mag_sub m n = by (ltb m n)
-  where
-    by : (t : Bool) → mag (cond t (negsuc (n - suc m)) (pos (m - n))) ≤ m + n
-    by true = omega arith
-    by false = omega arith
-
-mag_sum : (x y : ℤ) → mag (x +ℤ y) ≤ nat_abs x + nat_abs y
-mag_sum (pos a) (pos b) = omega arith
-mag_sum (pos a) (negsuc b) = mag_sub a (suc b)
-mag_sum (negsuc a) (pos b) = omega (arith, mag_sub b (suc a))
-mag_sum (negsuc a) (negsuc b) = omega arith
-
-nat_abs_neg : (x : ℤ) → nat_abs (neg_ℤ x) ≡ nat_abs x
-nat_abs_neg (pos zero) = refl
-nat_abs_neg (pos (suc n)) = refl
-nat_abs_neg (negsuc n) = refl
-
-mag_product : (x y : ℤ) → mag (x *ℤ y) ≤ nat_abs x * nat_abs y
-mag_product (pos a) (pos b) = omega arith
-mag_product (pos a) (negsuc b) = mag_neg (a * suc b)
-mag_product (negsuc a) (pos b) = mag_neg (suc a * b)
-mag_product (negsuc a) (negsuc b) = omega arith
-
 mag_quotient : (x y : ℤ) → mag (quot_z x y) ≤ nat_abs x
 mag_quotient (pos a) (pos b) = div-le_self a b
 mag_quotient (pos a) (negsuc b) = omega (arith, mag_neg (a / suc b), div-le_self a (suc b))
@@ -129,15 +105,6 @@ size {x} f = nat_abs-le x f.sfits
 -- the answer at two 32-bit numbers fits 64 bits
 abbrev pub Widens : (ℤ → ℤ → ℤ) → Type 0
 Widens op = (x y : ℤ) → SFits w32 x → SFits w32 y → SFits w64 (op x y)
-
-pub sum_widens : Widens ◌+ℤ◌
-sum_widens x y f g = record { sfits = omega (arith, mag_sum x y, size f, size g) }
-
-pub difference_widens : Widens ◌-ℤ◌
-difference_widens x y f g = record { sfits = omega (arith, mag_sum x (neg_ℤ y), nat_abs_neg y, size f, size g) }
-
-pub product_widens : Widens ◌*ℤ◌
-product_widens x y f g = record { sfits = omega (arith, mag_product x y, mul-le-mul (size f) (size g)) }
 
 pub quotient_widens : Widens quot_z
 quotient_widens x y f g = record { sfits = omega (arith, mag_quotient x y, size f) }
@@ -163,13 +130,6 @@ module _ {op : ℤ → ℤ → ℤ} (widens : Widens op) {x y : ℤ} (f : SFits 
   answer_same = to_z-of_z w64 (op (wide x) (wide y)) answer_fits ∙ rw (wide_same f, wide_same g)
 
 -- ---- division
-
-pub divisor : {y : ℤ} → SFits w32 y → (of_z w32 y ≡ 0 → ⊥) → 0 < of_z w64 (stored y)
-divisor {y} f n = rw (to_z-of_z w32 y f) (above y f.sfits n)
-  where
-    above : (y : ℤ) → mag y < 2 ^ 31 → (of_z w32 y ≡ 0 → ⊥) → 0 < of_z w64 y
-    above (pos k) f n = omega arith
-    above (negsuc k) f n = omega arith
 
 pub divided_by_zero : (op : ℤ → ℤ → ℤ) (x : ℤ) {y : ℤ} → SFits w32 y → of_z w32 y ≡ 0 → Failed ≡ divided op x y
 unfolding divided

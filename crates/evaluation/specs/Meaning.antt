@@ -68,6 +68,12 @@ is_failed Unknown = false
 is_failed Failed = true
 is_failed (Value v) = false
 
+-- is it a value, and true?
+unfoldable pub is_true : Evaluation → Bool
+is_true Unknown = false
+is_true Failed = false
+is_true (Value v) = eq_z v (boolean true)
+
 -- the value, where there is one
 unfoldable pub number : Evaluation → ℤ
 number Unknown = pos 0

@@ -5,14 +5,26 @@
 ghost use Rattle.std.specs.Prelude.{◌≡◌, ◌+ℤ◌, ◌-ℤ◌, ◌*ℤ◌};
 ghost use Rattle.std.specs.Int.Signed.{lt_z, le_z, quot_z, rem_z};
 ghost use Rattle.evaluation.specs.Numbers.{checked, eq_z, boolean};
-ghost use Rattle.evaluation.specs.Meaning.{divided};
+ghost use Rattle.evaluation.specs.Meaning.{divided, is_true};
 
-// What an expression evaluates to; a Boolean is 0 or 1.
+// What an expression evaluates to; a Boolean is 0 or 1. These are three, and a Result of an Option would say no more.
 #[derive(Clone, Copy, PartialEq, Eq, Debug)]
 pub enum Evaluation {
     Unknown,
     Failed,
     Value(i32),
+}
+
+impl Evaluation {
+    // Is this the value true.
+    pub fn is_true(self) -> bool
+        ensures { result ≡ is_true self }
+    {
+        match self {
+            Evaluation::Value(v) => v == 1,
+            _ => false,
+        }
+    }
 }
 
 // The operators with two operands.

@@ -14,8 +14,7 @@ use Rattle.evaluation.specs.declared.Evaluation.{Evaluation}
 use Rattle.evaluation.specs.declared.Evaluation.TheVariants.{Value}
 use Rattle.evaluation.specs.declared.Operator.{Operator}
 use Rattle.evaluation.specs.declared.Operator.TheVariants.{Conjunction, Disjunction, Equality, Less, LessOrEqual, Sum, Difference, Product, Quotient, Remainder, Equivalence}
-use Rattle.evaluation.specs.Numbers.{eq_z, boolean}
-use Rattle.evaluation.specs.Meaning.{operated, negated, chosen}
+use Rattle.evaluation.specs.Meaning.{operated, negated, chosen, is_true}
 use Rattle.kinds.specs.Kinds.{kind_of, operator_of}
 use Rattle.model.specs.Trees.{Expression}
 use Rattle.model.specs.Trees.Expression.{numeral, truth, variable, negation, binary, if_then_else}
@@ -242,15 +241,15 @@ module _ (ks : List ℕ) (ps : List ℤ) where
 
   -- one branch was evaluated
   module _ (at : ℕ) (σ : Valuation) {condition : Evaluation} {v : ℤ} (p : condition ≡ Value v) {r : Evaluated} where
-    pub then_given : eq_z v (boolean true) ≡ true → Told σ r at → {n : ℕ} → ToldPlace n r.next.at
+    pub then_given : is_true condition ≡ true → Told σ r at → {n : ℕ} → ToldPlace n r.next.at
         → ToldBranches σ (evaluated_as r.evaluation n) condition at
-    unfolding chosen
+    unfolding chosen is_true
     then_given e told u a b h k =
         let q = told a h in
-        rw (p, e) (ap₂ evaluated_as (ap (λ x. x.evaluation) q) (after_second at a b k (ap (λ x. x.next.at) q) u))
+        rw (p, rw p at e) (ap₂ evaluated_as (ap (λ x. x.evaluation) q) (after_second at a b k (ap (λ x. x.next.at) q) u))
 
-    pub else_given : eq_z v (boolean true) ≡ false → {m : ℕ} → ToldPlace m at → Told σ r m → ToldBranches σ r condition at
-    unfolding chosen
+    pub else_given : is_true condition ≡ false → {m : ℕ} → ToldPlace m at → Told σ r m → ToldBranches σ r condition at
+    unfolding chosen is_true
     else_given e t told a b h k =
         let q = t ps a h in
-        rw (p, e) (told b (moved b (sym q) k) ∙ ap (λ m. evaluated_as (evaluate b σ) (m + size_of_expression b)) q)
+        rw (p, rw p at e) (told b (moved b (sym q) k) ∙ ap (λ m. evaluated_as (evaluate b σ) (m + size_of_expression b)) q)

@@ -1,10 +1,11 @@
--- The number of children of an expression's node is that of its row, at each of the 16 kinds.
-use mathlib.Core.Path.{refl}
+-- The number of children of an expression's node is that of its row.
+use mathlib.Core.Path.{ap}
 use native.Mathlib.Omega.{arith}
-use Rattle.kinds.specs.Kinds.{children_of, column}
-use Rattle.kinds.proofs.Follows.{same_rule}
-use Rattle.expressions.specs.Cells.{operand_count, OperandCounts}
+use Rattle.kinds.specs.declared.Row.{Row}
+use Rattle.kinds.specs.Kinds.{row_of}
+use Rattle.kinds.proofs.Follows.{table_follows}
+use Rattle.expressions.specs.Cells.{OperandCounts}
 
 pub operand_counts : OperandCounts
-unfolding column operand_count children_of
-operand_counts k l h = same_rule operand_count children_of 32 16 refl k l (omega arith)
+unfolding row_of
+operand_counts k l h = ap (λ (r : Row). r.children) (table_follows k (omega arith)).0

@@ -1,5 +1,5 @@
 -- The loop of `past`: the expressions that are still due, and what the invariant says of them.
-use mathlib.Core.Path.{◌≡◌, refl, subst, ◌∙◌}
+use mathlib.Core.Path.{◌≡◌, refl, ap, subst, ◌∙◌}
 use mathlib.Core.List.{List, [], ◌∷◌, ◌++◌}
 use Prim.Native.Nat.{ℕ, suc, ◌+◌, ◌-◌, ◌≤◌, ◌<◌}
 use native.Mathlib.Omega.{arith}
@@ -7,11 +7,11 @@ use lib.IntN.{ℤ}
 use lib.ListN.{length, get_or, length-append}
 use Rattle.evaluation.specs.declared.Operator.{Operator}
 use Rattle.evaluation.specs.declared.Operator.TheVariants.{Conjunction, Disjunction, Equality, Less, LessOrEqual, Sum, Difference, Product, Quotient, Remainder, Equivalence}
-use Rattle.kinds.specs.Kinds.{kind_of}
+use Rattle.kinds.specs.declared.Row.{Row}
+use Rattle.kinds.specs.Kinds.{kind_of, children_of, row_of}
 use Rattle.model.specs.Trees.{Expression}
 use Rattle.model.specs.Trees.Expression.{numeral, truth, variable, negation, binary, if_then_else}
 use Rattle.model.specs.Standing.{ExpressionAt, size_of_expression}
-use Rattle.expressions.specs.Cells.{operand_count}
 use Rattle.expressions.proofs.Evaluating.{expression_within}
 
 -- the children of an expression's node
@@ -46,8 +46,8 @@ size_positive (negation a) = omega arith
 size_positive (binary op a b) = omega arith
 size_positive (if_then_else c a b) = omega arith
 
-two_operands : (op : Operator) → operand_count (kind_of op) ≡ 2
-unfolding kind_of operand_count
+two_operands : (op : Operator) → children_of (kind_of op) ≡ 2
+unfolding kind_of children_of
 two_operands Conjunction = refl
 two_operands Disjunction = refl
 two_operands Equality = refl
@@ -59,6 +59,11 @@ two_operands Product = refl
 two_operands Quotient = refl
 two_operands Remainder = refl
 two_operands Equivalence = refl
+
+-- the children of the row that was read
+pub counted : (ks : List ℕ) (here : ℕ) {r : Row} → r ≡ row_of (get_or ks here 0) → r.children ≡ children_of (get_or ks here 0)
+unfolding row_of
+counted ks here e = ap (λ r. r.children) e
 
 module _ (ks : List ℕ) (ps : List ℤ) where
   -- the expressions stand one after the other from the place on
@@ -76,8 +81,8 @@ module _ (ks : List ℕ) (ps : List ℤ) where
   count_within (e ∷ es) at h =
       omega (arith, expression_within ks ps e at h.0, size_positive e, count_within es (at + size_of_expression e) h.1)
 
-  children_counted : (e : Expression) (at : ℕ) → ExpressionAt ks ps e at → operand_count (get_or ks at 0) ≡ length (children_in e)
-  unfolding ExpressionAt children_in operand_count
+  children_counted : (e : Expression) (at : ℕ) → ExpressionAt ks ps e at → children_of (get_or ks at 0) ≡ length (children_in e)
+  unfolding ExpressionAt children_in children_of
   children_counted (numeral v) at h = rw h.kind
   children_counted (truth v) at h = rw h.kind
   children_counted (variable x) at h = rw h.kind
@@ -121,12 +126,12 @@ module _ (ks : List ℕ) (ps : List ℤ) where
           by [] c p = omega arith
           by (f ∷ es) c p = absurd (omega arith)
 
-      pub step_left : 0 < due → Left e at (here + 1) (due - 1 + operand_count (get_or ks here 0)) × (here < length ks)
+      pub step_left : 0 < due → Left e at (here + 1) (due - 1 + children_of (get_or ks here 0)) × (here < length ks)
       unfolding ExpressionsAt size_of_expressions
       step_left d = by left.rest left.counted left.stands left.ends
         where
           by : (es : List Expression) → length es ≡ due → ExpressionsAt es here → here + size_of_expressions es ≡ at + size_of_expression e
-              → Left e at (here + 1) (due - 1 + operand_count (get_or ks here 0)) × (here < length ks)
+              → Left e at (here + 1) (due - 1 + children_of (get_or ks here 0)) × (here < length ks)
           by [] c s p = absurd (omega arith)
           by (f ∷ es) c s p = (
             record {

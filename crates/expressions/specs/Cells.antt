@@ -1,11 +1,12 @@
 -- How the code goes about it: how it holds the valuations and evaluations that 01 speaks of (cell_value, valuation_of, evaluated_as), and
 -- what its functions ask of the nodes lent to them (the rest). No definition here is 01's own.
-use Rattle.std.specs.Prelude.{cond, List, ◌≡◌, ℕ, ◌+◌, ◌≤◌, eqb, ltb, ℤ}
+use Rattle.std.specs.Prelude.{cond, List, ◌≡◌, ℕ, ◌+◌, ◌≤◌, ℤ}
 use Rattle.std.proofs.Math.Option.{Option, some, none}
 use Rattle.std.proofs.Math.ListN.{get_elem?}
 use Rattle.evaluation.specs.Numbers.{representable}
 use Rattle.evaluation.specs.declared.Evaluation.{Evaluation}
-use Rattle.kinds.specs.Kinds.{children_of}
+use Rattle.kinds.specs.declared.table.TheConstants.{ROWS}
+use Rattle.kinds.specs.Kinds.{children_of, row_in}
 use Rattle.model.specs.Trees.{Expression}
 use Rattle.model.specs.Standing.{ExpressionAt, size_of_expression}
 use Rattle.expressions.specs.declared.Evaluated.{Evaluated}
@@ -41,16 +42,13 @@ pub record KindsStand (ks : List ℕ) (at : ℕ) : Type 0 where
   pub parameters : List ℤ
   pub standing : ExpressionStands ks parameters at
 
--- two kinds of 01's list; expression kinds below negation have no children
+-- a kind of 01's list; expression kinds below negation have no children
 abbrev pub negation_kind : ℕ
 negation_kind = 35
 
-abbrev pub conditional_kind : ℕ
-conditional_kind = 46
-
--- the number of children of an expression's node, by its kind; of kinds that are none of an expression it has no meaning
-unfoldable pub operand_count : ℕ → ℕ
-operand_count k = cond (ltb k negation_kind) 0 (cond (eqb k negation_kind) 1 (cond (eqb k conditional_kind) 3 2))
+-- the number of children of an expression's node, by its kind: that of its row in the table that the code reads
+abbrev pub operand_count : ℕ → ℕ
+operand_count k = (row_in ROWS k).children
 
 -- 01: "A kind byte is looked up in a table of 256 rows: [..] how many children it has": at the kinds of expressions, 32 to 47, it
 -- is the same number. Proved in proofs/OperandCounts.antt.

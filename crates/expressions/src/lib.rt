@@ -10,9 +10,10 @@ ghost use Rattle.model.specs.Standing.{ExpressionAt, size_of_expression};
 ghost use Rattle.expressions.specs.Expressions.{evaluation_of};
 ghost use Rattle.expressions.specs.Expressions as expressions;
 ghost use Rattle.std.proofs.Math.Option.{some};
-ghost use Rattle.expressions.specs.Cells.{cell_value, valuation_of, evaluated_as, negation_kind, operand_count, ExpressionStands, KindsStand, BranchesStand};
+ghost use Rattle.expressions.specs.Cells.{cell_value, valuation_of, evaluated_as, negation_kind, ExpressionStands, KindsStand, BranchesStand};
 
 use evaluation::Evaluation;
+use kinds::Kind;
 use syntax::{Cursor, nodes};
 
 // An evaluation (01: reading) with the cursor after the expression.
@@ -22,12 +23,13 @@ pub struct Evaluated {
     pub next: Cursor,
 }
 
-// Kinds of expressions. Those before negation have no children.
-const VARIABLE: u8 = 34;
+// The bytes of kinds of expressions; those before negation have no children, which a byte tells by its order alone. A match on the kinds
+// themselves makes an evaluation slower.
+const VARIABLE: u8 = Kind::Variable as u8;
 
-const NEGATION: u8 = 35;
+const NEGATION: u8 = Kind::Negation as u8;
 
-const CONDITIONAL: u8 = 46;
+const CONDITIONAL: u8 = Kind::Conditional as u8;
 
 // Does the cell hold a number of 32 bits.
 pub fn is_number(cell: i64) -> bool
@@ -72,22 +74,6 @@ fn leaf(kinds: &[u8], parameters: &[i32], cells: &[i64], at: usize) -> Evaluated
     Evaluated { evaluation, next }
 }
 
-// The number of children of an expression's node.
-fn children(kind: u8) -> usize
-    ensures { result ≡ operand_count kind }
-{
-    if kind < NEGATION {
-        return 0;
-    }
-    if kind == NEGATION {
-        return 1;
-    }
-    if kind == CONDITIONAL {
-        return 3;
-    }
-    2
-}
-
 // The place after the expression at place `at`: its nodes are counted, none is evaluated.
 fn past(kinds: &[u8], at: usize) -> usize
     requires { KindsStand kinds.now at }
@@ -95,15 +81,17 @@ fn past(kinds: &[u8], at: usize) -> usize
 {
     let mut here = at;
     let mut due: usize = 1;
+    // Which node comes next is known only once this one is read, so there is no sequence to go over.
     while 0 < due {
-        due = due - 1 + children(kinds[here]);
+        due = due - 1 + usize::from(kinds::row_of(kinds[here]).children);
         here += 1;
     }
     here
 }
 
 // The expression at the cursor. A child that is a leaf is evaluated without a further call of this function. The slices are handed on
-// as copies: a parameter that is handed on itself is copied to memory at each call, that of a leaf included.
+// as copies: a parameter that is handed on itself is copied to memory at each call, that of a leaf included. They are not lent as one: over a
+// `&Tree` an evaluation takes 2 to 5 percent more, over a struct of the three slices 12.
 #[cycle(conditional_evaluate)]
 pub fn evaluate(kinds: &[u8], parameters: &[i32], cells: &[i64], cursor: Cursor) -> Evaluated
     requires { ExpressionStands kinds.now parameters.now cursor.at }
@@ -161,8 +149,8 @@ fn conditional(
         → result ≡ evaluated_as (chosen condition (expressions.evaluate a (valuation_of cells.now)) (expressions.evaluate b (valuation_of cells.now)))
         (cursor.at + size_of_expression a + size_of_expression b) }
 {
-    if let Evaluation::Value(v) = condition {
-        if v == 1 {
+    if let Evaluation::Value(_) = condition {
+        if condition.is_true() {
             let first = evaluate(kinds, parameters, cells, cursor);
             let evaluation = first.evaluation;
             let next = Cursor {

@@ -1,13 +1,10 @@
 -- How the code holds words.
-use Rattle.std.specs.Prelude.{◌≡◌, List, [], ◌∷◌, ℕ, ◌<◌, ◌≤◌, min, length, drop, Option, MatchOption}
+use Rattle.std.specs.Prelude.{◌≡◌, List, [], ◌∷◌, ℕ, ◌<◌, ◌≤◌, length, drop, Option, MatchOption}
+pub use Rattle.ascii.specs.Ascii.{capped}
 use Rattle.grammar.specs.declared.Token.{Token}
 use Rattle.grammar.specs.declared.Token.TheVariants.{Number, Variable}
 use Rattle.grammar.specs.declared.Word.{Word}
 use Rattle.grammar.specs.Tokens.{tokens_of}
-
--- a number in 32 bits: the greatest stands for all from there on
-abbrev pub capped : ℕ → ℕ
-capped n = min n 4294967295
 
 -- a token with its number in 32 bits
 unfoldable pub held : Token → Token

@@ -52,6 +52,7 @@ fn answer_part(rt: &impl Print, dialogue: &mut Dialogue, part: &[u8]) -> io::Res
 fn answer_all<R: Input + Print>(rt: &R, dialogue: &mut Dialogue) -> io::Result<()> {
     let mut input = rt.reader();
     let mut part = [0u8; PART];
+    // It ends with the input; the number of turns is there since every function must end, whatever is read.
     for _ in 0..u64::MAX {
         let count = input.read(&mut part)?;
         if count == 0 {

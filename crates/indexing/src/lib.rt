@@ -5,23 +5,16 @@
 ghost use Rattle.std.specs.Prelude.{◌≡◌, ℕ, ◌<◌, ◌≤◌, ◌+◌, length, get_or};
 ghost use Rattle.waiting.specs.Index.{Linked, Owners, Indexed, owner_in};
 
-use syntax::nodes;
-
-// Kinds of nodes.
-const ASSIGNMENT: u8 = 17;
-
-const IF_THEN: u8 = 18;
-
-const VARIABLE: u8 = 34;
+use kinds::Kind;
+use syntax::{Tree, nodes};
 
 // The last assignment or if-then, at this node or before.
 fn latest(kind: u8, here: usize, last: usize) -> usize
     ensures { (kind ≡ 17 → result ≡ here) × (kind ≡ 18 → result ≡ here) × ((kind ≡ 17 → ⊥) → (kind ≡ 18 → ⊥) → result ≡ last) }
 {
-    if matches!(kind, ASSIGNMENT | IF_THEN) {
-        here
-    } else {
-        last
+    match Kind::try_from(kind) {
+        Ok(Kind::Assignment | Kind::IfThen) => here,
+        _ => last,
     }
 }
 
@@ -39,16 +32,18 @@ fn own(kinds: &[u8], assertion: usize, links: &mut [u16])
     }
 }
 
-// A node that mentions a variable becomes its first mention, before the one that was first.
-fn mention(kinds: &[u8], parameters: &[i32], heads: &mut [u16], links: &mut [u16], at: usize)
-    requires { (length links.old ≡ length kinds.now + length kinds.now) × (length parameters.now ≡ length kinds.now) × (length kinds.now < 65536) × (at < length kinds.now) }
-    ensures { Linked kinds.now parameters.now (at + 1) heads.old links.old
-        → Linked kinds.now parameters.now at heads.new links.new }
+// A node that mentions a variable becomes its first mention, before the one that was first. The two slices stay apart: `index` alone
+// takes both besides, and its caller lends each on by itself.
+fn mention(tree: &Tree<'_>, heads: &mut [u16], links: &mut [u16], at: usize)
+    requires { (length links.old ≡ length tree.now.kinds.now + length tree.now.kinds.now) × (length tree.now.parameters.now ≡ length tree.now.kinds.now)
+        × (length tree.now.kinds.now < 65536) × (at < length tree.now.kinds.now) }
+    ensures { Linked tree.now.kinds.now tree.now.parameters.now (at + 1) heads.old links.old
+        → Linked tree.now.kinds.now tree.now.parameters.now at heads.new links.new }
 {
-    if kinds[at] != VARIABLE {
+    if !kinds::stands_for(tree.kinds[at], Kind::Variable) {
         return;
     }
-    let variable = nodes::magnitude(parameters[at]);
+    let variable = nodes::magnitude(tree.parameters[at]);
     if heads.len() <= variable {
         return;
     }
@@ -57,20 +52,15 @@ fn mention(kinds: &[u8], parameters: &[i32], heads: &mut [u16], links: &mut [u16
 }
 
 // The first mention of each variable from the assertion on, after each mention the next of the same variable, and the owners.
-pub fn index(
-    kinds: &[u8],
-    parameters: &[i32],
-    assertion: usize,
-    heads: &mut [u16],
-    links: &mut [u16],
-)
-    requires { (length links.old ≡ length kinds.now + length kinds.now) × (length parameters.now ≡ length kinds.now) × (length kinds.now < 65536) × (assertion ≤ length kinds.now) }
-    ensures { Indexed kinds.now parameters.now assertion (length heads.old) heads.new links.new }
+pub fn index(tree: &Tree<'_>, assertion: usize, heads: &mut [u16], links: &mut [u16])
+    requires { (length links.old ≡ length tree.now.kinds.now + length tree.now.kinds.now) × (length tree.now.parameters.now ≡ length tree.now.kinds.now)
+        × (length tree.now.kinds.now < 65536) × (assertion ≤ length tree.now.kinds.now) }
+    ensures { Indexed tree.now.kinds.now tree.now.parameters.now assertion (length heads.old) heads.new links.new }
 {
-    let n = kinds.len();
+    let n = tree.kinds.len();
     heads.fill(n as u16);
     for at in (assertion..n).rev() {
-        mention(kinds, parameters, heads, links, at);
+        mention(tree, heads, links, at);
     }
-    own(kinds, assertion, links);
+    own(tree.kinds, assertion, links);
 }

@@ -20,8 +20,9 @@ use Rattle.standing.specs.Runs.Answer.{refused}
 use Rattle.steps.specs.Answers.{on_file, on_file_answer}
 use Rattle.steps.proofs.Declarations.{rows_declared}
 use Rattle.inspection.specs.Asked.{DeclaredIn}
+use Rattle.variables.specs.declared.VariableRow.{VariableRow}
 
-pub declared_in : (m : List ℕ) (s : Sizes) (left : List (List ℤ)) → RowsInUse m s left → ((i : ℕ) → Fits w8 (get_or m i 0))
+pub declared_in : (m : List ℕ) (s : Sizes) (left : List VariableRow) → RowsInUse m s left → ((i : ℕ) → Fits w8 (get_or m i 0))
     → DeclaredIn (verdict m) s.transitions (take (s.states + s.flows) left)
 unfolding meaning_of
 declared_in m s left u bytes =
@@ -49,7 +50,7 @@ module _ {v : Verdict} {r : Refusal} (e : v ≡ refusal r) where
 
 -- ---- on one that is accepted
 
-module _ {v : Verdict} {transitions : ℕ} {rows : List (List ℤ)} (d : DeclaredIn v transitions rows) where
+module _ {v : Verdict} {transitions : ℕ} {rows : List VariableRow} (d : DeclaredIn v transitions rows) where
   abbrev pub model : Meaning
   model = meaning_of d.system
 

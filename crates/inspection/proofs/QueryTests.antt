@@ -2,7 +2,7 @@
 use mathlib.Core.Path.{◌≡◌, ap, ◌∙◌}
 use mathlib.Core.Bool.{Bool, true, false, not}
 use mathlib.Core.List.{List, ◌++◌, map}
-use mathlib.Core.Logic.{◌⊎◌, inl, inr}
+use mathlib.Core.Logic.{inl, inr}
 use Prim.Native.Nat.{ℕ, ◌≤◌, ◌<◌}
 use native.Mathlib.Omega.{arith}
 use borrow.Author.Tests.{lt-ltb, le-ltb}
@@ -22,6 +22,7 @@ use Rattle.steps.specs.Answers.{on_file, on_file_answer}
 use Rattle.inspection.specs.Asked.{DeclaredIn}
 use Rattle.inspection.specs.Queries.{marks, value, range_check}
 use Rattle.inspection.proofs.Asked.{model, transitions_count, rows_count, on_model, on_model_answer}
+use Rattle.variables.specs.declared.VariableRow.{VariableRow}
 
 module _ (m : Meaning) (r : Run) where
   module _ (short : length r.values < length m.declarations) where
@@ -74,7 +75,7 @@ module _ (m : Meaning) (r : Run) where
 
 -- ---- on a file, over its declarations
 
-module _ {v : Verdict} {transitions : ℕ} {rows : List (List ℤ)} (d : DeclaredIn v transitions rows) where
+module _ {v : Verdict} {transitions : ℕ} {rows : List VariableRow} (d : DeclaredIn v transitions rows) where
   module _ (r : Run) where
     module _ {e : Refusal} {n : ℕ} (k : n ≡ number_of e) (short : IsShort transitions rows r e) where
       pub marks_measured : (buffer : List ℕ) → answered (refused n) buffer ≡ on_file v (λ m. marks m r buffer) buffer

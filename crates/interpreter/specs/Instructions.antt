@@ -95,10 +95,10 @@ pub data Place : Type 0 where
   action assertion : Place
 
 -- 01: the numbers 25 to 30
-unfoldable pub number_of : Place → Fault → ℕ
-number_of action Failure = 25
-number_of action Outside = 26
-number_of action Conflict = 27
-number_of assertion Failure = 28
-number_of assertion Outside = 29
-number_of assertion Conflict = 30
+unfoldable pub fault_number : Place → Fault → ℕ
+fault_number action Failure = 25
+fault_number action Outside = 26
+fault_number action Conflict = 27
+fault_number assertion Failure = 28
+fault_number assertion Outside = 29
+fault_number assertion Conflict = 30

@@ -8,6 +8,8 @@ ghost use Rattle.interpreter.specs.Instructions.Effect.{gives};
 ghost use Rattle.interpreter.specs.Gathering as specs;
 ghost use Rattle.interpreter.specs.Gathering.{gathering, failing};
 
+use variables::VariableRow;
+
 // The three classes of fault, the one with the lowest number first.
 #[derive(Clone, Copy, PartialEq, Eq, Debug)]
 pub enum Fault {
@@ -16,7 +18,8 @@ pub enum Fault {
     Conflict,
 }
 
-// What was found in going over an instruction, nothing by default; `fresh`: a variable without a value was given one.
+// What was found in going over an instruction, nothing by default; `fresh`: a variable without a value was given one. Each class of fault has
+// its flag, which is set without asking what was found before.
 #[derive(Clone, Copy, PartialEq, Eq, Debug, Default)]
 pub struct Gathered {
     pub failed: bool,
@@ -34,11 +37,17 @@ impl Gathered {
     }
 
     // An active assignment gives the variable a value.
-    pub fn give(&mut self, variables: &[[i32; 3]], given: &mut [i64], variable: usize, value: i32)
+    pub fn give(
+        &mut self,
+        variables: &[VariableRow],
+        given: &mut [i64],
+        variable: usize,
+        value: i32,
+    )
         requires { (variable < length given.old) × (variable < length variables.now) }
         ensures { gathering self.new given.new ≡ specs.gather (lows_in variables.now) (highs_in variables.now) (gives variable value) (gathering self.old given.old) }
     {
-        self.outside |= !variables::is_within(variables, variable, value);
+        self.outside |= !variables[variable].is_within(value);
         let held = given[variable];
         if !expressions::is_number(held) {
             given[variable] = i64::from(value);

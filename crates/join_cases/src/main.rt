@@ -11,10 +11,10 @@
 
 ghost use Rattle.std.specs.Prelude.{◌≡◌, ◌+◌, ◌*◌, ◌<◌, ◌≤◌, length};
 
+use cases::Case;
+use results::Refusal;
 use std::fs::File;
 use std::io;
-use std::io::Read;
-use synchronisation::Synchronised;
 
 // The most members of a list.
 const MEMBERS: usize = 64;
@@ -49,88 +49,53 @@ impl From<[u8; 16]> for Head {
     }
 }
 
-impl Head {
-    // The length of the body.
-    fn body_length(self) -> usize
-        ensures { result ≡ self.model + 8 * self.mandatory + 8 * self.optional + self.file }
-    {
-        self.model + 8 * self.mandatory + 8 * self.optional + self.file
-    }
-
-    // The wanted answer.
-    fn wanted(self) -> Result<usize, u8> {
-        match self.refusal {
-            0 => Ok(self.file),
-            number => Err(number),
-        }
-    }
-}
-
-// The answer of a call: the length of the new model, or the number of a refusal.
-fn answer_of(answer: Synchronised) -> Result<usize, u8> {
-    match answer {
-        Synchronised::Length(length) => Ok(length),
-        Synchronised::Refused(number) => Err(number),
-    }
-}
-
 // The stored members, eight bytes each.
 fn load_members(stored: &[u8], members: &mut [usize])
     requires { 8 * length members.old ≤ length stored.now }
 {
-    for (i, member) in members.iter_mut().enumerate() {
-        *member = cases::number::<8>(stored, 8 * i);
+    for (member, bytes) in members.iter_mut().zip(stored.as_chunks::<8>().0) {
+        *member = u64::from_le_bytes(*bytes) as usize;
     }
 }
 
-// Synchronises the members of a case into a slice of the stored length, whose cells hold the stored byte before: are the answer and
-// every cell as stored? False where there is no such case.
-fn is_equal(rt: &impl Print, head: Head, body: &[u8]) -> io::Result<bool>
-    requires { length body.now ≡ head.model + 8 * head.mandatory + 8 * head.optional + head.file }
-{
-    if MEMBERS < head.mandatory || MEMBERS < head.optional || CELLS < head.lent {
-        return Ok(false);
-    }
-    let mut mandatory = [0usize; MEMBERS];
-    let mut optional = [0usize; MEMBERS];
-    let mut out = [head.byte; CELLS];
-    let mandatory = &mut mandatory[..head.mandatory];
-    let optional = &mut optional[..head.optional];
-    let out = &mut out[..head.lent];
-    let (model, rest) = body.split_at(head.model);
-    let (first, rest) = rest.split_at(8 * head.mandatory);
-    let (second, file) = rest.split_at(8 * head.optional);
-    load_members(first, mandatory);
-    load_members(second, optional);
-    let answer = answer_of(synchronisation::synchronise(model, mandatory, optional, out));
-    if !cases::is_wanted(rt, "length", head.wanted(), answer)? {
-        return Ok(false);
-    }
-    let is_same = cases::is_same(out, file, head.byte);
-    if !is_same {
-        print!(rt; "a byte is another; ")?;
-    }
-    Ok(is_same)
-}
+// The answer of a case is the length of the new model.
+impl Case for Head {
+    ghost size = { λ head. head.model + 8 * head.mandatory + 8 * head.optional + head.file };
 
-// Reads one case and runs it; none at the end of the file.
-fn next_case(rt: &impl Print, file: &mut impl Read, buffer: &mut [u8]) -> io::Result<Option<bool>> {
-    let Some(bytes): Option<[u8; 16]> = cases::next_bytes(file)? else {
-        return Ok(None);
-    };
-    let head = Head::from(bytes);
-    let length = head.body_length();
-    if !cases::is_read(file, buffer, length)? {
-        return Ok(None);
+    fn body_length(self) -> usize {
+        self.model + 8 * self.mandatory + 8 * self.optional + self.file
     }
-    match buffer.get(..length) {
-        Some(body) => Ok(Some(is_equal(rt, head, body)?)),
-        None => Ok(None),
+
+    // Synchronises the members into a slice of the stored length, whose cells hold the stored byte before. False where there is no such
+    // case.
+    fn is_as_stored<R: Print>(self, rt: &R, body: &[u8]) -> io::Result<bool> {
+        if MEMBERS < self.mandatory || MEMBERS < self.optional || CELLS < self.lent {
+            return Ok(false);
+        }
+        let mut mandatory = [0usize; MEMBERS];
+        let mut optional = [0usize; MEMBERS];
+        let mut out = [self.byte; CELLS];
+        let mandatory = &mut mandatory[..self.mandatory];
+        let optional = &mut optional[..self.optional];
+        let out = &mut out[..self.lent];
+        let (model, rest) = body.split_at(self.model);
+        let (first, rest) = rest.split_at(8 * self.mandatory);
+        let (second, file) = rest.split_at(8 * self.optional);
+        load_members(first, mandatory);
+        load_members(second, optional);
+        let answer = synchronisation::synchronise(model, mandatory, optional, out);
+        let wanted = cases::wanted(self.refusal, self.file);
+        Ok(
+            cases::is_wanted(rt, "length", wanted, answer.map_err(Refusal::number))?
+                && cases::is_stored(rt, "byte", out, file, self.byte)?,
+        )
     }
 }
 
 fn main(rt: HostRuntime) -> io::Result<()> {
     let mut file = File::open(&rt, "cases")?;
     let mut buffer = [0u8; 65536];
-    cases::run(&rt, "joins", || next_case(&rt, &mut file, &mut buffer))
+    cases::run(&rt, "joins", || {
+        cases::next_case::<Head, _, _>(&rt, &mut file, &mut buffer)
+    })
 }

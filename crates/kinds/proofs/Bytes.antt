@@ -1,72 +1,17 @@
--- What the byte of a kind tells is what the kind tells.
-use mathlib.Core.Path.{◌≡◌, refl, sym}
+-- What a byte tells that stands for another kind, or for none.
+use mathlib.Core.Path.{◌≡◌, refl, sym, ap, ◌∙◌}
 use mathlib.Core.Bool.{Bool, true, false, cond, ◌&&◌, ◌||◌}
 use Prim.Native.Nat.{ℕ, ◌≤◌}
 use borrow.Author.Tests.{ne_eqb, leb-true}
 use lib.Dec.{eqb, leb}
-use Rattle.std.specs.Prelude.{◌≢◌}
+use Rattle.std.specs.Prelude.{◌≢◌, Result, Ok, Err}
 use native.Mathlib.Omega.{arith}
 use Rattle.evaluation.specs.declared.Operator.TheVariants.{Equivalence}
 use Rattle.kinds.specs.declared.Sort.TheVariants.{Boolean, Number}
 use Rattle.kinds.specs.declared.kind.Kind.{Kind}
 use Rattle.kinds.specs.declared.kind.Kind.TheVariants as kind
-use Rattle.kinds.specs.Kinds.{code_of, operand_sort, operator_of, operator_named, sort_of_operands}
-
-pub operator_at : (k : Kind) → operator_of (code_of k) ≡ operator_named k
-unfolding operator_of
-operator_at kind.BooleanVariable = refl
-operator_at kind.LowEnd = refl
-operator_at kind.HighEnd = refl
-operator_at kind.FirstValue = refl
-operator_at kind.Transition = refl
-operator_at kind.Skip = refl
-operator_at kind.Assignment = refl
-operator_at kind.IfThen = refl
-operator_at kind.Block = refl
-operator_at kind.Numeral = refl
-operator_at kind.Truth = refl
-operator_at kind.Variable = refl
-operator_at kind.Negation = refl
-operator_at kind.Conjunction = refl
-operator_at kind.Disjunction = refl
-operator_at kind.Equality = refl
-operator_at kind.Less = refl
-operator_at kind.LessOrEqual = refl
-operator_at kind.Sum = refl
-operator_at kind.Difference = refl
-operator_at kind.Product = refl
-operator_at kind.Quotient = refl
-operator_at kind.Remainder = refl
-operator_at kind.Conditional = refl
-operator_at kind.Equivalence = refl
-
-pub operand_sort_at : (k : Kind) → operand_sort (code_of k) ≡ sort_of_operands k
-unfolding operand_sort
-operand_sort_at kind.BooleanVariable = refl
-operand_sort_at kind.LowEnd = refl
-operand_sort_at kind.HighEnd = refl
-operand_sort_at kind.FirstValue = refl
-operand_sort_at kind.Transition = refl
-operand_sort_at kind.Skip = refl
-operand_sort_at kind.Assignment = refl
-operand_sort_at kind.IfThen = refl
-operand_sort_at kind.Block = refl
-operand_sort_at kind.Numeral = refl
-operand_sort_at kind.Truth = refl
-operand_sort_at kind.Variable = refl
-operand_sort_at kind.Negation = refl
-operand_sort_at kind.Conjunction = refl
-operand_sort_at kind.Disjunction = refl
-operand_sort_at kind.Equality = refl
-operand_sort_at kind.Less = refl
-operand_sort_at kind.LessOrEqual = refl
-operand_sort_at kind.Sum = refl
-operand_sort_at kind.Difference = refl
-operand_sort_at kind.Product = refl
-operand_sort_at kind.Quotient = refl
-operand_sort_at kind.Remainder = refl
-operand_sort_at kind.Conditional = refl
-operand_sort_at kind.Equivalence = refl
+use Rattle.kinds.specs.declared.kind.UnknownKind.{UnknownKind}
+use Rattle.kinds.specs.Kinds.{code_of, Decodes, operand_sort, operator_of}
 
 module _ (byte : ℕ) (none : (k : Kind) → code_of k ≡ byte → ⊥) where
   other : (k : Kind) → eqb byte (code_of k) ≡ false
@@ -101,3 +46,11 @@ module _ (byte : ℕ) (none : (k : Kind) → code_of k ≡ byte → ⊥) where
           absurd (omega arith)
       by true false e f = rw (other kind.Equivalence) refl
       by false u e f = rw (other kind.Equivalence) refl
+
+-- which kind a byte does not stand for, by the kind that it was decoded to
+pub other_kind : (byte : ℕ) (r : Result Kind UnknownKind) (found : Kind) → Decodes byte r → r ≡ Ok found → (k : Kind) → eqb (code_of found) (code_of k) ≡ false → eqb byte (code_of k) ≡ false
+other_kind byte r found d e k differs = ap (λ b. eqb b (code_of k)) (sym (rw e at d)) ∙ differs
+
+-- or by none
+pub no_kind : (byte : ℕ) (r : Result Kind UnknownKind) (unknown : UnknownKind) → Decodes byte r → r ≡ Err unknown → (k : Kind) → eqb byte (code_of k) ≡ false
+no_kind byte r unknown d e k = other _ (rw e at d).1 k

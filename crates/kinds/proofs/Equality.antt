@@ -6,7 +6,7 @@ use Rattle.kinds.specs.declared.Place.{Place}
 use Rattle.kinds.specs.declared.Place.TheVariants.{Nowhere, Variable, HighEnd, FirstValue, Transition, Instruction, Expression}
 use Rattle.kinds.specs.declared.Sort.{Sort}
 use Rattle.kinds.specs.declared.Sort.TheVariants.{Boolean, Number}
-use Rattle.kinds.specs.Kinds.{is_place, is_sort, same_sort}
+use Rattle.kinds.specs.Sameness.{is_place, is_sort, same_sort}
 
 pub place_itself : (p : Place) → is_place p p ≡ true
 place_itself Nowhere = refl

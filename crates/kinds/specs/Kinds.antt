@@ -1,6 +1,7 @@
--- 01: "A kind byte is looked up in a table of 256 rows: where the kind may stand, how many children it has, what it
--- yields; the table follows the list above at every byte". The rule of that table, by 01's list.
-use Rattle.std.specs.Prelude.{Bool, true, false, cond, ◌&&◌, ◌||◌, List, [], ◌∷◌, ◌≡◌, ◌≢◌, ℕ, zero, suc, ◌<◌, eqb, leb, get_or, Option, Some, None, Result, MatchResult}
+-- 01's list of kinds: the byte of each, and by its byte where it may stand, how many children it has, what it yields, what it
+-- asks of its operands. 01: "A kind byte is looked up in a table of 256 rows: where the kind may stand, how many children it
+-- has, what it yields; the table follows the list above at every byte".
+use Rattle.std.specs.Prelude.{Bool, cond, ◌&&◌, ◌||◌, List, [], ◌∷◌, ◌≡◌, ◌≢◌, ℕ, zero, suc, ◌<◌, eqb, leb, get_or, Option, Some, None, Result, MatchResult}
 use Rattle.kinds.specs.declared.kind.Kind.{Kind}
 use Rattle.kinds.specs.declared.kind.Kind.TheVariants as kind
 use Rattle.kinds.specs.declared.kind.UnknownKind.{UnknownKind}
@@ -9,9 +10,11 @@ use Rattle.kinds.specs.declared.Place.TheVariants.{Nowhere, Variable, HighEnd, F
 use Rattle.kinds.specs.declared.Sort.{Sort}
 use Rattle.kinds.specs.declared.Sort.TheVariants.{Boolean, Number}
 use Rattle.kinds.specs.declared.Row.{Row}
+use Rattle.kinds.specs.declared.table.TheConstants.{ROWS}
 use Rattle.evaluation.specs.declared.Operator.{Operator}
 use Rattle.evaluation.specs.declared.Operator.TheVariants.{Conjunction, Disjunction, Equality, Less, LessOrEqual, Sum, Difference, Product, Quotient, Remainder, Equivalence}
 
+-- k is one of low to high
 abbrev pub between : ℕ → ℕ → ℕ → Bool
 between low high k = leb low k && leb k high
 
@@ -47,7 +50,8 @@ code_of kind.Equivalence = 47
 abbrev pub Decodes : ℕ → Result Kind UnknownKind → Type 0
 Decodes byte r = MatchResult r (λ kind. code_of kind ≡ byte) (λ e. (e.0 ≡ byte) × ((kind : Kind) → code_of kind ≢ byte))
 
--- the sorts that may be wanted of an expression, and none where the kind alone does not tell (a variable's sort, 01: its type)
+-- what a row yields and what is wanted of an expression: a sort, or none where the byte alone does not tell it (34, 46) or the
+-- kind is no expression
 abbrev pub boolean_sort : Option Sort
 boolean_sort = Some Boolean
 
@@ -57,27 +61,7 @@ number_sort = Some Number
 abbrev pub no_sort : Option Sort
 no_sort = None
 
-abbrev pub is_sort : Sort → Sort → Bool
-is_sort Boolean Boolean = true
-is_sort Number Number = true
-is_sort _ _ = false
-
--- one sort, or both none
-abbrev pub same_sort : Option Sort → Option Sort → Bool
-same_sort None None = true
-same_sort (Some a) (Some b) = is_sort a b
-same_sort _ _ = false
-
-abbrev pub is_place : Place → Place → Bool
-is_place Nowhere Nowhere = true
-is_place Variable Variable = true
-is_place HighEnd HighEnd = true
-is_place FirstValue FirstValue = true
-is_place Transition Transition = true
-is_place Instruction Instruction = true
-is_place Expression Expression = true
-is_place _ _ = false
-
+-- where a kind may stand
 unfoldable pub place_of : ℕ → Place
 place_of k =
     cond (eqb k 1 || eqb k 2) Variable
@@ -108,7 +92,7 @@ unfoldable pub column : {A : Type 0} → (ℕ → A) → ℕ → ℕ → List A
 column f i zero = []
 column f i (suc n) = f i ∷ column f (suc i) n
 
--- 01: "a table of 256 rows": the row of every byte
+-- 01: "a table of 256 rows": the row of every byte, by 01's list
 unfoldable pub table : List Row
 table = column row_of 0 256
 
@@ -116,14 +100,15 @@ table = column row_of 0 256
 unfoldable pub row_in : List Row → ℕ → Row
 row_in rows k = get_or rows k (record { place = Nowhere; children = 0; result = None })
 
--- 01: "the table follows the list above at every byte". Proved in proofs/Follows.antt.
+-- 01: "the table follows the list above at every byte": the table that the code reads, and 01's. Proved in proofs/Follows.antt.
 abbrev pub TableFollows : Type 0
-TableFollows = (k : ℕ) → k < 256 → row_in table k ≡ row_of k
+TableFollows = (k : ℕ) → k < 256 → (row_in ROWS k ≡ row_of k) × (row_in table k ≡ row_of k)
 
 -- 01: "Operands of 35 to 37 and 47 are Boolean, of 38 to 45 numbers." Of other kinds it has no meaning.
 unfoldable pub operand_sort : ℕ → Sort
 operand_sort k = cond (between 35 37 k || eqb k 47) Boolean Number
 
+-- the kind of an operator
 unfoldable pub kind_of : Operator → ℕ
 kind_of Conjunction = 36
 kind_of Disjunction = 37
@@ -150,24 +135,3 @@ operator_of k =
     (cond (eqb k 43) Product
     (cond (eqb k 44) Quotient
     (cond (eqb k 45) Remainder Equivalence)))))))))
-
--- the same of a kind in place of its byte
-abbrev pub sort_of_operands : Kind → Sort
-sort_of_operands kind.Negation = Boolean
-sort_of_operands kind.Conjunction = Boolean
-sort_of_operands kind.Disjunction = Boolean
-sort_of_operands kind.Equivalence = Boolean
-sort_of_operands _ = Number
-
-abbrev pub operator_named : Kind → Operator
-operator_named kind.Conjunction = Conjunction
-operator_named kind.Disjunction = Disjunction
-operator_named kind.Equality = Equality
-operator_named kind.Less = Less
-operator_named kind.LessOrEqual = LessOrEqual
-operator_named kind.Sum = Sum
-operator_named kind.Difference = Difference
-operator_named kind.Product = Product
-operator_named kind.Quotient = Quotient
-operator_named kind.Remainder = Remainder
-operator_named _ = Equivalence

@@ -1,7 +1,7 @@
 // The kinds of nodes.
 
 ghost use Rattle.std.specs.Prelude.{◌≡◌};
-ghost use Rattle.kinds.specs.Kinds.{Decodes, operator_named, sort_of_operands};
+ghost use Rattle.kinds.specs.Kinds.{Decodes, code_of, operand_sort, operator_of};
 
 use super::Sort;
 use evaluation::Operator;
@@ -54,6 +54,7 @@ impl TryFrom<u8> for Kind {
 
     ghost try_from_gives = { Decodes };
 
+    // Here alone a byte becomes a kind.
     fn try_from(byte: u8) -> Result<Kind, UnknownKind> {
         match byte {
             1 => Ok(Kind::BooleanVariable),
@@ -87,9 +88,17 @@ impl TryFrom<u8> for Kind {
 }
 
 impl Kind {
+    // The byte that stands for it.
+    pub fn code(self) -> u8
+        ensures { result ≡ code_of self }
+    {
+        self as u8
+    }
+
     // The sort of the operands of an operator.
+    #[tactic(auto, unfolding(crate::specs::Kinds::operand_sort))]
     pub fn operand_sort(self) -> Sort
-        ensures { result ≡ sort_of_operands self }
+        ensures { result ≡ operand_sort (code_of self) }
     {
         match self {
             Kind::Negation | Kind::Conjunction | Kind::Disjunction | Kind::Equivalence =>
@@ -99,8 +108,9 @@ impl Kind {
     }
 
     // The operator of a kind with two operands.
+    #[tactic(auto, unfolding(crate::specs::Kinds::operator_of))]
     pub fn operator(self) -> Operator
-        ensures { result ≡ operator_named self }
+        ensures { result ≡ operator_of (code_of self) }
     {
         match self {
             Kind::Conjunction => Operator::Conjunction,

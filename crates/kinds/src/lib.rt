@@ -2,8 +2,8 @@
 
 #![tactic(auto)]
 
-ghost use Rattle.std.specs.Prelude.{◌≡◌};
-ghost use Rattle.kinds.specs.Kinds.{operand_sort, operator_of, row_of};
+ghost use Rattle.std.specs.Prelude.{◌≡◌, eqb};
+ghost use Rattle.kinds.specs.Kinds.{code_of, operand_sort, operator_of, row_of};
 
 use evaluation::Operator;
 
@@ -15,6 +15,7 @@ pub use kind::{Kind, UnknownKind};
 // The place where a kind may stand.
 #[derive(Clone, Copy, PartialEq, Eq, Debug)]
 pub enum Place {
+    // 01's row says of every byte where it may stand, and this is its answer for most.
     Nowhere,
     Variable,
     HighEnd,
@@ -46,6 +47,13 @@ pub fn row_of(kind: u8) -> Row
     table::ROWS[kind as usize]
 }
 
+// Does the byte stand for this kind.
+pub fn stands_for(byte: u8, kind: Kind) -> bool
+    ensures { result ≡ eqb byte (code_of kind) }
+{
+    byte == kind as u8
+}
+
 // The sort of the operands of kinds 35 to 45 and 47.
 pub fn operand_sort(kind: u8) -> Sort
     ensures { result ≡ operand_sort kind }
@@ -56,7 +64,7 @@ pub fn operand_sort(kind: u8) -> Sort
     }
 }
 
-// The operator of kinds 36 to 45 and 47.
+// The operator of kinds 36 to 45 and 47; it and the one before differ in what they call.
 pub fn operator_of(kind: u8) -> Operator
     ensures { result ≡ operator_of kind }
 {

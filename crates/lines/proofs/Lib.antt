@@ -1,7 +1,6 @@
 -- Proofs of crate `lines`: the statements of specs/, then what the functions are proved by.
 pub mod Decimal
 pub mod Room
-pub mod Placing
+pub mod Taping
 pub mod Signed
-pub mod Fields
 pub mod Lines

@@ -1,12 +1,14 @@
--- Whole lines: what is left after the word, that each part has room, and what the line feed at the end makes of it.
-use Rattle.std.proofs.Common.{◌≡◌, ℕ, ◌+◌, ◌≤◌, ◌<◌, ◌^◌, Bool, true, false, Option, Some, None, List, [], ◌∷◌, ◌++◌, length, drop, set, map, refl, sym, ap, subst, ◌∙◌, append_assoc, append-nil, suc, zero-add, arith}
+-- Whole lines: their parts one after another, and that they have room.
+use Rattle.std.proofs.Common.{◌≡◌, ℕ, ◌+◌, ◌≤◌, ◌<◌, ◌^◌, Bool, true, false, Option, Some, None, List, [], ◌∷◌, ◌++◌, length, map, refl, sym, ap, ◌∙◌, append_assoc, append-nil, arith}
 use Rattle.std.specs.Prelude.{option_to_list}
 use borrow.Author.Tests.{ltb-false, le-ltb}
 use lib.Dec.{ltb}
-use lib.Seq.{sets-eq}
-use Rattle.lines.specs.Lines.{ok_word, refusal_word, decimal, spaced, line, written_into, line_into, Put}
+use lib.ListN.{length-append}
+use Rattle.results.specs.Results.{over}
+use Rattle.tapes.specs.Tapes.{Tape, tape, put, put_all}
+use Rattle.tapes.proofs.Tapes.{put_append, put_over}
+use Rattle.lines.specs.Lines.{ok_word, refusal_word, decimal, spaced, line, written_into, line_into}
 use Rattle.lines.proofs.Room.{count_length, byte_length}
-use Rattle.lines.proofs.Placing.{Left, all_left, store, put, placed}
 
 -- ---- the test for room
 
@@ -21,19 +23,13 @@ module _ (old text : List ℕ) (asked : ℕ) {short : Bool} (e : short ≡ ltb (
 -- ---- a number, if there is one
 
 module _ {number : Option ℕ} where
-  pub some_room : {n size : ℕ} (at : ℕ) → number ≡ Some n → at + length (spaced (map decimal (option_to_list number))) ≤ size
-      → at + suc (length (decimal n)) ≤ size
+  pub some_put : {n : ℕ} (old : Tape ℕ) {new : Tape ℕ} → number ≡ Some n → new ≡ put_all (32 ∷ decimal n) old → new ≡ put_all (spaced (map decimal (option_to_list number))) old
   unfolding spaced
-  some_room {n} at e r = let k = rw (e, append-nil (decimal n)) at r in k
+  some_put {n} old e p = rw (e, append-nil (decimal n)) p
 
-  pub some_put : {n at next : ℕ} {old new : List ℕ} → number ≡ Some n → Put (32 ∷ decimal n) old at new next
-      → Put (spaced (map decimal (option_to_list number))) old at new next
-  unfolding spaced
-  some_put {n} e p = rw (e, append-nil (decimal n)) p
-
-  pub none_put : (old : List ℕ) (at : ℕ) → number ≡ None → Put (spaced (map decimal (option_to_list number))) old at old at
-  unfolding spaced
-  none_put old at e = rw e (record { cells = refl; place = omega arith })
+  pub nothing_put : {old : Tape ℕ} → number ≡ None → old ≡ put_all (spaced (map decimal (option_to_list number))) old
+  unfolding spaced put_all
+  nothing_put e = rw e
 
 -- ---- the parts of a line
 
@@ -56,41 +52,25 @@ module _ (word : List ℕ) (number : Option ℕ) (others : List (List ℕ)) (old
       ap (λ s. word ++ (s ++ (10 ∷ []))) (spaced_append (map decimal (option_to_list number)) others)
       ∙ ap (λ s. word ++ s) (append_assoc first (spaced others) (10 ∷ []))
 
-  word_put : length word ≤ length old → Put word old 0 (word ++ drop (length word) old) (length word)
-  word_put h = record { cells = sym (sets-eq word old 0 (omega arith) ∙ ap (λ k. word ++ drop k old) (zero-add (length word))); place = omega arith }
+  -- the word, the number, the other fields and the line feed
+  pub text_put : {a b c d : Tape ℕ} → a ≡ put_all word (tape old 0) → b ≡ put_all first a → c ≡ put_all (spaced others) b → d ≡ put 10 c
+      → d ≡ put_all text (tape old 0)
+  unfolding put_all
+  text_put {a} {b} {c} e f g h =
+      h ∙ ap (put 10) g ∙ sym (put_append (spaced others) (10 ∷ []) b)
+      ∙ ap (put_all (spaced others ++ (10 ∷ []))) f ∙ sym (put_append first (spaced others ++ (10 ∷ [])) a)
+      ∙ ap (put_all (first ++ (spaced others ++ (10 ∷ [])))) e ∙ sym (put_append word (first ++ (spaced others ++ (10 ∷ []))) (tape old 0))
+      ∙ ap (λ l. put_all l (tape old 0)) (sym parts)
 
-  module _ (h : length word ≤ length old) where
-    after_word : Left text old 0 (first ++ (spaced others ++ (10 ∷ []))) (word ++ drop (length word) old) (length word)
-    after_word = put word (subst (λ t. Left text old 0 t old 0) parts (all_left text old 0)) (word_put h)
+  text_size : length text ≡ length word + (length first + (length (spaced others) + 1))
+  text_size = ap length parts ∙ simp length-append
 
-    pub word_size : length (word ++ drop (length word) old) ≡ length old
-    word_size = sym after_word.size
-
-    module _ {mid : List ℕ} {after : ℕ} (p : Put first (word ++ drop (length word) old) (length word) mid after) where
-      after_first : Left text old 0 (spaced others ++ (10 ∷ [])) mid after
-      after_first = put first after_word p
-
-      pub first_size : length mid ≡ length old
-      first_size = sym after_first.size
-
-      module _ {last : List ℕ} {end : ℕ} (q : Put (spaced others) mid after last end) (fits : end < length old) where
-        after_others : Left text old 0 (10 ∷ []) last end
-        after_others = put (spaced others) after_first q
-
-        pub feed_room : end < length last
-        feed_room = omega (arith, after_others.size)
-
-        text_stored : Put text old 0 (set last end 10) (end + 1)
-        text_stored = placed (store 10 after_others)
-
-        pub line_written : {asked : ℕ} → asked ≤ length old → written_into (Some (end + 1)) (set last end 10) ≡ line_into asked text old
-        unfolding line_into
-        line_written {asked} r =
-            let next : end + 1 ≡ length text = text_stored.place ∙ zero-add (length text) in
-            let within : 0 + length text ≤ length old = omega arith in
-            let cells : set last end 10 ≡ text ++ drop (length text) old =
-            text_stored.cells ∙ sets-eq text old 0 within ∙ ap (λ (k : ℕ). text ++ drop k old) (zero-add (length text)) in
-            rw (le-ltb (length old) asked r, next, cells)
+  pub line_written : {asked past : ℕ} {cells : List ℕ} → asked ≤ length old → tape cells past ≡ put_all text (tape old 0)
+      → length word + (length first + (length (spaced others) + 1)) ≤ asked → written_into (Some past) cells ≡ line_into asked text old
+  unfolding line_into
+  line_written {asked} {past} {cells} r p w =
+      let whole : tape cells past ≡ tape (over text old) (length text) = p ∙ put_over text old (omega (arith, text_size)) in
+      rw (le-ltb (length old) asked r, ap (λ (t : Tape ℕ). t.at) whole, ap (λ (t : Tape ℕ). t.cells) whole)
 
 -- ---- what stands beside the fields fits the room
 

@@ -1,7 +1,6 @@
 -- 01: "It prints a line for the start, then one per command: `ok`, round count, values; `back`, values; `m`, marks; or `no`,
 -- number." The bytes of these lines, and what the functions that write them leave.
-use Rattle.std.specs.Prelude.{◌≡◌, Option, Some, None, cond, List, [], ◌∷◌, ◌++◌, map, ℕ, zero, suc, ◌+◌, ◌*◌, ◌/◌, ◌%◌, ltb, ℤ, pos, negsuc, length}
-use Rattle.std.proofs.lemmas.List.Edits.{sets}
+use Rattle.std.specs.Prelude.{Option, Some, None, cond, List, [], ◌∷◌, ◌++◌, map, ℕ, zero, suc, ◌+◌, ◌*◌, ◌/◌, ◌%◌, ltb, ℤ, pos, negsuc, length}
 use Rattle.results.specs.Results.{Answered, answered, over}
 use Rattle.ascii.specs.Ascii.{space_byte, first_digit}
 
@@ -104,8 +103,3 @@ written_into r cells = answered r cells
 unfoldable pub line_into : ℕ → List ℕ → List ℕ → Output
 line_into asked text old =
     cond (ltb (length old) asked) (written_into None old) (written_into (Some (length text)) (over text old))
-
--- of the functions that write a part of a line: this text is stored from place `at` on, and `next` is the place after it
-pub record Put (text old : List ℕ) (at : ℕ) (new : List ℕ) (next : ℕ) : Type 0 where
-  pub cells : new ≡ sets old at text
-  pub place : next ≡ at + length text

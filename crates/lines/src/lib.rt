@@ -6,7 +6,10 @@ ghost use Rattle.std.specs.Prelude.{◌≡◌, None, [], ◌∷◌, ◌++◌, ma
 ghost use Rattle.std.proofs.Common.{rules};
 ghost use Rattle.ascii.specs.Ascii.{space_byte};
 ghost use Rattle.lines.specs.Lines.{decimal, signed_decimal, spaced, line, ok_text, back_text, marks_text, refusal_text};
-ghost use Rattle.lines.specs.Lines.{base_width, room, value_width, mark_width, written_into, line_into, Put};
+ghost use Rattle.lines.specs.Lines.{base_width, room, value_width, mark_width, written_into, line_into};
+ghost use Rattle.tapes.specs.Tapes.{tape_in, put_all};
+
+use tapes::Tape;
 
 // `ok`, a space, 20 digits and the line feed.
 const BASE_WIDTH: usize = 24;
@@ -20,11 +23,11 @@ pub trait Field: Copy {
 
     ghost text: { Self → List ℕ };
 
-    // Stores a space and the number from place `at` on; the place after them.
-    fn put(self, out: &mut [u8], at: usize) -> usize
-        requires { at + WIDTH ≤ length out.old }
-        ensures put { Put (space_byte ∷ text self) out.old at out.new result }
-        ensures upper_bound { result ≤ at + WIDTH };
+    // Writes a space and the number.
+    fn put(self, tape: &mut Tape<'_, u8>)
+        ensures put { tape_in tape.new ≡ put_all (space_byte ∷ text self) (tape_in tape.old) }
+        ensures upper_bound { length (space_byte ∷ text self) ≤ WIDTH }
+        ensures same_cells { tape.new.cells.ghost_name ≡ tape.old.cells.ghost_name };
 
     ghost is_some_width: { 0 < WIDTH };
 }
@@ -39,14 +42,14 @@ impl Field for i32 {
 
     ghost is_some_width = { Prim.search rules };
 
-    fn put(self, out: &mut [u8], at: usize) -> usize {
+    fn put(self, tape: &mut Tape<'_, u8>) {
         let size = self.unsigned_abs() as usize;
         if self < 0 {
-            out[at] = b' ';
-            out[at + 1] = b'-';
-            return put_decimal(size, out, at + 2);
+            tape.put(b" -");
+            put_decimal(size, tape);
+        } else {
+            put_number(size, tape);
         }
-        put_number(size, out, at)
     }
 }
 
@@ -60,56 +63,53 @@ impl Field for u8 {
 
     ghost is_some_width = { Prim.search rules };
 
-    fn put(self, out: &mut [u8], at: usize) -> usize {
-        put_number(usize::from(self), out, at)
+    fn put(self, tape: &mut Tape<'_, u8>) {
+        put_number(usize::from(self), tape);
     }
 }
 
-// Stores the digits of n from place `at` on; the place after them.
-fn put_decimal(n: usize, out: &mut [u8], at: usize) -> usize
-    requires { at + length (decimal n) ≤ length out.old }
-    ensures { Put (decimal n) out.old at out.new result }
+// Writes the digits of n.
+fn put_decimal(n: usize, tape: &mut Tape<'_, u8>)
+    ensures put { tape_in tape.new ≡ put_all (decimal n) (tape_in tape.old) }
+    ensures same_cells { tape.new.cells.ghost_name ≡ tape.old.cells.ghost_name }
 {
+    let last = b'0' + (n % 10) as u8;
     if n < 10 {
-        out[at] = b'0' + (n % 10) as u8;
-        return at + 1;
-    }
-    let last = put_decimal(n / 10, out, at);
-    out[last] = b'0' + (n % 10) as u8;
-    last + 1
-}
-
-// Stores a space and the digits of n.
-fn put_number(n: usize, out: &mut [u8], at: usize) -> usize
-    requires { at + length (space_byte ∷ decimal n) ≤ length out.old }
-    ensures { Put (space_byte ∷ decimal n) out.old at out.new result }
-{
-    out[at] = b' ';
-    put_decimal(n, out, at + 1)
-}
-
-// Stores the number, if there is one, after a space.
-fn put_some(number: Option<usize>, out: &mut [u8], at: usize) -> usize
-    requires { at + length (spaced (map decimal (option_to_list number))) ≤ length out.old }
-    ensures { Put (spaced (map decimal (option_to_list number))) out.old at out.new result }
-{
-    match number {
-        Some(n) => put_number(n, out, at),
-        None => at,
+        tape.put_one(last);
+    } else {
+        put_decimal(n / 10, tape);
+        tape.put_one(last);
     }
 }
 
-// Stores each field after a space.
-fn put_fields<T: Field>(fields: &[T], out: &mut [u8], at: usize) -> usize
-    requires { at + T.WIDTH * length fields.now ≤ length out.old }
-    ensures put { Put (spaced (map T.text fields.now)) out.old at out.new result }
-    ensures upper_bound { result ≤ at + T.WIDTH * length fields.now }
+// Writes a space and the digits of n.
+fn put_number(n: usize, tape: &mut Tape<'_, u8>)
+    ensures put { tape_in tape.new ≡ put_all (space_byte ∷ decimal n) (tape_in tape.old) }
+    ensures same_cells { tape.new.cells.ghost_name ≡ tape.old.cells.ghost_name }
 {
-    let mut end = at;
-    for &field in fields {
-        end = field.put(out, end);
+    tape.put_one(b' ');
+    put_decimal(n, tape);
+}
+
+// Writes the number, if there is one, after a space.
+fn put_some(number: Option<usize>, tape: &mut Tape<'_, u8>)
+    ensures put { tape_in tape.new ≡ put_all (spaced (map decimal (option_to_list number))) (tape_in tape.old) }
+    ensures same_cells { tape.new.cells.ghost_name ≡ tape.old.cells.ghost_name }
+{
+    if let Some(n) = number {
+        put_number(n, tape);
     }
-    end
+}
+
+// Writes each field after a space.
+fn put_fields<T: Field>(fields: &[T], tape: &mut Tape<'_, u8>)
+    ensures put { tape_in tape.new ≡ put_all (spaced (map T.text fields.now)) (tape_in tape.old) }
+    ensures upper_bound { length (spaced (map T.text fields.now)) ≤ T.WIDTH * length fields.now }
+    ensures same_cells { tape.new.cells.ghost_name ≡ tape.old.cells.ghost_name }
+{
+    for field in fields {
+        field.put(tape);
+    }
 }
 
 // Is a slice of this length too short for a line with so many fields?
@@ -137,12 +137,12 @@ fn write_line<T: Field>(
     if is_short::<T>(out.len(), fields.len()) {
         return None;
     }
-    let start = word.len();
-    out[..start].copy_from_slice(word);
-    let after = put_some(number, out, start);
-    let end = put_fields(fields, out, after);
-    out[end] = b'\n';
-    Some(end + 1)
+    let mut tape = Tape { cells: out, at: 0 };
+    tape.put(word);
+    put_some(number, &mut tape);
+    put_fields(fields, &mut tape);
+    tape.put_one(b'\n');
+    Some(tape.at)
 }
 
 // `ok`, the round count, the values.

@@ -1,2 +1,2 @@
--- Proofs of crate `loading`: what the function is proved by.
+-- Proofs of crate `loading`: what the functions are proved by.
 pub mod Parts

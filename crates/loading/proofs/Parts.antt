@@ -1,11 +1,11 @@
 -- An accepted file decoded into cells that are as many as it needs: what the functions on a decoded model ask.
-use mathlib.Core.Path.{◌≡◌, sym, ap, ◌∙◌, subst}
+use mathlib.Core.Path.{◌≡◌, sym, ap, ◌∙◌}
 use mathlib.Core.List.{List}
 use Prim.Native.Nat.{ℕ, ◌+◌, ◌≤◌}
 use native.Mathlib.Omega.{arith}
 use lib.IntN.{ℤ, pos}
-use lib.ListN.{length, length-map, replicate}
-use Rattle.scratch.specs.Blank.{BlankFiring}
+use lib.ListN.{length, take, length-map, replicate}
+use Rattle.model.specs.declared.Model.{Model}
 use Rattle.model.specs.declared.Sizes.{Sizes}
 use Rattle.std.proofs.Common.{Ok}
 use Rattle.model.specs.Trees.{System, variables}
@@ -15,13 +15,14 @@ use Rattle.model.specs.Check.Verdict.{accepted}
 use Rattle.model.specs.Theorems.{Bytes}
 use Rattle.model.proofs.LittleBytes.{parameters_length}
 use Rattle.model.proofs.CheckExact.{kinds_length}
+use Rattle.variables.specs.declared.VariableRow.{VariableRow}
 use Rattle.variables.specs.Rows.{variable_row, variable_rows}
-use Rattle.decoding.specs.Decoding.{Arrays, decoded_over, assertion_place, transitions_place, guard_places, nexts_of_system}
+use Rattle.variables.proofs.Columns.{blank}
+use Rattle.decoding.specs.Decoding.{Arrays, arrays, decoded_over, assertion_place, transitions_place, guard_places, nexts_of_system}
 use Rattle.decoding.proofs.Accepted.{accepted_file}
 use Rattle.decoding.proofs.Decoded.{guards_length}
 use Rattle.decoding.proofs.Places.{nexts_length}
 use Rattle.decoding.proofs.Preparing.{answer_accepted}
-use Rattle.waiting.specs.Index.{Indexed}
 use Rattle.interpreter.proofs.Due.{instruction_within}
 use Rattle.semantics.specs.Meanings.{Meaning, meaning_of}
 use Rattle.engine.specs.Cells.{Loaded}
@@ -29,6 +30,20 @@ use Rattle.engine.proofs.Loading.{loaded_assertion}
 use Rattle.standing.specs.Runs.{Done}
 use Rattle.steps.specs.Answers.{on_file}
 use Rattle.steps.proofs.StepTests.{over_all}
+use Rattle.moving.specs.Lent.{RoomFor}
+use Rattle.moving.proofs.Parts.{part_length}
+
+-- what the index asks of a decoded model
+module _ {model : Model} {kinds : List ℕ} {parameters : List ℤ} {rows : List VariableRow} {nexts guards : List ℕ}
+    (d : Loaded model kinds parameters rows nexts guards) where
+  pub parameters_count : length parameters ≡ length kinds
+  parameters_count =
+      let f = accepted_file d.file model.sizes d.decoded.system d.decoded.checked in
+      ap length d.decoded.parameters_decoded ∙ parameters_length d.file model.sizes.nodes _
+      ∙ sym (ap length d.decoded.kinds_decoded ∙ kinds_length d.file model.sizes f.sizes)
+
+  pub assertion_within : model.assertion ≤ length kinds
+  assertion_within = omega (arith, (instruction_within kinds parameters _ model.assertion (loaded_assertion d)).0)
 
 -- as many cells as the sizes say
 pub record Exact (s : Sizes) (a : Arrays) : Type 0 where
@@ -36,6 +51,22 @@ pub record Exact (s : Sizes) (a : Arrays) : Type 0 where
   pub variables : length a.variables ≡ s.states + s.flows
   pub nexts : length a.nexts ≡ s.nodes
   pub guards : length a.guards ≡ s.transitions
+
+-- the parts of the declared arrays that a model of these sizes needs
+abbrev pub declared : Sizes → ℕ → ℕ → Arrays
+declared s nodes variables =
+    arrays (take s.nodes (replicate nodes (pos 0))) (take (s.states + s.flows) (replicate variables blank))
+    (take s.nodes (replicate nodes 0)) (take s.transitions (replicate 255 0))
+
+pub declared_exact : (s : Sizes) (nodes variables : ℕ) → RoomFor s.nodes (s.states + s.flows) nodes variables → s.transitions ≤ 255
+    → Exact s (declared s nodes variables)
+declared_exact s nodes variables room few =
+    record {
+      parameters = part_length (pos 0) s.nodes nodes room.for_nodes;
+      variables = part_length blank (s.states + s.flows) variables room.for_variables;
+      nexts = part_length 0 s.nodes nodes room.for_nodes;
+      guards = part_length 0 s.transitions 255 few;
+    }
 
 module _ (m : List ℕ) (bytes : Bytes m) (s : Sizes) (e : answer_of (verdict m) ≡ Ok s) (old new : Arrays) (exact : Exact s old) (place : ℕ)
     (decodes : (t : System) → verdict m ≡ accepted s t → (place ≡ assertion_place t) × (new ≡ decoded_over m s t old))
@@ -92,27 +123,3 @@ module _ (m : List ℕ) (bytes : Bytes m) (s : Sizes) (e : answer_of (verdict m)
   pub on_loaded : {A : Type 0} (f : Meaning → Done A) (lent : A) → on_file (verdict m) f lent ≡ f (meaning_of loaded_whole.decoded.system)
   unfolding on_file
   on_loaded f lent = rw is_accepted_lem
-
-  pub kinds_count : length kinds ≡ s.nodes
-  kinds_count = let a = answer_accepted m s e in ap length k ∙ kinds_length m s (accepted_file m s a.0 a.1).sizes
-
-  pub assertion_within : place ≤ length kinds
-  assertion_within = omega (arith, (instruction_within kinds new.parameters _ place (loaded_assertion loaded_whole)).0)
-
--- ---- the same lengths, said of the decoding
-
-pub index_fits : (ks : List ℕ) (ps : List ℤ) (at n : ℕ) {rows : ℕ} → n ≡ rows → (heads links : List ℕ) → Indexed ks ps at n heads links → Indexed ks ps at rows heads links
-index_fits ks ps at n e heads links i = subst (λ n. Indexed ks ps at n heads links) e i
-
-pub index_told : {ks kinds : List ℕ} → ks ≡ kinds → (ps : List ℤ) {at place : ℕ} → at ≡ place → {n rows : ℕ} → n ≡ rows → (heads links : List ℕ)
-    → Indexed ks ps at n heads links → Indexed kinds ps place rows heads links
-index_told {ks} e ps {at} {place} f {n} {rows} g heads links i =
-    subst (λ ks. Indexed ks ps place rows heads links) e (subst (λ at. Indexed ks ps at rows heads links) f (index_fits ks ps at n g heads links i))
-
-pub blank_fits : (variables rows : ℕ) → variables ≡ rows → (nodes kinds : ℕ) → nodes ≡ kinds → (states cells given : List ℤ) (queue waits : List ℕ)
-    → BlankFiring variables nodes states cells given queue waits → BlankFiring rows kinds states cells given queue waits
-blank_fits variables rows e nodes kinds f states cells given queue waits b =
-    subst (λ n. BlankFiring n kinds states cells given queue waits) e (subst (λ n. BlankFiring variables n states cells given queue waits) f b)
-
-pub copy_fits : (variables rows : ℕ) → variables ≡ rows → (copy : List ℤ) → copy ≡ replicate variables (pos 0) → copy ≡ replicate rows (pos 0)
-copy_fits variables rows e copy b = subst (λ n. copy ≡ replicate n (pos 0)) e b

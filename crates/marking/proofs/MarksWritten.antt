@@ -1,11 +1,11 @@
 -- The marks of a run: the cells that the guards are evaluated over hold the values in use, and the marks are written one after another.
-use mathlib.Core.Path.{◌≡◌, refl, sym, ap, ◌∙◌}
-use mathlib.Core.List.{List, [], ◌∷◌, ◌++◌}
+use mathlib.Core.Path.{◌≡◌, refl, sym, ap, ap₂, ◌∙◌}
+use mathlib.Core.List.{List, [], ◌∷◌, ◌++◌, append-nil}
 use Prim.Native.Nat.{ℕ, zero, suc, ◌+◌, ◌≤◌, ◌<◌}
 use native.Mathlib.Numerals.{add-one}
 use native.Mathlib.Omega.{arith}
 use lib.IntN.{ℤ}
-use lib.ListN.{length, get_or, take, drop, set, replicate, length-replicate}
+use lib.ListN.{length, get_or, take, drop, set, replicate, length-replicate, length-take, drop_of_length-le}
 use lib.Seq.{length-take-le, take_at, take_all, set_at, drop-cons, append_snoc}
 use Rattle.evaluation.specs.declared.Evaluation.{Evaluation}
 use Rattle.results.specs.Results.{over}
@@ -18,6 +18,7 @@ use Rattle.semantics.specs.Meanings.{Meaning, guard_over, meaning_of}
 use Rattle.engine.specs.Cells.{Loaded}
 use Rattle.engine.proofs.Counts.{meaning}
 use Rattle.marking.specs.Marks.{mark_of, marks_from, marks_over}
+use Rattle.variables.specs.declared.VariableRow.{VariableRow}
 
 -- ---- the marks, one after another
 
@@ -50,23 +51,23 @@ module _ (m : Meaning) (values : List ℤ) where
         ∙ ap (λ n. marks_from m values 0 n ++ drop n old) (sym (add-one i))
 
 module _ (m : Meaning) (values : List ℤ) (old : List ℕ) where
-  pub marks_all : (v : ℕ) → v ≡ length m.declarations → (i : ℕ) → i ≡ m.transitions → (new : List ℕ)
-      → new ≡ marks_from m (take v values) 0 i ++ drop i old → new ≡ marks_over m values old
-  marks_all v p i q new e = e ∙ ap (λ v. marks_from m (take v values) 0 i ++ drop i old) p ∙ ap (λ i. up_to i) q
-    where
-      up_to : ℕ → List ℕ
-      up_to i = marks_from m (take (length m.declarations) values) 0 i ++ drop i old
+  -- the first cells are all marked, and the others stand after them
+  pub marks_all : (v : ℕ) → v ≡ length m.declarations → (i count : ℕ) → i ≡ count → count ≡ m.transitions → (items : List ℕ)
+      → items ≡ marks_from m (take v values) 0 i ++ drop i (take count old) → items ++ drop count old ≡ marks_over m values old
+  marks_all v p i count r q items e =
+      let past : drop i (take count old) ≡ [] = drop_of_length-le (take count old) {i = i} (omega (arith, length-take count old)) in
+      let marked : items ≡ marks_from m (take v values) 0 i = e ∙ ap (λ l. marks_from m (take v values) 0 i ++ l) past ∙ append-nil _ in
+      ap (λ l. l ++ drop count old) marked
+      ∙ ap (λ v. marks_from m (take v values) 0 i ++ drop count old) p
+      ∙ ap₂ (λ i count. marks_from m (take (length m.declarations) values) 0 i ++ drop count old) (r ∙ q) q
 
 -- ---- the cells that the guards are evaluated over
 
-module _ {model : Model} {kinds : List ℕ} {parameters : List ℤ} {rows : List (List ℤ)} {nexts guards : List ℕ}
+module _ {model : Model} {kinds : List ℕ} {parameters : List ℤ} {rows : List VariableRow} {nexts guards : List ℕ}
     (d : Loaded model kinds parameters rows nexts guards) (values : List ℤ) (enough : length rows ≤ length values)
     (cells array : List ℤ) (is : cells ≡ over (take (length rows) values) array) where
   cells_hold : take (length rows) cells ≡ take (length rows) values
   cells_hold = ap (take (length rows)) is ∙ take_at (take (length rows) values) _ (length rows) (length-take-le (length rows) values enough)
-
-  pub cells_part : length rows ≡ length (take (length rows) cells)
-  cells_part = sym (ap length cells_hold ∙ length-take-le (length rows) values enough)
 
   -- the guard over the cells is the guard over the values
   pub guard_marked : AllRepresentable (take (length rows) values) → (i : ℕ) (g : Evaluation)
@@ -90,6 +91,3 @@ module _ {model : Model} {kinds : List ℕ} {parameters : List ℤ} {rows : List
 module _ (n : ℕ) (blank : List ℤ) (unknown : blank ≡ replicate n unknown_cell) where
   pub length_blank : length blank ≡ n
   length_blank = ap length unknown ∙ length-replicate n unknown_cell
-
-  pub blank_again : (cells forgotten : List ℤ) → length cells ≡ length blank → forgotten ≡ replicate (length cells) unknown_cell → forgotten ≡ blank
-  blank_again cells forgotten kept e = e ∙ ap (λ n. replicate n unknown_cell) (kept ∙ length_blank) ∙ sym unknown

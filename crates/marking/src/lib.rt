@@ -4,12 +4,11 @@
 
 ghost use Rattle.std.specs.Prelude.{◌≡◌, ◌≤◌, length, replicate};
 ghost use Rattle.scratch.specs.Blank.{unknown_cell};
-ghost use Rattle.engine.specs.Cells.{Loaded, OnLoaded};
+ghost use Rattle.engine.specs.Lent.{OnLoadedIn};
 ghost use Rattle.marking.specs.Marks.{mark_of, marks_over};
 
-use engine::transitions;
+use engine::{DecodedModel, transitions};
 use evaluation::Evaluation;
-use model::Model;
 
 // 1 true, 0 false, 2 failed.
 pub fn mark_of(guard: Evaluation) -> u8
@@ -18,35 +17,22 @@ pub fn mark_of(guard: Evaluation) -> u8
     match guard {
         Evaluation::Unknown => 0,
         Evaluation::Failed => 2,
-        Evaluation::Value(value) => { if value == 1 { 1 } else { 0 } }
+        Evaluation::Value(value) => u8::from(value == 1),
     }
 }
 
 // The mark of each guard over the values, into its cell; the cells past the last transition's stay.
-pub fn refresh(
-    loaded: Model,
-    kinds: &[u8],
-    parameters: &[i32],
-    variables: &[[i32; 3]],
-    nexts: &[u16],
-    guards: &[u16],
-    values: &[i32],
-    cells: &mut [i64],
-    marks: &mut [u8],
-)
-    requires loaded { Loaded loaded kinds.now parameters.now variables.now nexts.now guards.now }
-    requires variables_in_bounds { (length variables.now ≤ length values.now) × (length guards.now ≤ length marks.old) × (cells.old ≡ replicate (length variables.now) unknown_cell) }
-    ensures { OnLoaded loaded kinds.now parameters.now variables.now nexts.now guards.now (λ m.
-        marks.new ≡ marks_over m values.now marks.old)
-        × (cells.new ≡ cells.old) }
+pub fn refresh(decoded: &DecodedModel<'_>, values: &[i32], cells: &mut [i64], marks: &mut [u8])
+    requires variables_in_bounds { (length decoded.now.tables.variables.now ≤ length values.now) × (length decoded.now.tables.guards.now ≤ length marks.old)
+        × (cells.old ≡ replicate (length decoded.now.tables.variables.now) unknown_cell) }
+    ensures marked { OnLoadedIn decoded.now.tables (λ m. marks.new ≡ marks_over m values.now marks.old) }
+    ensures blank { cells.new ≡ cells.old }
 {
-    let count = variables.len();
+    let tables = &decoded.tables;
+    let count = tables.variables.len();
     propagation::overwrite(&values[..count], cells);
-    for i in 0..guards.len() {
-        let guard = transitions::guard(
-            loaded, kinds, parameters, variables, nexts, guards, cells, i,
-        );
-        marks[i] = mark_of(guard);
+    for (transition, mark) in marks[..tables.guards.len()].iter_mut().enumerate() {
+        *mark = mark_of(transitions::guard(decoded, cells, transition));
     }
     scratch::forget(cells);
 }

@@ -14,7 +14,8 @@ use Rattle.std.specs.Prelude.{slice_get, Option, Some, None}
 use Rattle.kinds.specs.declared.Sort.{Sort}
 use Rattle.kinds.specs.declared.Place.TheVariants.{Instruction as InstructionPlace, Expression as ExpressionPlace}
 use Rattle.kinds.proofs.Equality.{wanted_itself}
-use Rattle.kinds.specs.Kinds.{boolean_sort, same_sort}
+use Rattle.kinds.specs.Kinds.{boolean_sort}
+use Rattle.kinds.specs.Sameness.{same_sort}
 use Rattle.model.specs.Trees.{Expression, Instruction, Instructions, count, depth_of_expression, depth_of, depth_of_all}
 use Rattle.model.specs.Trees.Expression.{numeral, truth, variable, negation, binary, if_then_else}
 use Rattle.model.specs.Trees.Instruction.{skip, assign, if_then, block}

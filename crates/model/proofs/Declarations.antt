@@ -4,7 +4,8 @@ use mathlib.Core.List.{List, [], ◌∷◌, ◌++◌, append_assoc, append-nil}
 use Prim.Native.Nat.{ℕ, zero, suc, ◌+◌, ◌-◌, ◌≤◌, ◌<◌}
 use native.Mathlib.Numerals.{add-one}
 use native.Mathlib.Omega.{arith}
-use borrow.Author.Tests.{eq-eqb, ne_eqb}
+use mathlib.Core.Bool.{true, false}
+use lib.Dec.{eqb}
 use lib.IntN.{ℤ, pos}
 use lib.ListN.{length, take, set}
 use lib.Seq.{take-suc-set, take_all}
@@ -63,16 +64,16 @@ module _ (ks : List ℕ) (ps : List ℤ) where
       variable_due : Due ks ps (variable_refusal ks ps at) at node
       variable_due = node_due ks ps (variable_refusal ks ps at) at e h
 
-      pub boolean_walked : node.kind ≡ 1
+      pub boolean_walked : eqb node.kind 1 ≡ true
           → Ok (record { sort = Boolean; low = pos 0; high = pos 1; first = node.parameter; next = node.next }) ≡ declaration_of (variable_at ks ps at)
       unfolding variable_at declaration_of
       boolean_walked z =
-          rw (unless_none _ variable_due.allowed, variable_due.kind, variable_due.parameter, variable_due.place, eq-eqb node.kind 1 z)
+          rw (unless_none _ variable_due.allowed, variable_due.kind, variable_due.parameter, variable_due.place, z)
 
-      pub number_walked : (node.kind ≡ 1 → ⊥) → {x : Declared} → x ≡ declaration_of (range_at ks ps node.parameter node.next.at) → x ≡ declaration_of (variable_at ks ps at)
+      pub number_walked : eqb node.kind 1 ≡ false → {x : Declared} → x ≡ declaration_of (range_at ks ps node.parameter node.next.at) → x ≡ declaration_of (variable_at ks ps at)
       unfolding variable_at
       number_walked z i =
-          rw (unless_none _ variable_due.allowed, variable_due.kind, variable_due.parameter, variable_due.place, ne_eqb node.kind 1 z) i
+          rw (unless_none _ variable_due.allowed, variable_due.kind, variable_due.parameter, variable_due.place, z) i
 
 -- ---- the variables in a row
 

@@ -1,10 +1,9 @@
 -- What the functions that walk over an instruction answer: a law for each place where one of them returns.
 use mathlib.Core.Path.{◌≡◌, refl, sym, ◌∙◌}
-use mathlib.Core.Bool.{cond}
+use mathlib.Core.Bool.{true, false, cond}
 use mathlib.Core.List.{List}
 use Prim.Native.Nat.{ℕ, zero, suc, ◌+◌, ◌-◌, ◌<◌}
 use native.Mathlib.Omega.{arith}
-use borrow.Author.Tests.{eq-eqb, ne_eqb}
 use lib.Dec.{eqb}
 use lib.IntN.{ℤ, nat_abs}
 use Rattle.std.specs.Prelude.{Option, Ok, Err, slice_get}
@@ -44,16 +43,16 @@ module _ (ks : List ℕ) (ps : List ℤ) (s : Scope) (at : ℕ) where
     due : Due ks ps (offence left) at node
     due = node_due ks ps (offence left) at e h
 
-    pub instruction_block : node.kind ≡ 19 → {x : Walked}
+    pub instruction_block : eqb node.kind 19 ≡ true → {x : Walked}
         → x ≡ outcome (branches_at ks ps (instruction_at ks ps s (left - 1)) m node.next.at) → x ≡ outcome (instruction_at ks ps s left at)
     instruction_block z i =
-        rw (instruction_step left l, unless_none _ due.allowed, due.kind, due.parameter, due.place, eq-eqb node.kind 19 z, sym q) (i ∙ then_found _ _)
+        rw (instruction_step left l, unless_none _ due.allowed, due.kind, due.parameter, due.place, z, sym q) (i ∙ then_found _ _)
 
-    pub instruction_parts : (node.kind ≡ 19 → ⊥) → {sort : Option Sort} → sort ≡ slice_get s.sorts m → {x : Walked}
+    pub instruction_parts : eqb node.kind 19 ≡ false → {sort : Option Sort} → sort ≡ slice_get s.sorts m → {x : Walked}
         → ((p : ℤ) → x ≡ outcome (parts_at ks ps (expression_at ks ps s.sorts (left - 1)) (instruction_at ks ps s (left - 1)) sort p node.next.at (children_of node.kind)))
         → x ≡ outcome (instruction_at ks ps s left at)
     instruction_parts z g i =
-        rw (instruction_step left l, unless_none _ due.allowed, due.kind, due.parameter, due.place, ne_eqb node.kind 19 z, sym q, sym g) (i node.parameter)
+        rw (instruction_step left l, unless_none _ due.allowed, due.kind, due.parameter, due.place, z, sym q, sym g) (i node.parameter)
 
 -- what follows a node other than a block
 module _ (ks : List ℕ) (ps : List ℤ) (expression : Option Sort → ℕ → Walk Expression) (child : ℕ → Walk Instruction) (sort : Option Sort) (k : ℕ) (p : ℤ) (at : ℕ) {row : Row} (b : row ≡ row_of k) where

@@ -20,3 +20,4 @@ pub mod Systems
 pub mod Verdicts
 pub mod WalkClaims
 pub mod Walking
+pub mod Widened

@@ -17,7 +17,8 @@ use Rattle.std.specs.Prelude.{slice_get, Option, Some}
 use Rattle.kinds.specs.declared.Sort.{Sort}
 use Rattle.kinds.specs.declared.Place.TheVariants.{Instruction as InstructionPlace, Expression as ExpressionPlace}
 use Rattle.kinds.proofs.Equality.{one_wanted}
-use Rattle.kinds.specs.Kinds.{boolean_sort, same_sort}
+use Rattle.kinds.specs.Kinds.{boolean_sort}
+use Rattle.kinds.specs.Sameness.{same_sort}
 use Rattle.model.specs.Trees.{Expression, Instruction, Instructions, count, depth_of_expression, depth_of, depth_of_all}
 use Rattle.model.specs.Trees.Instruction.{block}
 use Rattle.model.specs.Walk.{Walk, Scope, branches_at, parts_at, instruction_at, and_then, leaf, operands_at, expression_at}

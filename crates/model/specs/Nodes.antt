@@ -1,7 +1,8 @@
 -- The nodes of a tree in prefix order, and the bytes of a model file.
 use mathlib.Core.List.{List, [], ◌∷◌, ◌++◌, flat_map}
 use Rattle.std.specs.Prelude.{cond, ℕ, zero, suc, ◌-◌, ◌/◌, ◌%◌, ℤ, pos, negsuc}
-use Rattle.kinds.specs.Kinds.{kind_of, is_sort}
+use Rattle.kinds.specs.Kinds.{kind_of}
+use Rattle.kinds.specs.Sameness.{is_sort}
 use Rattle.kinds.specs.declared.Sort.TheVariants.{Boolean}
 use Rattle.model.specs.Trees.{Expression, Instruction, Instructions, Variable, Transition, System, count, variables}
 use Rattle.model.specs.Trees.Expression.{numeral, truth, variable, negation, binary, if_then_else}

@@ -6,10 +6,12 @@ use Rattle.model.specs.Trees.{Expression, Instruction, Instructions, Transition}
 use Rattle.model.specs.Walk.{Walk, Scope, scope_of, operands_at, expression_at, branches_at, parts_at, instruction_at, transition_at}
 use Rattle.model.specs.Check.{max_depth}
 
+-- the variables that its instructions may assign
 abbrev pub scope_in : Walker → Scope
 scope_in w = scope_of w.sorts.now w.from w.past
 
 module _ (w : Walker) where
+  -- each of the walks, from this walker
   abbrev pub expression_in : ℕ → Option Sort → ℕ → Walk Expression
   expression_in left wanted at = expression_at w.tree.kinds.now w.tree.parameters.now w.sorts.now left wanted at
 

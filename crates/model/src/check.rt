@@ -40,25 +40,20 @@ pub fn check(model: &[u8]) -> Result<Sizes, Refusal>
 }
 
 // The check of an expression handed outside a model, over variables of these sorts.
-pub fn check_over_sorts(
-    kinds: &[u8],
-    parameters: &[i32],
-    sorts: &[Sort],
-    wanted: Sort,
-) -> Result<(), Refusal>
-    ensures { result ≡ given_answer (expression_given kinds.now parameters.now sorts.now (Some wanted)) }
+pub fn check_over_sorts(tree: &Tree, sorts: &[Sort], wanted: Sort) -> Result<(), Refusal>
+    ensures { result ≡ given_answer (expression_given tree.now.kinds.now tree.now.parameters.now sorts.now (Some wanted)) }
 {
-    if kinds.len() != parameters.len() {
+    if tree.kinds.len() != tree.parameters.len() {
         return Err(Refusal::WrongLength);
     }
     let walker = Walker {
-        tree: Tree { kinds, parameters },
+        tree: *tree,
         sorts,
         from: 0,
         past: 0,
     };
     let next = walker.expression(Model::MAX_DEPTH, Some(wanted), Cursor::empty())?;
-    if next.at < kinds.len() {
+    if next.at < tree.kinds.len() {
         return Err(Refusal::NodesLeftOver);
     }
     Ok(())
@@ -67,17 +62,16 @@ pub fn check_over_sorts(
 // The check of a transition that stands at place `at` among these nodes, over variables of these sorts, the first `states` of
 // them states: what refuses it, or the place after it.
 pub fn check_transition(
-    kinds: &[u8],
-    parameters: &[i32],
+    tree: &Tree,
     sorts: &[Sort],
     events: usize,
     states: usize,
     at: usize,
 ) -> Result<Cursor, Refusal>
-    ensures { result ≡ outcome (transition_at kinds.now parameters.now events (scope_of sorts.now 0 states) max_depth at) }
+    ensures { result ≡ outcome (transition_at tree.now.kinds.now tree.now.parameters.now events (scope_of sorts.now 0 states) max_depth at) }
 {
     let walker = Walker {
-        tree: Tree { kinds, parameters },
+        tree: *tree,
         sorts,
         from: 0,
         past: states,

@@ -1,6 +1,6 @@
 // The bytes of a model file: sizes and parameters.
 
-ghost use Rattle.std.specs.Prelude.{◌≡◌, ◌+◌, ◌*◌, ◌≤◌, ◌++◌, length, drop};
+ghost use Rattle.std.specs.Prelude.{◌≡◌, ◌+◌, ◌*◌, ◌^◌, ◌≤◌, ◌<◌, ◌++◌, length, drop};
 ghost use Rattle.model.specs.Check.{signed, parameters_at};
 ghost use Rattle.model.specs.Nodes.{parameter_width};
 ghost use Rattle.model.specs.Sizes.{little_at, sized, sizes_in, header_of};
@@ -8,15 +8,16 @@ ghost use Rattle.model.specs.Sizes.{little_at, sized, sizes_in, header_of};
 use super::{Layout, Sizes};
 use results::Refusal;
 
-// The number in one or two bytes from place `at` on, low byte first.
-fn little(model: &[u8], at: usize, width: usize) -> usize
-    requires { (1 ≤ width) × (width ≤ 2) × (at + width ≤ length model.now) }
-    ensures { result ≡ little_at model.now at width }
+// The number in so many bytes from place `at` on, low byte first.
+pub fn number(bytes: &[u8], at: usize, width: usize) -> usize
+    requires width { width ≤ 8 }
+    requires within { at + width ≤ length bytes.now }
+    ensures value { result ≡ little_at bytes.now at width }
+    ensures upper_bound { result < 256 ^ width }
 {
-    if width < 2 {
-        return usize::from(model[at]);
-    }
-    usize::from(u16::from_le_bytes([model[at], model[at + 1]]))
+    let mut widened = [0u8; 8];
+    widened[..width].copy_from_slice(&bytes[at..at + width]);
+    u64::from_le_bytes(widened) as usize
 }
 
 // The five sizes.
@@ -26,11 +27,11 @@ fn sizes_in(layout: Layout, model: &[u8]) -> Sizes
 {
     let width = layout.width;
     Sizes {
-        states: little(model, 0, width),
-        flows: little(model, width, width),
-        events: little(model, 2 * width, width),
-        transitions: little(model, 3 * width, width),
-        nodes: little(model, 4 * width, Layout::NODES_WIDTH),
+        states: number(model, 0, width),
+        flows: number(model, width, width),
+        events: number(model, 2 * width, width),
+        transitions: number(model, 3 * width, width),
+        nodes: number(model, 4 * width, Layout::NODES_WIDTH),
     }
 }
 
@@ -64,11 +65,14 @@ fn parameter_in(model: &[u8], at: usize) -> i32
 }
 
 // So many parameters from place `from` on, into the first cells.
+// By a counter: zipped with chunks of four bytes, the cells come as lent pairs, and what the loop keeps is no plainer.
 pub fn parameters_in(model: &[u8], from: usize, count: usize, parameters: &mut [i32])
     requires { (count ≤ length parameters.old) × (from + parameter_width * count ≤ length model.now) }
     ensures { parameters.new ≡ parameters_at model.now from count ++ drop count parameters.old }
 {
-    for i in 0..count {
-        parameters[i] = parameter_in(model, from + Layout::PARAMETER_WIDTH * i);
+    let mut at = from;
+    for parameter in parameters[..count].iter_mut() {
+        *parameter = parameter_in(model, at);
+        at += Layout::PARAMETER_WIDTH;
     }
 }

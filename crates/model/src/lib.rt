@@ -2,6 +2,8 @@
 
 #![tactic(auto)]
 
+ghost use Rattle.std.specs.Prelude.{◌≡◌, ◌+◌, ◌^◌, ◌<◌};
+
 pub mod check; // check.rt: the check of a file, and of an expression handed outside a model
 pub mod header; // header.rt: the sizes and the parameters
 mod walk; // walk.rt: expressions, instructions, variables, transitions
@@ -38,6 +40,16 @@ pub struct Sizes {
     pub events: usize,
     pub transitions: usize,
     pub nodes: usize,
+}
+
+impl Sizes {
+    // The variables: states, then flows.
+    pub fn variables(self) -> usize
+        requires { self.states + self.flows < 2 ^ 64 }
+        ensures { result ≡ self.states + self.flows }
+    {
+        self.states + self.flows
+    }
 }
 
 // A decoded model: its sizes and the place of its assertion.

@@ -86,7 +86,7 @@ impl Walker<'_> {
     {
         let node = cursor.instruction_node(&self.tree, self.from, self.past, left)?;
         let number = node.magnitude();
-        if node.kind == Kind::Block as u8 {
+        if kinds::stands_for(node.kind, Kind::Block) {
             return self.branches(left - 1, number, node.next);
         }
         let sort = self.sorts.get(number).copied();
@@ -115,7 +115,7 @@ impl Walker<'_> {
         self.instruction(left, second)
     }
 
-    // The branches of a block.
+    // The branches of a block. `transitions` loops alike: a closure for the step would bring its own calls into this cycle and onto its stack.
     #[cycle(branches_instruction_parts)]
     fn branches(&self, left: usize, count: usize, cursor: Cursor) -> Result<Cursor, Refusal>
         ensures { result ≡ outcome (branches_in self.now left count cursor.at) }
@@ -175,7 +175,7 @@ fn variable(tree: &Tree, cursor: Cursor) -> Result<Declaration, Refusal>
     ensures { result ≡ declaration_of (variable_at tree.now.kinds.now tree.now.parameters.now cursor.at) }
 {
     let node = cursor.variable_node(tree)?;
-    if node.kind != Kind::BooleanVariable as u8 {
+    if !kinds::stands_for(node.kind, Kind::BooleanVariable) {
         return range(tree, node.parameter, node.next);
     }
     Ok(Declaration {
@@ -218,7 +218,7 @@ fn rest(tree: &Tree, sorts: &[Sort], sizes: Sizes, cursor: Cursor) -> Result<Cur
         tree: *tree,
         sorts,
         from: states,
-        past: states + sizes.flows,
+        past: sizes.variables(),
     };
     let next = assertion.instruction(Model::MAX_DEPTH, second)?;
     if next.at < sizes.nodes {
@@ -233,7 +233,7 @@ pub fn system(tree: &Tree, sizes: Sizes) -> Result<Cursor, Refusal>
     ensures { result ≡ outcome (complete sizes.nodes (system_at tree.now.kinds.now tree.now.parameters.now sizes)) }
 {
     let mut cells = [Sort::Boolean; Model::MAX_VARIABLES];
-    let sorts = &mut cells[..sizes.states + sizes.flows];
+    let sorts = &mut cells[..sizes.variables()];
     let next = variables(tree, sorts)?;
     rest(tree, sorts, sizes, next)
 }

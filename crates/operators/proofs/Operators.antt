@@ -1,5 +1,5 @@
 -- The operators at each form of their operands, with values as they are read back from their bits.
-use mathlib.Core.Path.{◌≡◌, refl, ◌∙◌}
+use mathlib.Core.Path.{◌≡◌, refl, sym, ◌∙◌}
 use mathlib.Core.Bool.{Bool, true, false, cond, ◌||◌, or-false}
 use Prim.Native.Nat.{◌<◌, ◌^◌}
 use lib.IntN.{ℤ, pos}
@@ -10,10 +10,9 @@ use Rattle.evaluation.specs.declared.Evaluation.{Evaluation}
 use Rattle.evaluation.specs.declared.Evaluation.TheVariants.{Unknown, Failed, Value}
 use Rattle.evaluation.specs.declared.Operator.{Operator}
 use Rattle.evaluation.specs.declared.Operator.TheVariants.{Conjunction, Disjunction, Equality, Less, LessOrEqual, Sum, Difference, Product, Quotient, Remainder, Equivalence}
-use Rattle.evaluation.specs.Numbers.{boolean}
-use Rattle.evaluation.specs.Meaning.{operated, decides, decisive, decision, is_unknown, is_failed, number, calculated, agree, chosen}
+use Rattle.evaluation.specs.Meaning.{operated, decides, decisive, decision, is_unknown, is_failed, number, calculated, negated, agree, chosen, is_true}
 use Rattle.evaluation.proofs.Laws.{cond_keeps}
-use Rattle.evaluation.proofs.Signed.{stored, read_back, read_both, read_test, equal_bits, other_bits, one_fits}
+use Rattle.evaluation.proofs.Signed.{stored, read_back, read_both, read_test, equal_bits, other_bits}
 
 -- no other operator has a deciding operand
 pub no_other_decides : (op : Operator) (v : ℤ) → (op ≡ Conjunction → ⊥) → (op ≡ Disjunction → ⊥) → false ≡ decisive op v
@@ -44,6 +43,13 @@ no_other_decision Product n = refl
 no_other_decision Quotient n = refl
 no_other_decision Remainder n = refl
 no_other_decision Equivalence n = refl
+
+-- without a value, not hands its operand on
+pub handed_on : (a : Evaluation) → ((v : ℤ) → a ≡ Value v → ⊥) → a ≡ negated a
+unfolding negated
+handed_on Unknown n = refl
+handed_on Failed n = refl
+handed_on (Value v) n = absurd (n v refl)
 
 -- one operand is a value
 module _ (op : Operator) (other : Evaluation) {v : ℤ} (f : SFits w32 v) {t : Bool} (test : t ≡ decisive op (stored v)) where
@@ -144,11 +150,11 @@ module _ (a b : Evaluation) {c r : Evaluation} where
   unfolding chosen
   failed_chosen p e = e ∙ rw p
 
-module _ (a b : Evaluation) {c : Evaluation} {v : ℤ} (f : mag v < 2 ^ 31) (p : c ≡ Value v) where
-  pub first_chosen : of_z w32 v ≡ of_z w32 (boolean true) → a ≡ chosen c a b
-  unfolding chosen
-  first_chosen e = rw (p, equal_bits w32 (record { sfits = f }) one_fits e)
+module _ (a b : Evaluation) {c : Evaluation} {v : ℤ} {t : Bool} (p : c ≡ Value v) (test : t ≡ is_true c) where
+  pub first_chosen : t ≡ true → a ≡ chosen c a b
+  unfolding chosen is_true
+  first_chosen e = rw (p, sym (rw p at test) ∙ e)
 
-  pub second_chosen : (of_z w32 v ≡ of_z w32 (boolean true) → ⊥) → b ≡ chosen c a b
-  unfolding chosen
-  second_chosen n = rw (p, other_bits w32 (record { sfits = f }) one_fits n)
+  pub second_chosen : t ≡ false → b ≡ chosen c a b
+  unfolding chosen is_true
+  second_chosen e = rw (p, sym (rw p at test) ∙ e)

@@ -67,7 +67,7 @@ fn at_values(op: Operator, x: i32, y: i32) -> Evaluation
     calculate(op, x, y)
 }
 
-// Kinds 36 to 45 and 47.
+// Kinds 36 to 45 and 47. Four arms with a value: the checker has no rule for one that reads a value where another takes that operand whole.
 pub fn operate(op: Operator, a: Evaluation, b: Evaluation) -> Evaluation
     ensures { result ≡ operated op a b }
 {
@@ -88,8 +88,7 @@ pub fn negate(a: Evaluation) -> Evaluation
 {
     match a {
         Evaluation::Value(v) => evaluation::equal(v, 0),
-        Evaluation::Failed => Evaluation::Failed,
-        Evaluation::Unknown => Evaluation::Unknown,
+        other => other,
     }
 }
 
@@ -117,6 +116,6 @@ pub fn choose(condition: Evaluation, a: Evaluation, b: Evaluation) -> Evaluation
     match condition {
         Evaluation::Unknown => undecided(a, b, Evaluation::Unknown),
         Evaluation::Failed => undecided(a, b, Evaluation::Failed),
-        Evaluation::Value(v) => { if v == 1 { a } else { b } }
+        Evaluation::Value(_) => { if condition.is_true() { a } else { b } }
     }
 }

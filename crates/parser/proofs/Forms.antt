@@ -1,11 +1,11 @@
 -- Parentheses, calls and conditionals: what is read of each, part by part.
-use mathlib.Core.Path.{◌≡◌, sym, ap, ◌∙◌}
+use mathlib.Core.Path.{◌≡◌, sym, ap, ◌∙◌, subst}
 use mathlib.Core.Bool.{false}
 use mathlib.Core.List.{List}
 use Prim.Native.Nat.{ℕ, ◌≤◌, ◌<◌}
 use native.Mathlib.Omega.{arith}
 use lib.Dec.{T}
-use lib.ListN.{length, take}
+use lib.ListN.{length}
 use lib.Seq.{length-take-le}
 use Rattle.std.proofs.Common.{Option, Some, None, ◌⊎◌, inl, inr}
 use Rattle.grammar.specs.declared.Token.{Token}
@@ -19,8 +19,9 @@ use Rattle.grammar.specs.Reading.Parse.{failed, parsed}
 use Rattle.grammar.specs.Held.{FirstWord}
 use Rattle.grammar.proofs.Fuel.{after_comma, after_open, after_else, after_then}
 use Rattle.composition.specs.declared.Node.{Node}
+use Rattle.composition.specs.declared.list.Nodes.{Nodes}
 use Rattle.composition.specs.declared.Part.{Part}
-use Rattle.composition.specs.Parts.{Holds, Composed}
+use Rattle.composition.specs.Parts.{written, Holds, Composed}
 use Rattle.parser.specs.declared.source.Source.{Source}
 use Rattle.parser.specs.Levels.{Next, Stands, ReadAs, Reached}
 use Rattle.parser.proofs.Steps.{reader, words_at, then_failed, then_parsed, expected, missing, call_enclosed}
@@ -38,14 +39,14 @@ module _ (source : Source) where
   -- ---- what a reading comes to
 
   -- nothing can be read
-  pub refused_as : (at : ℕ) (before cells : List Node) (o : Option Part) {x : Parse} → o ≡ None → x ≡ failed → Reached source at before cells x o
+  pub refused_as : (at : ℕ) (before : List Node) (cells : Nodes) (o : Option Part) {x : Parse} → o ≡ None → x ≡ failed → Reached source at before cells x o
   refused_as at before cells o e h = rw e h
 
-  pub read_as : {at : ℕ} {before cells : List Node} {x y : Parse} {part : Part} → x ≡ y → ReadAs source at before cells y part → ReadAs source at before cells x part
+  pub read_as : {at : ℕ} {before : List Node} {cells : Nodes} {x y : Parse} {part : Part} → x ≡ y → ReadAs source at before cells y part → ReadAs source at before cells x part
   read_as e a = record { phrase = a.phrase; reads = e ∙ a.reads; stands = a.stands }
 
   -- the same reading, from an earlier place on and said in another way
-  pub reached_as : {at later : ℕ} (before cells : List Node) {x y : Parse} (o : Option Part) → x ≡ y → at ≤ later → Reached source later before cells y o
+  pub reached_as : {at later : ℕ} (before : List Node) (cells : Nodes) {x y : Parse} (o : Option Part) → x ≡ y → at ≤ later → Reached source later before cells y o
       → Reached source at before cells x o
   reached_as before cells None e l h = e ∙ h
   reached_as before cells (Some part) e l a =
@@ -53,16 +54,16 @@ module _ (source : Source) where
       record { phrase = earlier.phrase; reads = e ∙ earlier.reads; stands = earlier.stands }
 
   -- a part that was composed
-  pub composed_read : {before cells : List Node} {at next : ℕ} {x : Parse} {part : Part} (p : Phrase) → x ≡ parsed p (words_at text next) → part.next ≡ next
+  pub composed_read : {before : List Node} {cells : Nodes} {at next : ℕ} {x : Parse} {part : Part} (p : Phrase) → x ≡ parsed p (words_at text next) → part.next ≡ next
       → Stands source.sorts.now (length text) at before p part cells → ReadAs source at before cells x part
   composed_read p e n s = record { phrase = p; reads = e ∙ ap (λ (k : ℕ). parsed p (words_at text k)) (sym n); stands = s }
 
   -- a single word is this phrase
-  pub single_read : (nodes : List Node) {cells : List Node} {at end : ℕ} {w : Word} {r : Part} (p : Phrase) (f : FirstWord text at w) → end ≤ length nodes
-      → read_level call_level (words_at text at) ≡ parsed p (words_at text w.next) → Composed end end w.next r
-      → Holds source.sorts.now p (take end nodes) cells r → ReadAs source at (take end nodes) cells (read_level call_level (words_at text at)) r
-  single_read nodes {end = end} p f l e c h =
-      composed_read p e c.ends (word_stands source p (length-take-le end nodes l) f.after f.within c h)
+  pub single_read : (nodes : Nodes) {cells : Nodes} {at : ℕ} {w : Word} {r : Part} (p : Phrase) (f : FirstWord text at w) → nodes.count ≤ length nodes.cells
+      → read_level call_level (words_at text at) ≡ parsed p (words_at text w.next) → Composed nodes.count w.next cells r
+      → Holds source.sorts.now p (written nodes) cells r → ReadAs source at (written nodes) cells (read_level call_level (words_at text at)) r
+  single_read nodes {cells} {w = w} {r = r} p f l e c h =
+      composed_read p e c.ends (word_stands source p f.after f.within (subst (λ n. Composed n w.next cells r) (sym (length-take-le nodes.count nodes.cells l)) c) h)
 
   -- ---- parentheses
 
@@ -71,7 +72,7 @@ module _ (source : Source) where
     enclosed_refused e =
         call_enclosed text n ∙ then_failed (read_level whole_level (words_at text next)) (λ p us. expecting Close us (λ vs. parsed (enclosed p) vs)) e
 
-    pub enclosed_read : {before cells : List Node} {part : Part} (a : ReadAs source next before cells (read_level whole_level (words_at text next)) part)
+    pub enclosed_read : {before : List Node} {cells : Nodes} {part : Part} (a : ReadAs source next before cells (read_level whole_level (words_at text next)) part)
         → read_level call_level (words_at text at) ≡ expecting Close (words_at text part.next) (λ vs. parsed (enclosed a.phrase) vs)
     enclosed_read {part = part} a =
         call_enclosed text n
@@ -91,7 +92,7 @@ module _ (source : Source) where
     pub no_first : read_level whole_level (words_at text at) ≡ failed → after_open reader c (words_at text at) ≡ failed
     no_first e = then_failed (read_level whole_level (words_at text at)) (λ p us. expecting Comma us (after_comma reader c p)) e
 
-    pub first_read : {before cells : List Node} {part : Part} (a : ReadAs source at before cells (read_level whole_level (words_at text at)) part)
+    pub first_read : {before : List Node} {cells : Nodes} {part : Part} (a : ReadAs source at before cells (read_level whole_level (words_at text at)) part)
         → after_open reader c (words_at text at) ≡ expecting Comma (words_at text part.next) (after_comma reader c a.phrase)
     first_read {part = part} a =
         then_parsed (read_level whole_level (words_at text at)) (λ p us. expecting Comma us (after_comma reader c p)) a.phrase (words_at text part.next) a.reads
@@ -100,7 +101,7 @@ module _ (source : Source) where
       pub no_second : read_level whole_level (words_at text at) ≡ failed → after_comma reader c p (words_at text at) ≡ failed
       no_second e = then_failed (read_level whole_level (words_at text at)) (λ q us. expecting Close us (λ vs. parsed (call c p q) vs)) e
 
-      pub second_read : {before cells : List Node} {part : Part} (a : ReadAs source at before cells (read_level whole_level (words_at text at)) part)
+      pub second_read : {before : List Node} {cells : Nodes} {part : Part} (a : ReadAs source at before cells (read_level whole_level (words_at text at)) part)
           → after_comma reader c p (words_at text at) ≡ expecting Close (words_at text part.next) (λ vs. parsed (call c p a.phrase) vs)
       second_read {part = part} a =
           then_parsed (read_level whole_level (words_at text at)) (λ q us. expecting Close us (λ vs. parsed (call c p q) vs)) a.phrase (words_at text part.next)
@@ -112,7 +113,7 @@ module _ (source : Source) where
     pub no_condition : read_level whole_level (words_at text at) ≡ failed → conditional_by reader (words_at text at) ≡ failed
     no_condition e = then_failed (read_level whole_level (words_at text at)) (λ p us. expecting Then us (after_then reader p)) e
 
-    pub condition_read : {before cells : List Node} {part : Part} (a : ReadAs source at before cells (read_level whole_level (words_at text at)) part)
+    pub condition_read : {before : List Node} {cells : Nodes} {part : Part} (a : ReadAs source at before cells (read_level whole_level (words_at text at)) part)
         → conditional_by reader (words_at text at) ≡ expecting Then (words_at text part.next) (after_then reader a.phrase)
     condition_read {part = part} a =
         then_parsed (read_level whole_level (words_at text at)) (λ p us. expecting Then us (after_then reader p)) a.phrase (words_at text part.next) a.reads
@@ -121,7 +122,7 @@ module _ (source : Source) where
       pub no_branch_lem : read_level whole_level (words_at text at) ≡ failed → after_then reader p (words_at text at) ≡ failed
       no_branch_lem e = then_failed (read_level whole_level (words_at text at)) (λ q us. expecting Else us (after_else reader p q)) e
 
-      pub branch_read : {before cells : List Node} {part : Part} (a : ReadAs source at before cells (read_level whole_level (words_at text at)) part)
+      pub branch_read : {before : List Node} {cells : Nodes} {part : Part} (a : ReadAs source at before cells (read_level whole_level (words_at text at)) part)
           → after_then reader p (words_at text at) ≡ expecting Else (words_at text part.next) (after_else reader p a.phrase)
       branch_read {part = part} a =
           then_parsed (read_level whole_level (words_at text at)) (λ q us. expecting Else us (after_else reader p q)) a.phrase (words_at text part.next) a.reads
@@ -130,7 +131,7 @@ module _ (source : Source) where
         pub no_last : read_level whole_level (words_at text at) ≡ failed → after_else reader p q (words_at text at) ≡ failed
         no_last e = then_failed (read_level whole_level (words_at text at)) (λ r us. parsed (conditional p q r) us) e
 
-        pub last_read : {before cells : List Node} {part : Part} (a : ReadAs source at before cells (read_level whole_level (words_at text at)) part)
+        pub last_read : {before : List Node} {cells : Nodes} {part : Part} (a : ReadAs source at before cells (read_level whole_level (words_at text at)) part)
             → after_else reader p q (words_at text at) ≡ parsed (conditional p q a.phrase) (words_at text part.next)
         last_read {part = part} a =
             then_parsed (read_level whole_level (words_at text at)) (λ r us. parsed (conditional p q r) us) a.phrase (words_at text part.next) a.reads

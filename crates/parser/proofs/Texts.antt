@@ -9,7 +9,7 @@ use Rattle.grammar.specs.Phrases.{whole_level}
 use Rattle.grammar.specs.Reading.{entire, read_level, phrase_of}
 use Rattle.grammar.specs.Reading.Parse.{failed}
 use Rattle.grammar.specs.Held.{FirstWord}
-use Rattle.composition.specs.declared.Node.{Node}
+use Rattle.composition.specs.declared.list.Nodes.{Nodes}
 use Rattle.composition.specs.declared.Part.{Part}
 use Rattle.parser.specs.declared.source.Source.{Source}
 use Rattle.parser.specs.Levels.{ReadAs, TextReadAs}
@@ -20,7 +20,7 @@ pub none_read : (text : List ℕ) → read_level whole_level (words_at text 0) �
 unfolding phrase_of entire
 none_read text e = rw e
 
-module _ (source : Source) {cells : List Node} {part : Part} (a : ReadAs source 0 [] cells (read_level whole_level (words_at source.text.now 0)) part) where
+module _ (source : Source) {cells : Nodes} {part : Part} (a : ReadAs source 0 [] cells (read_level whole_level (words_at source.text.now 0)) part) where
   -- words are left
   pub words_left : (w : Word) → FirstWord source.text.now part.next w → phrase_of source.text.now ≡ none
   unfolding phrase_of entire

@@ -9,47 +9,40 @@ use Rattle.grammar.specs.Phrases.{Phrase, call_level, product_level, negation_le
 use Rattle.grammar.specs.Reading.{Parse, is_next, chain, read_level}
 use Rattle.grammar.specs.Reading.Parse.{failed, parsed}
 use Rattle.composition.specs.declared.Node.{Node}
+use Rattle.composition.specs.declared.list.Nodes.{Nodes}
 use Rattle.composition.specs.declared.Part.{Part}
 use Rattle.composition.specs.Parts.{Holds, Placed}
 use Rattle.parser.specs.declared.source.Source.{Source}
 use Rattle.parser.specs.declared.Level.{Level}
 use Rattle.parser.specs.declared.Level.TheVariants.{Product, Sum, Conjunction, Disjunction}
 
--- 02: "34 text over 200 bytes", "a slice under 400 nodes": a text that is read, the sorts of its variables, and room for its nodes
-pub record Lent (text : List ℕ) (vs : List Sort) (nodes : List Node) : Type 0 where
-  pub short : length text ≤ 200
-  pub few : length vs ≤ 4294967295
-  pub room : length nodes ≡ 400
-
--- a place of the text to read from, and one to write from: at most two nodes for a byte
-pub record Place (s : Source) (nodes : List Node) (at end : ℕ) : Type 0 where
-  pub cells : length nodes ≡ 400
+-- a place of the text to read from, and nodes to write after: at most two for a byte
+pub record Place (s : Source) (nodes : Nodes) (at : ℕ) : Type 0 where
   pub within : at ≤ length s.text.now
-  pub room : end ≤ 2 * at
+  pub room : nodes.count ≤ 2 * at
 
--- a part that was read, its nodes from place `from` on
-pub record Handed (s : Source) (nodes : List Node) (from : ℕ) (part : Part) : Type 0 where
-  pub cells : length nodes ≡ 400
+-- a part that was read, whose nodes are the last ones
+pub record Handed (s : Source) (nodes : Nodes) (part : Part) : Type 0 where
   pub within : part.next ≤ length s.text.now
-  pub room : part.end ≤ 2 * part.next
-  pub placed : Placed from part
+  pub room : nodes.count ≤ 2 * part.next
+  pub placed : Placed nodes.count part
 
 -- the part read from place `at` of a text of this size, its nodes after `before`
-pub record Stands (vs : List Sort) (size at : ℕ) (before : List Node) (p : Phrase) (part : Part) (cells : List Node) : Type 0 where
+pub record Stands (vs : List Sort) (size at : ℕ) (before : List Node) (p : Phrase) (part : Part) (cells : Nodes) : Type 0 where
   pub after : at < part.next
   pub within : part.next ≤ size
-  pub placed : Placed (length before) part
-  pub room : part.end + 2 * at ≤ length before + 2 * part.next
+  pub placed : Placed cells.count part
+  pub room : cells.count + 2 * at ≤ length before + 2 * part.next
   pub holds : Holds vs p before cells part
 
 -- what was read is this part, and the words after it follow
-pub record ReadAs (s : Source) (at : ℕ) (before cells : List Node) (parse : Parse) (part : Part) : Type 0 where
+pub record ReadAs (s : Source) (at : ℕ) (before : List Node) (cells : Nodes) (parse : Parse) (part : Part) : Type 0 where
   pub phrase : Phrase
   pub reads : parse ≡ parsed phrase (tokens_of (drop part.next s.text.now))
   pub stands : Stands s.sorts.now (length s.text.now) at before phrase part cells
 
 -- what a reading comes to: no part where nothing can be read
-abbrev pub Reached : Source → ℕ → List Node → List Node → Parse → Option Part → Type 0
+abbrev pub Reached : Source → ℕ → List Node → Nodes → Parse → Option Part → Type 0
 Reached s at before cells parse r = MatchOption r (parse ≡ failed) (λ part. ReadAs s at before cells parse part)
 
 -- this token stands at place `at`, and the words from place `next` on follow it
@@ -74,12 +67,12 @@ unfoldable pub chain_from : ℕ → Phrase → List Token → Parse
 chain_from below p ts = chain (λ us. read_level below us) (is_chained (suc below)) (length ts) p ts
 
 -- the part that a whole text is
-pub record TextReadAs (vs : List Sort) (cells : List Node) (o : maybe.Option Phrase) (part : Part) : Type 0 where
+pub record TextReadAs (vs : List Sort) (cells : Nodes) (o : maybe.Option Phrase) (part : Part) : Type 0 where
   pub phrase : Phrase
   pub reads : o ≡ some phrase
-  pub room : part.end ≤ 400
+  pub room : cells.count ≤ 400
   pub holds : Holds vs phrase [] cells part
 
 -- no part exactly where the text is not in the grammar
-abbrev pub TextRead : List Sort → List Node → maybe.Option Phrase → Option Part → Type 0
+abbrev pub TextRead : List Sort → Nodes → maybe.Option Phrase → Option Part → Type 0
 TextRead vs cells o r = MatchOption r (o ≡ none) (λ part. TextReadAs vs cells o part)

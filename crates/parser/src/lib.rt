@@ -6,7 +6,7 @@
 // four calls stand on the stack for a parenthesis at the beginning of an expression, and at most three more for each level of
 // operators before it.
 //
-// `at` is a place in the text; `end` is how many nodes are written so far; `from` is where those of a first operand begin.
+// `at` is a place in the text.
 
 #![tactic(auto)]
 
@@ -17,14 +17,15 @@ ghost use Rattle.grammar.specs.Phrases.{Phrase, call_level, product_level, sign_
 ghost use Rattle.grammar.specs.Reading.{read_level, related_by, arguments_by, conditional_by, phrase_of};
 ghost use Rattle.grammar.specs.Held.{FirstWord, Scanned};
 ghost use Rattle.composition.specs.declared.Node.{Node};
-ghost use Rattle.parser.specs.Levels.{Lent, Place, Handed, Stands, Reached, Follows, operand_level, chain_from, TextRead};
+ghost use Rattle.composition.specs.Parts.{written};
+ghost use Rattle.parser.specs.Levels.{Place, Handed, Stands, Reached, Follows, operand_level, chain_from, TextRead};
 
-use composition::{Node, Part};
+use composition::{Nodes, Part};
 use grammar::{Token, Word};
-use kinds::Sort;
-use source::Source;
 
 mod source; // source.rt: a text and the sorts of its variables
+
+pub use source::Source;
 
 // The levels of the operators that group from the left, tightest first.
 #[derive(Clone, Copy)]
@@ -85,6 +86,7 @@ impl Source<'_> {
         ensures { Follows self.now.text.now token at result }
     {
         let word = self.word_at(at)?;
+        // An `if`: proofs are told at a test alone that two tokens are the same.
         if word.token == token {
             Some(word.next)
         } else {
@@ -93,171 +95,169 @@ impl Source<'_> {
     }
 
     // A number, a variable, true or false.
-    fn single(&self, nodes: &mut [Node], word: Word, end: u16) -> Option<Part>
-        requires { (end < length nodes.old) × (length nodes.old ≤ 400) }
+    fn single(&self, nodes: &mut Nodes, word: Word) -> Option<Part>
+        requires { nodes.old.count < 400 }
         ensures { (at : ℕ) → FirstWord self.now.text.now at word
             → (word.token ≡ Open → ⊥) → (word.token ≡ Div → ⊥) → (word.token ≡ Mod → ⊥)
-            → Reached self.now at (take end nodes.old) nodes.new
+            → Reached self.now at (written nodes.old) nodes.new
             (read_level call_level (tokens_of (drop at self.now.text.now))) result }
     {
         match word.token {
-            Token::Number(number) => Some(Part::numeral(nodes, end, number, word.next)),
+            Token::Number(number) => Some(Part::numeral(nodes, number, word.next)),
             Token::Variable(number) => {
-                Some(Part::variable(nodes, self.sorts, end, number, word.next))
+                Some(Part::variable(nodes, self.sorts, number, word.next))
             }
-            Token::True => Some(Part::truth(nodes, end, 1, word.next)),
-            Token::False => Some(Part::truth(nodes, end, 0, word.next)),
+            Token::True => Some(Part::truth(nodes, 1, word.next)),
+            Token::False => Some(Part::truth(nodes, 0, word.next)),
             _ => None,
         }
     }
 
     // Single words, parentheses, calls.
     #[cycle(reading)]
-    fn call(&self, nodes: &mut [Node], at: u16, end: u16) -> Option<Part>
-        requires { Place self.now nodes.old at end }
-        ensures { Reached self.now at (take end nodes.old) nodes.new
+    fn call(&self, nodes: &mut Nodes, at: u16) -> Option<Part>
+        requires { Place self.now nodes.old at }
+        ensures { Reached self.now at (written nodes.old) nodes.new
             (read_level call_level (tokens_of (drop at self.now.text.now))) result }
     {
         let word = self.word_at(at)?;
         match word.token {
             Token::Open => {
-                let part = self.whole(nodes, word.next, end)?;
+                let part = self.whole(nodes, word.next)?;
                 let next = self.after(Token::Close, part.next)?;
                 Some(part.enclosed(next))
             }
-            Token::Div | Token::Mod => self.arguments(nodes, word.token, word.next, end),
-            _ => self.single(nodes, word, end),
+            Token::Div | Token::Mod => self.arguments(nodes, word.token, word.next),
+            _ => self.single(nodes, word),
         }
     }
 
     // The arguments of a call of div or mod.
     #[cycle(reading)]
-    fn arguments(&self, nodes: &mut [Node], function: Token, at: u16, end: u16) -> Option<Part>
-        requires { Place self.now nodes.old at end }
-        ensures { Reached self.now at (take end nodes.old) nodes.new
+    fn arguments(&self, nodes: &mut Nodes, function: Token, at: u16) -> Option<Part>
+        requires { Place self.now nodes.old at }
+        ensures { Reached self.now at (written nodes.old) nodes.new
             (arguments_by (λ k us. read_level k us) function (tokens_of (drop at self.now.text.now))) result }
     {
         let opened = self.after(Token::Open, at)?;
-        let first = self.whole(nodes, opened, end)?;
+        let first = self.whole(nodes, opened)?;
         let comma = self.after(Token::Comma, first.next)?;
-        let second = self.whole(nodes, comma, first.end)?;
+        let second = self.whole(nodes, comma)?;
         let closed = self.after(Token::Close, second.next)?;
-        Some(first.called(nodes, end, function, second, closed))
+        Some(first.called(nodes, function, second, closed))
     }
 
     // An operand of an operator of this level, but for the first one.
     #[cycle(reading)]
-    fn operand(&self, nodes: &mut [Node], level: Level, at: u16, end: u16) -> Option<Part>
-        requires { Place self.now nodes.old at end }
-        ensures { Reached self.now at (take end nodes.old) nodes.new
+    fn operand(&self, nodes: &mut Nodes, level: Level, at: u16) -> Option<Part>
+        requires { Place self.now nodes.old at }
+        ensures { Reached self.now at (written nodes.old) nodes.new
             (read_level (operand_level level) (tokens_of (drop at self.now.text.now))) result }
     {
         match level {
-            Level::Product => self.call(nodes, at, end),
+            Level::Product => self.call(nodes, at),
             Level::Sum => {
-                let factor = self.call(nodes, at, end)?;
-                self.product(nodes, factor, end)
+                let factor = self.call(nodes, at)?;
+                self.product(nodes, factor)
             }
-            Level::Conjunction => self.negation(nodes, at, end),
+            Level::Conjunction => self.negation(nodes, at),
             Level::Disjunction => {
-                let first = self.negation(nodes, at, end)?;
-                self.conjunction(nodes, first, end)
+                let first = self.negation(nodes, at)?;
+                self.conjunction(nodes, first)
             }
         }
     }
 
     // Operators of this level, after a first operand.
     #[cycle(reading)]
-    fn chain(&self, nodes: &mut [Node], level: Level, first: Part, from: u16) -> Option<Part>
-        requires { Handed self.now nodes.old from first }
-        ensures { (at : ℕ) (before : List Node) (p : Phrase) → length before ≡ from
+    fn chain(&self, nodes: &mut Nodes, level: Level, first: Part) -> Option<Part>
+        requires { Handed self.now nodes.old first }
+        ensures { (at : ℕ) (before : List Node) (p : Phrase)
             → Stands self.now.sorts.now (length self.now.text.now) at before p first nodes.old
             → Reached self.now at before nodes.new
             (chain_from (operand_level level) p (tokens_of (drop first.next self.now.text.now))) result }
     {
         let mut left = first;
-        loop {
-            let Some(word) = self.word_at(left.next) else {
-                return Some(left);
-            };
+        while let Some(word) = self.word_at(left.next) {
             if !level.groups(word.token) {
                 return Some(left);
             }
-            let right = self.operand(nodes, level, word.next, left.end)?;
-            left = left.operated(nodes, from, word.token, right);
+            let right = self.operand(nodes, level, word.next)?;
+            left = left.operated(nodes, word.token, right);
         }
+        Some(left)
     }
 
-    // Times, after a first operand.
+    // Times, after a first operand. This and the next three are alike: each level of the grammar has a function of its own.
     #[cycle(reading)]
-    fn product(&self, nodes: &mut [Node], first: Part, from: u16) -> Option<Part>
-        requires { Handed self.now nodes.old from first }
-        ensures { (at : ℕ) (before : List Node) (p : Phrase) → length before ≡ from
+    fn product(&self, nodes: &mut Nodes, first: Part) -> Option<Part>
+        requires { Handed self.now nodes.old first }
+        ensures { (at : ℕ) (before : List Node) (p : Phrase)
             → Stands self.now.sorts.now (length self.now.text.now) at before p first nodes.old
             → Reached self.now at before nodes.new
             (chain_from call_level p (tokens_of (drop first.next self.now.text.now))) result }
     {
-        self.chain(nodes, Level::Product, first, from)
+        self.chain(nodes, Level::Product, first)
     }
 
     // Plus and minus, after a first operand.
     #[cycle(reading)]
-    fn sum(&self, nodes: &mut [Node], first: Part, from: u16) -> Option<Part>
-        requires { Handed self.now nodes.old from first }
-        ensures { (at : ℕ) (before : List Node) (p : Phrase) → length before ≡ from
+    fn sum(&self, nodes: &mut Nodes, first: Part) -> Option<Part>
+        requires { Handed self.now nodes.old first }
+        ensures { (at : ℕ) (before : List Node) (p : Phrase)
             → Stands self.now.sorts.now (length self.now.text.now) at before p first nodes.old
             → Reached self.now at before nodes.new
             (chain_from product_level p (tokens_of (drop first.next self.now.text.now))) result }
     {
-        self.chain(nodes, Level::Sum, first, from)
+        self.chain(nodes, Level::Sum, first)
     }
 
     // And, after a first operand.
     #[cycle(reading)]
-    fn conjunction(&self, nodes: &mut [Node], first: Part, from: u16) -> Option<Part>
-        requires { Handed self.now nodes.old from first }
-        ensures { (at : ℕ) (before : List Node) (p : Phrase) → length before ≡ from
+    fn conjunction(&self, nodes: &mut Nodes, first: Part) -> Option<Part>
+        requires { Handed self.now nodes.old first }
+        ensures { (at : ℕ) (before : List Node) (p : Phrase)
             → Stands self.now.sorts.now (length self.now.text.now) at before p first nodes.old
             → Reached self.now at before nodes.new
             (chain_from negation_level p (tokens_of (drop first.next self.now.text.now))) result }
     {
-        self.chain(nodes, Level::Conjunction, first, from)
+        self.chain(nodes, Level::Conjunction, first)
     }
 
     // Or, after a first operand.
     #[cycle(reading)]
-    fn disjunction(&self, nodes: &mut [Node], first: Part, from: u16) -> Option<Part>
-        requires { Handed self.now nodes.old from first }
-        ensures { (at : ℕ) (before : List Node) (p : Phrase) → length before ≡ from
+    fn disjunction(&self, nodes: &mut Nodes, first: Part) -> Option<Part>
+        requires { Handed self.now nodes.old first }
+        ensures { (at : ℕ) (before : List Node) (p : Phrase)
             → Stands self.now.sorts.now (length self.now.text.now) at before p first nodes.old
             → Reached self.now at before nodes.new
             (chain_from conjunction_level p (tokens_of (drop first.next self.now.text.now))) result }
     {
-        self.chain(nodes, Level::Disjunction, first, from)
+        self.chain(nodes, Level::Disjunction, first)
     }
 
     // Signs.
     #[cycle(reading)]
-    fn signed(&self, nodes: &mut [Node], at: u16, end: u16) -> Option<Part>
-        requires { Place self.now nodes.old at end }
-        ensures { Reached self.now at (take end nodes.old) nodes.new
+    fn signed(&self, nodes: &mut Nodes, at: u16) -> Option<Part>
+        requires { Place self.now nodes.old at }
+        ensures { Reached self.now at (written nodes.old) nodes.new
             (read_level sign_level (tokens_of (drop at self.now.text.now))) result }
     {
         let word = self.word_at(at)?;
         if is_sign(word.token) {
-            let operand = self.signed(nodes, word.next, end)?;
-            return Some(operand.prefixed(nodes, end, word.token));
+            let operand = self.signed(nodes, word.next)?;
+            return Some(operand.prefixed(nodes, word.token));
         }
-        let factor = self.call(nodes, at, end)?;
-        let term = self.product(nodes, factor, end)?;
-        self.sum(nodes, term, end)
+        let factor = self.call(nodes, at)?;
+        let term = self.product(nodes, factor)?;
+        self.sum(nodes, term)
     }
 
     // A relation, after its first operand.
     #[cycle(reading)]
-    fn relation(&self, nodes: &mut [Node], first: Part, from: u16) -> Option<Part>
-        requires { Handed self.now nodes.old from first }
-        ensures { (at : ℕ) (before : List Node) (p : Phrase) → length before ≡ from
+    fn relation(&self, nodes: &mut Nodes, first: Part) -> Option<Part>
+        requires { Handed self.now nodes.old first }
+        ensures { (at : ℕ) (before : List Node) (p : Phrase)
             → Stands self.now.sorts.now (length self.now.text.now) at before p first nodes.old
             → Reached self.now at before nodes.new
             (related_by (λ k us. read_level k us) p (tokens_of (drop first.next self.now.text.now))) result }
@@ -268,69 +268,64 @@ impl Source<'_> {
         if !is_relation(word.token) {
             return Some(first);
         }
-        let right = self.signed(nodes, word.next, first.end)?;
-        Some(first.operated(nodes, from, word.token, right))
+        let right = self.signed(nodes, word.next)?;
+        Some(first.operated(nodes, word.token, right))
     }
 
     // Not.
     #[cycle(reading)]
-    fn negation(&self, nodes: &mut [Node], at: u16, end: u16) -> Option<Part>
-        requires { Place self.now nodes.old at end }
-        ensures { Reached self.now at (take end nodes.old) nodes.new
+    fn negation(&self, nodes: &mut Nodes, at: u16) -> Option<Part>
+        requires { Place self.now nodes.old at }
+        ensures { Reached self.now at (written nodes.old) nodes.new
             (read_level negation_level (tokens_of (drop at self.now.text.now))) result }
     {
         if let Some(next) = self.after(Token::Not, at) {
-            let operand = self.negation(nodes, next, end)?;
-            return Some(operand.prefixed(nodes, end, Token::Not));
+            let operand = self.negation(nodes, next)?;
+            return Some(operand.prefixed(nodes, Token::Not));
         }
-        let first = self.signed(nodes, at, end)?;
-        self.relation(nodes, first, end)
+        let first = self.signed(nodes, at)?;
+        self.relation(nodes, first)
     }
 
     // If-then-else, and all others.
     #[cycle(reading)]
-    fn whole(&self, nodes: &mut [Node], at: u16, end: u16) -> Option<Part>
-        requires { Place self.now nodes.old at end }
-        ensures { Reached self.now at (take end nodes.old) nodes.new
+    fn whole(&self, nodes: &mut Nodes, at: u16) -> Option<Part>
+        requires { Place self.now nodes.old at }
+        ensures { Reached self.now at (written nodes.old) nodes.new
             (read_level whole_level (tokens_of (drop at self.now.text.now))) result }
     {
         if let Some(next) = self.after(Token::If, at) {
-            return self.conditional(nodes, next, end);
+            return self.conditional(nodes, next);
         }
-        let operand = self.negation(nodes, at, end)?;
-        let first = self.conjunction(nodes, operand, end)?;
-        self.disjunction(nodes, first, end)
+        let operand = self.negation(nodes, at)?;
+        let first = self.conjunction(nodes, operand)?;
+        self.disjunction(nodes, first)
     }
 
     // If-then-else, after `if`.
     #[cycle(reading)]
-    fn conditional(&self, nodes: &mut [Node], at: u16, end: u16) -> Option<Part>
-        requires { Place self.now nodes.old at end }
-        ensures { Reached self.now at (take end nodes.old) nodes.new
+    fn conditional(&self, nodes: &mut Nodes, at: u16) -> Option<Part>
+        requires { Place self.now nodes.old at }
+        ensures { Reached self.now at (written nodes.old) nodes.new
             (conditional_by (λ k us. read_level k us) (tokens_of (drop at self.now.text.now))) result }
     {
-        let condition = self.whole(nodes, at, end)?;
+        let condition = self.whole(nodes, at)?;
         let then = self.after(Token::Then, condition.next)?;
-        let first = self.whole(nodes, then, condition.end)?;
+        let first = self.whole(nodes, then)?;
         let otherwise = self.after(Token::Else, first.next)?;
-        let second = self.whole(nodes, otherwise, first.end)?;
-        Some(condition.chosen(nodes, end, first, second))
+        let second = self.whole(nodes, otherwise)?;
+        Some(condition.chosen(nodes, first, second))
     }
-}
-
-// The whole text; None where it is not in the grammar. One with more opening than closing parentheses, or fewer, is refused
-// beforehand: this halves the deepest nesting that is read.
-pub fn parse(text: &[u8], sorts: &[Sort], nodes: &mut [Node]) -> Option<Part>
-    requires { Lent text.now sorts.now nodes.old }
-    ensures { TextRead sorts.now nodes.new (phrase_of text.now) result }
-{
-    if !scanner::is_balanced(text) {
-        return None;
-    }
-    let source = Source { text, sorts };
-    let part = source.whole(nodes, 0, 0)?;
-    match source.word_at(part.next) {
-        Some(_) => None,
-        None => Some(part),
+    // The whole text; None where it is not in the grammar. One with more opening than closing parentheses, or fewer, is refused
+    // beforehand: this halves the deepest nesting that is read.
+    pub fn parse(&self, nodes: &mut Nodes) -> Option<Part>
+        ensures { TextRead self.now.sorts.now nodes.new (phrase_of self.now.text.now) result }
+    {
+        if !scanner::is_balanced(self.text) {
+            return None;
+        }
+        nodes.count = 0;
+        let part = self.whole(nodes, 0)?;
+        self.word_at(part.next).is_none().then_some(part)
     }
 }

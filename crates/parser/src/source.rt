@@ -4,7 +4,7 @@ ghost use Rattle.std.specs.Prelude.{◌≤◌, length};
 
 use kinds::Sort;
 
-// A text, and the sorts of its variables.
+// A text of at most 200 bytes, and the sorts of its variables.
 #[derive(Clone, Copy)]
 pub struct Source<'a> {
     pub text: &'a [u8],

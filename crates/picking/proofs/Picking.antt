@@ -1,6 +1,6 @@
 -- Pick, by the tests that the code makes: it looks at one guard after another, and on a file it answers alone.
-use mathlib.Core.Path.{◌≡◌, refl, sym, ap₂, ◌∙◌}
-use mathlib.Core.Bool.{true, false, cond}
+use mathlib.Core.Path.{◌≡◌, refl, sym, ap, ap₂, ◌∙◌}
+use mathlib.Core.Bool.{Bool, true, false, cond}
 use mathlib.Core.List.{List}
 use Rattle.std.specs.Prelude.{Option, Some, None}
 use Prim.Native.Nat.{ℕ, suc, ◌+◌, ◌-◌, ◌≤◌, ◌<◌}
@@ -8,7 +8,11 @@ use native.Mathlib.Numerals.{add-one}
 use native.Mathlib.Omega.{arith}
 use borrow.Author.Tests.{eq-eqb, ne_eqb, lt-ltb, le-ltb}
 use lib.Dec.{eqb}
-use lib.IntN.{ℤ}
+use lib.IntN.{ℤ, pos}
+use Rattle.evaluation.specs.declared.Evaluation.{Evaluation}
+use Rattle.evaluation.specs.declared.Evaluation.TheVariants.{Unknown, Failed, Value}
+use Rattle.evaluation.specs.Numbers.{eq_z}
+use Rattle.evaluation.proofs.Laws.{eq_z_true}
 use lib.ListN.{length, take}
 use Rattle.model.specs.Check.{Verdict}
 use Rattle.model.specs.Check.Verdict.{refusal, accepted}
@@ -22,6 +26,7 @@ use Rattle.standing.specs.Holding.{IsShort, holds}
 use Rattle.marking.specs.Marks.{mark_of, marks_from, marks_of}
 use Rattle.steps.specs.Answers.{on_file, on_file_answer}
 use Rattle.inspection.specs.Queries.{first_fireable, pick}
+use Rattle.variables.specs.declared.VariableRow.{VariableRow}
 
 -- ---- the refusals, or what is found
 
@@ -45,13 +50,13 @@ module _ (m : Meaning) (r : Run) where
       pick_done h t e = rw (le-ltb (length r.values) (length m.declarations) enough, le-ltb (length r.marks) m.transitions room, h, e)
 
 -- too few values or too few marks
-pub pick_measured : (m : Meaning) (r : Run) (transitions : ℕ) (rows : List (List ℤ)) → length rows ≡ length m.declarations → transitions ≡ m.transitions
-    → {e : Refusal} {n : ℕ} → n ≡ number_of e → IsShort transitions rows r e → refused n ≡ pick m r
+pub pick_measured : (m : Meaning) (r : Run) (transitions : ℕ) (rows : List VariableRow) → length rows ≡ length m.declarations → transitions ≡ m.transitions
+    → {e : Refusal} → IsShort transitions rows r e → refused (number_of e) ≡ pick m r
 unfolding number_of
-pick_measured m r transitions rows declared counted k short =
+pick_measured m r transitions rows declared counted short =
     elim short [
-      | inl h ↦ rw (k, h.0) (pick_short m r (omega (arith, declared, h.1)))
-      | inr h ↦ rw (k, h.0) (pick_few m r (omega (arith, declared, h.1)) (omega (arith, counted, h.2)))
+      | inl h ↦ rw h.0 (pick_short m r (omega (arith, declared, h.1)))
+      | inr h ↦ rw h.0 (pick_few m r (omega (arith, declared, h.1)) (omega (arith, counted, h.2)))
     ]
 
 -- ---- what the marks that are left come to
@@ -82,6 +87,26 @@ pub all_marks : (m : Meaning) (values : List ℤ) (used total : ℕ) → used �
 all_marks m values used total e q =
     let all : total - 0 ≡ m.transitions = omega (arith, q) in
     ap₂ (λ u n. first_fireable (marks_from m (take u values) 0 n) 0) e all
+
+-- ---- the mark of a guard that is true, and of another
+
+module _ (g : Evaluation) where
+  pub marked_true : g ≡ Value (pos 1) → mark_of g ≡ 1
+  unfolding mark_of eq_z
+  marked_true e = rw e refl
+
+  pub marked_other : (g ≡ Value (pos 1) → ⊥) → mark_of g ≡ 1 → ⊥
+  unfolding mark_of
+  marked_other n = by g refl
+    where
+      value : (v : ℤ) → g ≡ Value v → (t : Bool) → eq_z v (pos 1) ≡ t → ◌≡◌ {A = ℕ} (cond t 1 0) 1 → ⊥
+      value v e true q h = n (e ∙ ap Value (eq_z_true v (pos 1) q))
+      value v e false q h = omega (arith, h)
+
+      by : (x : Evaluation) → g ≡ x → mark_of x ≡ 1 → ⊥
+      by Unknown e h = omega (arith, h)
+      by Failed e h = omega (arith, h)
+      by (Value v) e h = value v e (eq_z v (pos 1)) refl h
 
 -- ---- an answer alone
 

@@ -9,7 +9,7 @@ use std::fs::File;
 use std::io;
 use std::io::Read;
 
-// How many bytes of the wanted output have been printed, and whether no other was.
+// How many bytes of the wanted output have been printed, and whether no other was; what comes after another byte is counted still.
 #[derive(Clone, Copy, PartialEq, Eq, Debug)]
 struct Output<'a> {
     wanted: &'a [u8],

@@ -22,6 +22,7 @@ use Rattle.expressions.specs.Cells.{valuation_of}
 use Rattle.interpreter.specs.Cells.{InstructionStands, TargetsBelow}
 use Rattle.results.specs.Results.{answered}
 use Rattle.scratch.specs.Blank.{unknown_cell}
+use Rattle.variables.specs.declared.VariableRow.{VariableRow}
 use Rattle.variables.specs.Rows.{lows_in, highs_in}
 use Rattle.variables.proofs.Columns.{low_ends, high_ends, row_count}
 use Rattle.waiting.proofs.Scoping.{targets_below}
@@ -52,7 +53,7 @@ module _ (o : Option Fault) (old given : List ℤ) (x : Result (Unit {0}) Fault)
 
 -- ---- the action where it stands
 
-module _ {ks : List ℕ} {ps : List ℤ} {nexts : List ℕ} {rows : List (List ℤ)} {values old : List ℤ} {at : ℕ} (a : ActionStands ks ps nexts rows values old at) where
+module _ {ks : List ℕ} {ps : List ℤ} {nexts : List ℕ} {rows : List VariableRow} {values old : List ℤ} {at : ℕ} (a : ActionStands ks ps nexts rows values old at) where
   rows_counted : length rows ≡ length a.system.states + length a.system.flows
   rows_counted = row_count (variables a.system) a.rows_held ∙ length_variables a.system
 

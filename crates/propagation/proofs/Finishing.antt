@@ -28,6 +28,7 @@ use Rattle.semantics.specs.Propagation.{is_new}
 use Rattle.semantics.proofs.Effects.{faultless, given_at_rest}
 use Rattle.semantics.proofs.Alike.{Alike, faults_alike}
 use Rattle.results.specs.Results.{over}
+use Rattle.variables.specs.declared.VariableRow.{VariableRow}
 use Rattle.variables.specs.Rows.{firsts_in}
 use Rattle.variables.proofs.Columns.{low_ends, high_ends, row_count}
 use Rattle.waiting.specs.Waiting.{waiting, effects_of_each, Untouched}
@@ -99,7 +100,7 @@ first_some v o = refl
 
 -- ---- the reading
 
-module _ (ks : List ℕ) (ps : List ℤ) (nexts : List ℕ) (rows : List (List ℤ)) (at : ℕ) (cells cells' : List ℤ) (count pending : ℕ) (waits : List ℕ)
+module _ (ks : List ℕ) (ps : List ℤ) (nexts : List ℕ) (rows : List VariableRow) (at : ℕ) (cells cells' : List ℤ) (count pending : ℕ) (waits : List ℕ)
     (reset : cells' ≡ filled (firsts_in rows) cells) (numbers : AllRepresentable (firsts_in rows)) (fits : length (firsts_in rows) ≤ length cells) (long : length waits ≡ length ks) where
   larger : Extends (valuation_of cells) (valuation_of cells')
   larger x v k =

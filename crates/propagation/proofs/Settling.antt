@@ -24,6 +24,7 @@ use Rattle.results.specs.Results.{Answered, answered, over}
 use Rattle.expressions.specs.Cells.{valuation_of}
 use Rattle.rounds.specs.Cells.{finding_of, reached_in}
 use Rattle.propagation.specs.Cells.{AllRepresentable, filled, flows_by_settling, CountWithin, PropagationStands}
+use Rattle.variables.specs.declared.VariableRow.{VariableRow}
 use Rattle.variables.specs.Rows.{firsts_in}
 use Rattle.variables.proofs.Columns.{column_length, first_values, row_count}
 use Rattle.propagation.proofs.Overwriting.{length_filled, get_d_filled, replaced_by}
@@ -62,7 +63,7 @@ filled_numbers values cs h l x u =
 
 -- ---- the outcome
 
-module _ {ks : List ℕ} {ps : List ℤ} {nexts : List ℕ} {rows : List (List ℤ)} {at : ℕ} (s : ℕ) (old : List ℤ) (p : PropagationStands ks ps nexts rows at s (length old)) where
+module _ {ks : List ℕ} {ps : List ℤ} {nexts : List ℕ} {rows : List VariableRow} {at : ℕ} (s : ℕ) (old : List ℤ) (p : PropagationStands ks ps nexts rows at s (length old)) where
   pub rows_cells : length rows ≡ s + length old
   rows_cells = rows_counted p.assertion ∙ omega (arith, p.state_cells, p.flow_cells)
 
@@ -70,7 +71,7 @@ module _ {ks : List ℕ} {ps : List ℤ} {nexts : List ℕ} {rows : List (List �
   held = first_values (variables p.assertion.system) p.assertion.rows_held
 
   length_firsts : length (firsts_in rows) ≡ length rows
-  length_firsts = column_length 2 rows
+  length_firsts = column_length (λ row. row.first) rows
 
   -- the cells after the reset, and the part of them that the flows are
   module _ (cells₂ cells₃ : List ℤ) (long : length cells₂ ≡ length rows) (reset : cells₃ ≡ filled (firsts_in rows) cells₂) where
@@ -133,7 +134,7 @@ module _ {ks : List ℕ} {ps : List ℤ} {nexts : List ℕ} {rows : List (List �
         (q ∙ ap (take (length old)) (filled_all old _ part_numbers) ∙ take_all (length old) _ (omega (arith, length_part cells₂ cells₃ long reset))
         ∙ sym (drop_take s (length rows) cells₃)))
 
-module _ {ks : List ℕ} {ps : List ℤ} {nexts : List ℕ} {rows : List (List ℤ)} {at : ℕ} (ss old : List ℤ)
+module _ {ks : List ℕ} {ps : List ℤ} {nexts : List ℕ} {rows : List VariableRow} {at : ℕ} (ss old : List ℤ)
     (p : PropagationStands ks ps nexts rows at (length ss) (length old)) where
   -- the answer is that of `settle`, whatever stands there
   abbrev Settles : Result ℕ Fault → List ℤ → Type 0

@@ -7,6 +7,7 @@ use Rattle.model.specs.Trees.{Instruction, System, variables}
 use Rattle.model.specs.Standing.{InstructionAt}
 use Rattle.model.specs.WellFormed.{WellFormed, Scoped, sizes_of}
 use Rattle.model.specs.Check.{action_scope}
+use Rattle.variables.specs.declared.VariableRow.{VariableRow}
 use Rattle.variables.specs.Rows.{variable_rows}
 use Rattle.interpreter.specs.declared.Fault.{Fault}
 use Rattle.interpreter.specs.Cells.{NextPlaces}
@@ -53,13 +54,13 @@ states_by_acting old (acted new) = answered (Ok tt) new
 
 module _ (ks : List ℕ) (ps : List ℤ) where
   -- the assertion stands at the place, with as many cells for states and flows as there are
-  pub record PropagationStands (nexts : List ℕ) (rows : List (List ℤ)) (at : ℕ) (states flows : ℕ) : Type 0 where
+  pub record PropagationStands (nexts : List ℕ) (rows : List VariableRow) (at : ℕ) (states flows : ℕ) : Type 0 where
     pub assertion : AssertionStands ks ps nexts rows at
     pub state_cells : states ≡ length assertion.system.states
     pub flow_cells : flows ≡ length assertion.system.flows
 
   -- an action of a well-formed system stands at the place, over the values of all variables, and with the old states
-  pub record ActionStands (nexts : List ℕ) (rows : List (List ℤ)) (values old : List ℤ) (at : ℕ) : Type 0 where
+  pub record ActionStands (nexts : List ℕ) (rows : List VariableRow) (values old : List ℤ) (at : ℕ) : Type 0 where
     pub system : System
     pub action : Instruction
     pub well_formed : WellFormed system

@@ -15,12 +15,13 @@ ghost use Rattle.semantics.specs.Propagation.Reached.{reached};
 ghost use Rattle.reading.specs.Readings.{SameCells};
 ghost use Rattle.rounds.specs.Lent.{AssertionHeld, IndexHeld, RestingIn};
 ghost use Rattle.propagation.specs.Cells.{AllRepresentable, filled, flows_by_settling, CountWithin, changed_by, states_by_acting};
-ghost use Rattle.propagation.specs.Lent.{FitsIn, BlankIn, BlankCellsIn, PropagationHeld, ActionHeld};
+ghost use Rattle.propagation.specs.Lent.{Emptied, FitsIn, BlankIn, BlankCellsIn, PropagationHeld, ActionHeld};
 
 use interpreter::{Fault, Gathered};
 use reading::Gathering;
 use scratch::Blank;
 use tables::{Index, Tables};
+use variables::VariableRow;
 
 // The first cells become these.
 pub fn store(from: &[i32], to: &mut [i32])
@@ -41,12 +42,12 @@ pub fn overwrite(values: &[i32], cells: &mut [i64])
 }
 
 // Cells that hold no number take the variables' first values.
-fn fill(variables: &[[i32; 3]], cells: &mut [i64])
+fn fill(variables: &[VariableRow], cells: &mut [i64])
     requires { length variables.now ≤ length cells.old }
     ensures { (cells.new ≡ filled (firsts_in variables.now) cells.old) × AllRepresentable (firsts_in variables.now) }
 {
-    for i in 0..variables.len() {
-        let value = i64::from(variables::first(variables, i));
+    for (i, row) in variables.iter().enumerate() {
+        let value = i64::from(row.first);
         if !expressions::is_number(cells[i]) {
             cells[i] = value;
         }
@@ -58,9 +59,9 @@ fn replace(cells: &[i64], values: &mut [i32])
     requires { length values.old ≤ length cells.now }
     ensures { values.new ≡ take (length values.old) (filled values.old cells.now) }
 {
-    for i in 0..values.len() {
+    for (i, value) in values.iter_mut().enumerate() {
         if let Ok(number) = i32::try_from(cells[i]) {
-            values[i] = number;
+            *value = number;
         }
     }
 }
@@ -79,11 +80,15 @@ fn change(found: Gathered, given: &[i64], states: &mut [i32]) -> Result<(), Faul
 fn clear(gathering: &mut Gathering<'_>)
     ensures blank { (gathering.new.given.now ≡ replicate (length gathering.old.given.now) unknown_cell)
         × (gathering.new.queue.now ≡ replicate (length gathering.old.queue.now) 0) × (gathering.new.waits.now ≡ replicate (length gathering.old.waits.now) 0) }
+    ensures emptied { Emptied gathering.new }
     ensures same { SameCells gathering.old gathering.new }
 {
+    gathering.found = Gathered::default();
     gathering.given.fill(Blank::CELL);
     gathering.queue.fill(0);
+    gathering.queued = 0;
     gathering.waits.fill(0);
+    gathering.pending = 0;
 }
 
 // After the rounds: flows still unknown take their first values, and what still waits is read once more. The flows are written only where
@@ -147,6 +152,7 @@ pub fn propagate(
         → answered result flows.new ≡ flows_by_settling (length states.now) flows.old (settle p.assertion.system states.now) }
     ensures bounded { CountWithin (length flows.old) result }
     ensures blank { BlankCellsIn tables.now cells.new gathering.new }
+    ensures emptied { Emptied gathering.new }
     ensures same { SameCells gathering.old gathering.new }
 {
     let settled = settle_flows(tables, index, states, cells, gathering, flows);
@@ -167,6 +173,7 @@ pub fn act(
     ensures acted { (a : ActionHeld tables.now cells.now states.old action)
         → answered result states.new ≡ states_by_acting states.old (actions.act a.system a.action cells.now) }
     ensures blank { BlankIn tables.now gathering.new }
+    ensures emptied { Emptied gathering.new }
     ensures same { SameCells gathering.old gathering.new }
 {
     gathering.found = Gathered::default();

@@ -28,6 +28,7 @@ pub record Held : Type 0 where
 abbrev pub held : Gathered → List ℤ → ℕ → List ℕ → List ℕ → Held
 held found given queued queue waits = record { gathered = gathering found given; news = take queued queue; waits = waits }
 
+-- the same of a gathering that is lent
 abbrev pub held_in : Gathering → Held
 held_in g = held g.found g.given.now g.queued g.queue.now g.waits.now
 

@@ -15,13 +15,15 @@ ghost use Rattle.reading.specs.Readings.{held_in, marking, noted, giving, read_b
 
 use evaluation::Evaluation;
 use interpreter::Gathered;
+use kinds::Kind;
 use syntax::{Cursor, nodes};
 use tables::Tables;
+use variables::VariableRow;
 
-// Kinds of instructions.
-const ASSIGNMENT: u8 = 17;
+// The bytes of two kinds. A match on the kinds themselves makes a reading slower.
+const ASSIGNMENT: u8 = Kind::Assignment as u8;
 
-const IF_THEN: u8 = 18;
+const IF_THEN: u8 = Kind::IfThen as u8;
 
 // What readings gather, in cells that are lent: what was found, the values given, the flows that became known, the first `queued` of the
 // queue, and the marks of what waits, `pending` of them set. A count is stored before or after what it counts, so between the two there
@@ -67,7 +69,7 @@ impl Gathering<'_> {
     }
 
     // An active assignment gives the variable a value; a variable that had none is queued.
-    fn give(&mut self, variables: &[[i32; 3]], variable: usize, value: i32)
+    fn give(&mut self, variables: &[VariableRow], variable: usize, value: i32)
         requires { (variable < length self.old.given.now) × (variable < length variables.now) × (variable < 65536) × Whole self.old }
         ensures given { held_in self.new ≡ giving (lows_in variables.now) (highs_in variables.now) variable value (held_in self.old) }
         ensures whole { Whole self.new }

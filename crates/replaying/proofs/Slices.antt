@@ -2,7 +2,7 @@
 use mathlib.Core.Path.{◌≡◌, refl, sym, ap, ◌∙◌}
 use mathlib.Core.Bool.{Bool, true, false, not}
 use mathlib.Core.List.{List, [], ◌∷◌, map}
-use Prim.Native.Nat.{ℕ, zero, suc, ◌≤◌, ◌<◌}
+use Prim.Native.Nat.{ℕ, zero, suc, ◌≤◌}
 use native.Mathlib.Omega.{arith}
 use lib.IntN.{ℤ}
 use lib.ListN.{length, take, length-append}
@@ -10,6 +10,7 @@ use lib.Seq.{take_at, length-take-le}
 use Rattle.model.specs.declared.Model.{Model}
 use Rattle.model.specs.Trees.{variables}
 use Rattle.results.specs.Results.{over}
+use Rattle.variables.specs.declared.VariableRow.{VariableRow}
 use Rattle.variables.specs.Rows.{variable_row, firsts_in}
 use Rattle.variables.proofs.Columns.{firsts_of, column_length}
 use Rattle.engine.specs.Cells.{Loaded}
@@ -28,20 +29,14 @@ take_map f zero l = refl
 take_map f (suc n) [] = refl
 take_map f (suc n) (a ∷ l) = ap (λ k. f a ∷ k) (take_map f n l)
 
-module _ {model : Model} {kinds : List ℕ} {parameters : List ℤ} {rows : List (List ℤ)} {nexts guards : List ℕ}
+module _ {model : Model} {kinds : List ℕ} {parameters : List ℤ} {rows : List VariableRow} {nexts guards : List ℕ}
     (d : Loaded model kinds parameters rows nexts guards) where
   -- what the code's tests of lengths tell
-  pub short_values : (values : List ℤ) → length values < length rows → length values < length (meaning d).declarations
-  short_values values h = omega (arith, rows_count d)
-
   pub enough_values : (values : List ℤ) → length rows ≤ length values → length (meaning d).declarations ≤ length values
   enough_values values h = omega (arith, rows_count d)
 
   pub from_transitions : (t : ℕ) → length guards ≤ t → (meaning d).transitions ≤ t
   from_transitions t h = omega (arith, guards_count d)
-
-  pub below_transitions : (t : ℕ) → t < length guards → t < (meaning d).transitions
-  below_transitions t h = omega (arith, guards_count d)
 
   pub meaning_complete : Complete (meaning d)
   unfolding meaning_of
@@ -61,7 +56,7 @@ module _ {model : Model} {kinds : List ℕ} {parameters : List ℤ} {rows : List
   -- an array that begins with them
   module _ (cells old : List ℤ) (e : cells ≡ over (firsts_in (take model.sizes.states rows)) old) where
     first_count : length (firsts_in (take model.sizes.states rows)) ≡ model.sizes.states
-    first_count = column_length 2 (take model.sizes.states rows) ∙ length-take-le model.sizes.states rows states_within
+    first_count = column_length (λ row. row.first) (take model.sizes.states rows) ∙ length-take-le model.sizes.states rows states_within
 
     first_part : take model.sizes.states cells ≡ firsts_in (take model.sizes.states rows)
     first_part = ap (take model.sizes.states) e ∙ take_at (firsts_in (take model.sizes.states rows)) _ model.sizes.states first_count

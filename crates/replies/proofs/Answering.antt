@@ -2,31 +2,27 @@
 use mathlib.Core.Path.{◌≡◌, refl, sym, ap, ◌∙◌}
 use mathlib.Core.Bool.{Bool, true, false, cond, not, ◌&&◌, ◌||◌}
 use mathlib.Core.List.{List}
-use types.Run.{OneOf, miss}
-use denote.Enum.Declared.{tag_of}
 use Prim.Native.Nat.{ℕ, ◌≤◌}
-use native.Mathlib.Omega.{arith}
 use borrow.Author.Tests.{ltb-false, le-ltb}
 use lib.Dec.{ltb}
-use lib.IntN.{ℤ}
 use lib.ListN.{length}
 use Rattle.results.specs.Results.{answered}
-use Rattle.steps.specs.declared.Answer as answer
-use Rattle.steps.specs.declared.Answer.TheVariants.{Refused, Rounds, Done, Number, Sizes, Picked, Outside}
-use Rattle.steps.specs.contracts.Answer.{the_type}
-use Rattle.steps.proofs.Tags.{all_but_refused, none_of_moves, none_of_marks}
-use Rattle.replaying.proofs.Tests.{neither}
+use Rattle.replaying.proofs.Tests.{neither, clash}
 use Rattle.run.specs.declared.Call.TheVariants as calls
-use Rattle.standing.specs.Runs.{Store, Answer}
-use Rattle.standing.specs.Runs as runs
+use Rattle.standing.specs.Runs.{Store, Done}
+use Rattle.standing.specs.Runs.Answer.{rounds, done}
 use Rattle.run.specs.Lists.{call}
-use Rattle.steps.specs.Answers.{seen}
+use Rattle.steps.specs.Answers.{seen_as}
 use Rattle.commands.specs.declared.Command.{Command}
 use Rattle.commands.specs.declared.Command.TheVariants.{Fire, Undo, Marks}
-use Rattle.std.specs.Prelude.{Option, Some, None}
+use Rattle.std.specs.Prelude.{Option, Some, None, Result, Ok, Err}
+use Rattle.std.specs.Option.{ok_or}
+use Rattle.results.specs.declared.refusal.Refusal.{Refusal}
+use Rattle.results.specs.declared.refusal.Refusal.TheVariants.{NoCommand}
+use Rattle.results.specs.Refusals.{number_of}
 use Rattle.lines.specs.Lines.{ok_text, back_text, marks_text, refusal_text, room, value_width, mark_width, Output, written_into, line_into}
-use Rattle.replies.specs.Replies.{Reply, run_text, look_text, no_command, run_reply, look_reply, reply, opening, is_accepted, is_started}
-use Rattle.replies.specs.Printing.{lacks_room, is_short, text_into, reply_into}
+use Rattle.replies.specs.Replies.{Reply, run_text, look_text, run_reply, look_reply, reply, opening, is_accepted, is_started}
+use Rattle.replies.specs.Printing.{lacks_room, is_short, text_into, reply_into, Replied}
 
 -- ---- room
 
@@ -52,72 +48,6 @@ pub refusal_printed : (n : ℕ) (old : List ℕ) {o : Output} → 24 ≤ length 
     → o ≡ text_into (refusal_text n) old
 refusal_printed n old h e = line_printed (room mark_width 0) (refusal_text n) old h e
 
-module _ {a : answer.Answer} {o : Output} (out : List ℕ) (values : List ℤ) (h : room value_width (length values) ≤ length out) where
-  pub run_refused : {n : ℕ} → a ≡ Refused n → o ≡ line_into (room mark_width 0) (refusal_text n) out
-      → o ≡ text_into (run_text (seen a) values) out
-  unfolding run_text seen
-  run_refused {n} e p = rw e (refusal_printed n out (omega arith) p)
-
-  pub run_rounds : {n : ℕ} → a ≡ Rounds n → o ≡ line_into (room value_width (length values)) (ok_text n values) out
-      → o ≡ text_into (run_text (seen a) values) out
-  unfolding run_text seen
-  run_rounds {n} e p = rw e (line_printed (room value_width (length values)) (ok_text n values) out h p)
-
-  pub run_done : a ≡ Done → o ≡ line_into (room value_width (length values)) (back_text values) out
-      → o ≡ text_into (run_text (seen a) values) out
-  unfolding run_text seen
-  run_done e p = rw e (line_printed (room value_width (length values)) (back_text values) out h p)
-
--- the other answers are none of start, fire and undo, by their tags
-pub run_other : (a : answer.Answer) (out : List ℕ) (values : List ℤ) → OneOf none_of_moves (tag_of the_type a)
-    → written_into (Some 0) out ≡ text_into (run_text (seen a) values) out
-unfolding run_text seen
-run_other (Refused n) out values h = absurd (miss none_of_moves 0 tt h)
-run_other (Rounds n) out values h = absurd (miss none_of_moves 1 tt h)
-run_other Done out values h = absurd (miss none_of_moves 2 tt h)
-run_other (Number v) out values h = refl
-run_other (Sizes z) out values h = refl
-run_other (Picked f) out values h = refl
-run_other (Outside c) out values h = refl
-
-module _ {a : answer.Answer} {o : Output} (out : List ℕ) (marks : List ℕ) (h : room mark_width (length marks) ≤ length out) where
-  pub look_refused : {n : ℕ} → a ≡ Refused n → o ≡ line_into (room mark_width 0) (refusal_text n) out
-      → o ≡ text_into (look_text (seen a) marks) out
-  unfolding look_text seen
-  look_refused {n} e p = rw e (refusal_printed n out (omega arith) p)
-
-  pub look_done : a ≡ Done → o ≡ line_into (room mark_width (length marks)) (marks_text marks) out
-      → o ≡ text_into (look_text (seen a) marks) out
-  unfolding look_text seen
-  look_done e p = rw e (line_printed (room mark_width (length marks)) (marks_text marks) out h p)
-
--- the other answers are none of marks
-pub look_other : (a : answer.Answer) (out marks : List ℕ) → OneOf none_of_marks (tag_of the_type a)
-    → written_into (Some 0) out ≡ text_into (look_text (seen a) marks) out
-unfolding look_text seen
-look_other (Refused n) out marks h = absurd (miss none_of_marks 0 tt h)
-look_other (Rounds n) out marks h = refl
-look_other Done out marks h = absurd (miss none_of_marks 2 tt h)
-look_other (Number v) out marks h = refl
-look_other (Sizes z) out marks h = refl
-look_other (Picked f) out marks h = refl
-look_other (Outside c) out marks h = refl
-
-pub refused_accepted : {a : answer.Answer} {n : ℕ} → a ≡ Refused n → is_accepted (seen a) ≡ false
-unfolding is_accepted seen
-refused_accepted e = rw e
-
--- what is not refused is accepted
-pub no_refusal : (a : answer.Answer) → OneOf all_but_refused (tag_of the_type a) → is_accepted (seen a) ≡ true
-unfolding is_accepted seen
-no_refusal (Refused n) h = absurd (miss all_but_refused 0 tt h)
-no_refusal (Rounds n) h = refl
-no_refusal Done h = refl
-no_refusal (Number v) h = refl
-no_refusal (Sizes z) h = refl
-no_refusal (Picked f) h = refl
-no_refusal (Outside c) h = refl
-
 -- ---- a slice that is too short: nothing is done
 
 module _ (out : List ℕ) (s : Store) (e : is_short out s ≡ true) where
@@ -142,34 +72,99 @@ module _ (out : List ℕ) (s : Store) (e : is_short out s ≡ false) where
   pub roomy_started : {b : Bool} (c : Bool) → b ≡ c → b ≡ (not (is_short out s) && c)
   roomy_started c q = q ∙ sym (ap (λ (x : Bool). not x && c) e)
 
+-- ---- what is left of the slice and of all that was lent
+
+-- a line printed of an answer, where there is room for it
+printed : {o : Output} {x : Reply} (out : List ℕ) (y : Reply) → x ≡ y → o ≡ text_into x.answer out → answered o x.left ≡ answered (text_into y.answer out) y.left
+printed {o} {x} out y q p = ap (λ (o : Output). answered o x.left) p ∙ ap (λ (r : Reply). answered (text_into r.answer out) r.left) q
+
+-- nothing is printed of a refusal yet
+refused_yet : (k : Refusal) {x : Reply} (out : List ℕ) (y : Reply) → x ≡ y → x.answer ≡ refusal_text (number_of k) → Replied (Err k) out out x.left y
+refused_yet k {x} out y q e = printed {o = text_into (refusal_text (number_of k)) out} {x = x} out y q (ap (λ t. text_into t out) (sym e))
+
 -- ---- commands
 
 pub some_is : {o : Option Command} (c : Command) {d : Command} → o ≡ Some c → c ≡ d → o ≡ Some d
 some_is c e f = e ∙ ap (λ (x : Command). Some x) f
 
-module _ (m : List ℕ) (c : Option Command) (s : Store) where
-  pub unknown_reply : c ≡ None → answered (refusal_text no_command) s ≡ reply m c s
-  unfolding reply
-  unknown_reply e = sym (ap (λ x. reply m x s) e)
+-- a line without a command is refused by 13, and another has its own
+pub missing : (o : Option Command) (r : Result Command Refusal) → r ≡ ok_or o NoCommand → (k : Refusal) → r ≡ Err k → (o ≡ None) × (k ≡ NoCommand)
+missing None r e k q = (refl, cc)
+missing (Some c) r e k q = clash cc
 
-  module _ {a : Answer} {s' : Store} where
-    pub fire_reply : {t : ℕ} → c ≡ Some (Fire t) → runs.answered a s' ≡ call m (calls.Fire t) s → run_reply (runs.answered a s') ≡ reply m c s
-    unfolding reply
-    fire_reply e p = ap run_reply p ∙ sym (ap (λ x. reply m x s) e)
+pub found : (o : Option Command) (r : Result Command Refusal) → r ≡ ok_or o NoCommand → (c : Command) → r ≡ Ok c → o ≡ Some c
+found None r e c q = clash cc
+found (Some d) r e c q = let same : d ≡ c = cc in ap Some same
 
-    pub undo_reply : c ≡ Some Undo → runs.answered a s' ≡ call m calls.Undo s → run_reply (runs.answered a s') ≡ reply m c s
-    unfolding reply
-    undo_reply e p = ap run_reply p ∙ sym (ap (λ x. reply m x s) e)
+module _ (m : List ℕ) (c : Option Command) (s : Store) (out : List ℕ) where
+  pub unknown_reply : c ≡ None → Replied (Err NoCommand) out out s (reply m c s)
+  unfolding reply number_of
+  unknown_reply e = rw e refl
 
-    pub marks_reply : c ≡ Some Marks → runs.answered a s' ≡ call m calls.Marks s → look_reply (runs.answered a s') ≡ reply m c s
+  -- a fire
+  module _ (t : ℕ) (is : c ≡ Some (Fire t)) (r : Result ℕ Refusal) (s' : Store) (p : answered (seen_as rounds r) s' ≡ call m (calls.Fire t) s) where
+    fired_reply : run_reply (answered (seen_as rounds r) s') ≡ reply m c s
     unfolding reply
-    marks_reply e p = ap look_reply p ∙ sym (ap (λ x. reply m x s) e)
+    fired_reply = ap run_reply p ∙ sym (ap (λ x. reply m x s) is)
+
+    pub fire_refused : (k : Refusal) → r ≡ Err k → Replied (Err k) out out s' (reply m c s)
+    unfolding run_text
+    fire_refused k q = refused_yet k out (reply m c s) fired_reply (rw q refl)
+
+    pub fire_line : (k : ℕ) → r ≡ Ok k → {w : Option ℕ} {out' : List ℕ} → room value_width (length s'.run.values) ≤ length out
+        → written_into w out' ≡ line_into (room value_width (length s'.run.values)) (ok_text k s'.run.values) out → Replied (Ok w) out out' s' (reply m c s)
+    unfolding run_text
+    fire_line k q h e = printed out (reply m c s) fired_reply (rw q (line_printed _ (ok_text k s'.run.values) out h e))
+
+  -- an undo
+  module _ (is : c ≡ Some Undo) (r : Result (Unit {0}) Refusal) (s' : Store) (p : answered (seen_as (λ _. done) r) s' ≡ call m calls.Undo s) where
+    undone_reply : run_reply (answered (seen_as (λ _. done) r) s') ≡ reply m c s
+    unfolding reply
+    undone_reply = ap run_reply p ∙ sym (ap (λ x. reply m x s) is)
+
+    pub undo_refused : (k : Refusal) → r ≡ Err k → Replied (Err k) out out s' (reply m c s)
+    unfolding run_text
+    undo_refused k q = refused_yet k out (reply m c s) undone_reply (rw q refl)
+
+    pub undo_line : (u : Unit {0}) → r ≡ Ok u → {w : Option ℕ} {out' : List ℕ} → room value_width (length s'.run.values) ≤ length out
+        → written_into w out' ≡ line_into (room value_width (length s'.run.values)) (back_text s'.run.values) out → Replied (Ok w) out out' s' (reply m c s)
+    unfolding run_text
+    undo_line u q h e = printed out (reply m c s) undone_reply (rw q (line_printed _ (back_text s'.run.values) out h e))
+
+  -- the marks
+  module _ (is : c ≡ Some Marks) (r : Result (Unit {0}) Refusal) (s' : Store) (p : answered (seen_as (λ _. done) r) s' ≡ call m calls.Marks s) where
+    marked_reply : look_reply (answered (seen_as (λ _. done) r) s') ≡ reply m c s
+    unfolding reply
+    marked_reply = ap look_reply p ∙ sym (ap (λ x. reply m x s) is)
+
+    pub marks_refused : (k : Refusal) → r ≡ Err k → Replied (Err k) out out s' (reply m c s)
+    unfolding look_text
+    marks_refused k q = refused_yet k out (reply m c s) marked_reply (rw q refl)
+
+    pub marks_line : (u : Unit {0}) → r ≡ Ok u → {w : Option ℕ} {out' : List ℕ} → room mark_width (length s'.buffer) ≤ length out
+        → written_into w out' ≡ line_into (room mark_width (length s'.buffer)) (marks_text s'.buffer) out → Replied (Ok w) out out' s' (reply m c s)
+    unfolding look_text
+    marks_line u q h e = printed out (reply m c s) marked_reply (rw q (line_printed _ (marks_text s'.buffer) out h e))
 
 -- ---- the start
 
-module _ (m : List ℕ) (s : Store) {a : Answer} {s' : Store} (p : runs.answered a s' ≡ call m calls.Start s) where
-  pub start_reply : run_reply (runs.answered a s') ≡ opening m s
-  start_reply = ap run_reply p
+module _ (m : List ℕ) (s : Store) (out : List ℕ) (r : Result ℕ Refusal) (s' : Store) (p : answered (seen_as rounds r) s' ≡ call m calls.Start s) where
+  begun_reply : run_reply (answered (seen_as rounds r) s') ≡ opening m s
+  begun_reply = ap run_reply p
 
-  pub start_accepted : {b : Bool} → b ≡ is_accepted a → b ≡ is_started m s
-  start_accepted q = q ∙ ap (λ (d : runs.Done Store). is_accepted d.answer) p
+  pub start_refused : (k : Refusal) → r ≡ Err k → Replied (Err k) out out s' (opening m s)
+  unfolding run_text
+  start_refused k q = refused_yet k out (opening m s) begun_reply (rw q refl)
+
+  pub start_line : (k : ℕ) → r ≡ Ok k → {w : Option ℕ} {out' : List ℕ} → room value_width (length s'.run.values) ≤ length out
+      → written_into w out' ≡ line_into (room value_width (length s'.run.values)) (ok_text k s'.run.values) out → Replied (Ok w) out out' s' (opening m s)
+  unfolding run_text
+  start_line k q h e = printed out (opening m s) begun_reply (rw q (line_printed _ (ok_text k s'.run.values) out h e))
+
+  pub not_started : (k : Refusal) → r ≡ Err k → false ≡ is_started m s
+  unfolding is_accepted
+  not_started k q = ap (λ r. is_accepted (seen_as rounds r)) (sym q) ∙ ap (λ (d : Done Store). is_accepted d.answer) p
+
+  pub started : (k : ℕ) → r ≡ Ok k → true ≡ is_started m s
+  unfolding is_accepted
+  started k q = ap (λ r. is_accepted (seen_as rounds r)) (sym q) ∙ ap (λ (d : Done Store). is_accepted d.answer) p

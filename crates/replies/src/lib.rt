@@ -4,22 +4,17 @@
 
 #![tactic(auto)]
 
-ghost use Rattle.std.specs.Prelude.{◌≡◌, not, ◌&&◌, ◌≤◌, length};
+ghost use Rattle.std.specs.Prelude.{◌≡◌, not, ◌&&◌, ◌≤◌, List, ℕ, false, is_ok, length};
 ghost use Rattle.results.specs.Results.{answered};
 ghost use Rattle.standing.specs.Runs.{run, store};
-ghost use Rattle.steps.specs.Answers.{seen};
-ghost use Rattle.lines.specs.Lines.{room, value_width, mark_width, written_into};
-ghost use Rattle.replies.specs.Replies.{run_text, look_text, reply, opening, is_accepted, is_started};
-ghost use Rattle.replies.specs.Printing.{lacks_room, is_short, text_into, reply_into};
+ghost use Rattle.lines.specs.Lines.{room, mark_width, written_into};
+ghost use Rattle.replies.specs.Replies.{reply, opening, is_started};
+ghost use Rattle.replies.specs.Printing.{lacks_room, is_short, line_of, text_into, reply_into, Replied};
 
 use commands::Command;
-use run::Call;
-use steps::Answer;
+use results::Refusal;
 
-// 01's number of a line that is no command.
-const NO_COMMAND: u8 = 13;
-
-// The start: is the run started, and how many bytes its line has; none, if there was no room for it.
+// The start: is the run started, and how many bytes its line has; none, if there was no room for it. A start that is refused has a line too.
 #[derive(Clone, Copy, PartialEq, Eq, Debug)]
 pub struct Opening {
     pub is_started: bool,
@@ -33,32 +28,50 @@ fn is_short(length: usize, values: usize, marks: usize) -> bool
     lines::is_short::<i32>(length, values) || lines::is_short::<u8>(length, marks)
 }
 
-// The line of the answer of start, fire or undo. The other answers are none of theirs.
-fn run_line(answer: Answer, values: &[i32], out: &mut [u8]) -> Option<usize>
-    ensures { room value_width (length values.now) ≤ length out.old
-        → written_into result out.new ≡ text_into (run_text (seen answer) values.now) out.old }
+// The line that was written, or that of the refusal.
+fn written(line: Result<Option<usize>, Refusal>, out: &mut [u8]) -> Option<usize>
+    ensures { room mark_width 0 ≤ length out.old → written_into result out.new ≡ line_of line out.old }
 {
-    match answer {
-        Answer::Refused(number) => lines::refusal_line(number, out),
-        Answer::Rounds(count) => lines::ok_line(count, values, out),
-        Answer::Done => lines::back_line(values, out),
-        _ => Some(0),
+    match line {
+        Ok(length) => length,
+        Err(refusal) => lines::refusal_line(refusal.number(), out),
     }
 }
 
-// The line of the answer of marks. The other answers are none of its.
-fn look_line(answer: Answer, marks: &[u8], out: &mut [u8]) -> Option<usize>
-    ensures { room mark_width (length marks.now) ≤ length out.old
-        → written_into result out.new ≡ text_into (look_text (seen answer) marks.now) out.old }
+// Carries out a command, 13 if there is none, and writes its line unless it is refused.
+fn carry_out(
+    command: Option<Command>,
+    model: &[u8],
+    values: &mut [i32],
+    marks: &mut [u8],
+    history: &mut [u8],
+    n: &mut usize,
+    buffer: &mut [u8],
+    out: &mut [u8],
+) -> Result<Option<usize>, Refusal>
+    ensures { lacks_room (length out.old) (length values.old) (length buffer.old) ≡ false
+        → Replied result out.old out.new (store (run values.new marks.new history.new n.new) buffer.new)
+        (reply model.now command (store (run values.old marks.old history.old n.old) buffer.old)) }
 {
-    match answer {
-        Answer::Refused(number) => lines::refusal_line(number, out),
-        Answer::Done => lines::marks_line(marks, out),
-        _ => Some(0),
+    let command = command.ok_or(Refusal::NoCommand)?;
+    match command {
+        Command::Fire(transition) => {
+            let count = run::fire(model, values, marks, history, n, transition)?;
+            Ok(lines::ok_line(count, values, out))
+        }
+        Command::Undo => {
+            run::undo(model, values, marks, history, n)?;
+            Ok(lines::back_line(values, out))
+        }
+        Command::Marks => {
+            run::marks(model, values, marks, history, *n, buffer)?;
+            Ok(lines::marks_line(buffer, out))
+        }
     }
 }
 
-// Carries out a command, or refuses a line that is none, and writes its line.
+// Carries out a command, or refuses a line that is none, and writes its line. The run is lent slice by slice, since its owner lends parts
+// of arrays: of a part in a struct it is not known afterwards that it is that part.
 pub fn respond(
     command: Option<Command>,
     model: &[u8],
@@ -76,38 +89,25 @@ pub fn respond(
     if is_short(out.len(), values.len(), buffer.len()) {
         return None;
     }
-    let Some(command) = command else {
-        return lines::refusal_line(NO_COMMAND, out);
-    };
-    match command {
-        Command::Fire(transition) => {
-            let answer = run::perform(
-                Call::Fire(transition),
-                model,
-                values,
-                marks,
-                history,
-                n,
-                buffer,
-            );
-            run_line(answer, values, out)
-        }
-        Command::Undo => {
-            let answer = run::perform(Call::Undo, model, values, marks, history, n, buffer);
-            run_line(answer, values, out)
-        }
-        Command::Marks => {
-            let answer = run::perform(Call::Marks, model, values, marks, history, n, buffer);
-            look_line(answer, buffer, out)
-        }
-    }
+    let line = carry_out(command, model, values, marks, history, n, buffer, out);
+    written(line, out)
 }
 
-// Was the call accepted?
-fn is_accepted(answer: Answer) -> bool
-    ensures { result ≡ is_accepted (seen answer) }
+// The start, and its line unless it is refused.
+fn begin(
+    model: &[u8],
+    values: &mut [i32],
+    marks: &mut [u8],
+    n: &mut usize,
+    out: &mut [u8],
+) -> Result<Option<usize>, Refusal>
+    ensures started { (history buffer : List ℕ) → is_ok result ≡ is_started model.now (store (run values.old marks.old history n.old) buffer) }
+    ensures replied { (history buffer : List ℕ) → lacks_room (length out.old) (length values.old) (length buffer) ≡ false
+        → Replied result out.old out.new (store (run values.new marks.new history n.new) buffer)
+        (opening model.now (store (run values.old marks.old history n.old) buffer)) }
 {
-    !matches!(answer, Answer::Refused(_))
+    let count = run::start(model, values, marks, n)?;
+    Ok(lines::ok_line(count, values, out))
 }
 
 // The start and its line.
@@ -132,10 +132,9 @@ pub fn open(
             written: None,
         };
     }
-    let answer = run::perform(Call::Start, model, values, marks, history, n, buffer);
-    let written = run_line(answer, values, out);
+    let line = begin(model, values, marks, n, out);
     Opening {
-        is_started: is_accepted(answer),
-        written,
+        is_started: line.is_ok(),
+        written: written(line, out),
     }
 }

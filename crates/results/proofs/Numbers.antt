@@ -5,7 +5,7 @@ use native.Mathlib.Omega.{arith}
 use lib.Dec.{eqb}
 use mathlib.Core.Bool.{cond}
 use Rattle.results.specs.declared.refusal.Refusal.{Refusal}
-use Rattle.results.specs.declared.refusal.Refusal.TheVariants.{ShortFile, TooManyNodes, WrongLength, MissingNode, TooDeep, KindNotAllowed, ParameterNotAllowed, NodesLeftOver, ShortValues, ShortSlice, NoSuchTransition, NoSuchVariable, NoCommand, InvalidRun, FullRecord, EmptyRecord, GuardFalse, GuardFailed, ActionFailed, ActionOutside, ActionConflict, AssertionFailed, AssertionOutside, AssertionConflict, NotReplayable, NotInGrammar, TypesDoNotFit, TooLarge, NoMembers, LimitPassed}
+use Rattle.results.specs.declared.refusal.Refusal.TheVariants.{ShortFile, TooManyNodes, WrongLength, MissingNode, TooDeep, KindNotAllowed, ParameterNotAllowed, NodesLeftOver, ShortValues, ShortSlice, NoSuchTransition, NoSuchVariable, NoCommand, InvalidRun, FullHistory, EmptyHistory, GuardFalse, GuardFailed, ActionFailed, ActionOutside, ActionConflict, AssertionFailed, AssertionOutside, AssertionConflict, NotReplayable, NotInGrammar, TypesDoNotFit, TooLarge, NoMembers, LimitPassed}
 use Rattle.results.specs.Refusals.{number_of, NumbersDiffer}
 
 -- the refusal of a number; of other numbers it has no meaning
@@ -25,8 +25,8 @@ refusal_of n =
     (cond (eqb n 12) NoSuchVariable
     (cond (eqb n 13) NoCommand
     (cond (eqb n 20) InvalidRun
-    (cond (eqb n 21) FullRecord
-    (cond (eqb n 22) EmptyRecord
+    (cond (eqb n 21) FullHistory
+    (cond (eqb n 22) EmptyHistory
     (cond (eqb n 23) GuardFalse
     (cond (eqb n 24) GuardFailed
     (cond (eqb n 25) ActionFailed
@@ -58,8 +58,8 @@ found_again NoSuchTransition = refl
 found_again NoSuchVariable = refl
 found_again NoCommand = refl
 found_again InvalidRun = refl
-found_again FullRecord = refl
-found_again EmptyRecord = refl
+found_again FullHistory = refl
+found_again EmptyHistory = refl
 found_again GuardFalse = refl
 found_again GuardFailed = refl
 found_again ActionFailed = refl
@@ -91,8 +91,8 @@ positive NoSuchTransition = omega arith
 positive NoSuchVariable = omega arith
 positive NoCommand = omega arith
 positive InvalidRun = omega arith
-positive FullRecord = omega arith
-positive EmptyRecord = omega arith
+positive FullHistory = omega arith
+positive EmptyHistory = omega arith
 positive GuardFalse = omega arith
 positive GuardFailed = omega arith
 positive ActionFailed = omega arith

@@ -2,7 +2,7 @@
 -- errors of texts and of transitions joined.
 use Rattle.std.specs.Prelude.{◌≡◌, ℕ, ◌≤◌}
 use Rattle.results.specs.declared.refusal.Refusal.{Refusal}
-use Rattle.results.specs.declared.refusal.Refusal.TheVariants.{ShortFile, TooManyNodes, WrongLength, MissingNode, TooDeep, KindNotAllowed, ParameterNotAllowed, NodesLeftOver, ShortValues, ShortSlice, NoSuchTransition, NoSuchVariable, NoCommand, InvalidRun, FullRecord, EmptyRecord, GuardFalse, GuardFailed, ActionFailed, ActionOutside, ActionConflict, AssertionFailed, AssertionOutside, AssertionConflict, NotReplayable, NotInGrammar, TypesDoNotFit, TooLarge, NoMembers, LimitPassed}
+use Rattle.results.specs.declared.refusal.Refusal.TheVariants.{ShortFile, TooManyNodes, WrongLength, MissingNode, TooDeep, KindNotAllowed, ParameterNotAllowed, NodesLeftOver, ShortValues, ShortSlice, NoSuchTransition, NoSuchVariable, NoCommand, InvalidRun, FullHistory, EmptyHistory, GuardFalse, GuardFailed, ActionFailed, ActionOutside, ActionConflict, AssertionFailed, AssertionOutside, AssertionConflict, NotReplayable, NotInGrammar, TypesDoNotFit, TooLarge, NoMembers, LimitPassed}
 
 unfoldable pub number_of : Refusal → ℕ
 -- "under 6 bytes"
@@ -34,9 +34,9 @@ number_of NoCommand = 13
 -- "n above the record's length, one of the first n entries T or above, or a value outside its ends"
 number_of InvalidRun = 20
 -- "fire with n equal to the record's length"
-number_of FullRecord = 21
+number_of FullHistory = 21
 -- "take back with n = 0"
-number_of EmptyRecord = 22
+number_of EmptyHistory = 22
 -- "guard false"
 number_of GuardFalse = 23
 -- "guard failed"

@@ -32,12 +32,12 @@ pub enum Refusal {
     NoSuchVariable = 12,
     // A line is no command.
     NoCommand = 13,
-    // The count of steps, an entry of the record, a value or a held mark is out of its bounds.
+    // The count of steps, an entry of the history, a value or a held mark is out of its bounds.
     InvalidRun = 20,
-    // Fire with the record full.
-    FullRecord = 21,
+    // Fire with the history full.
+    FullHistory = 21,
     // Take back with no step recorded.
-    EmptyRecord = 22,
+    EmptyHistory = 22,
     // The guard is false.
     GuardFalse = 23,
     // The guard failed.

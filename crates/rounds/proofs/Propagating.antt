@@ -26,6 +26,7 @@ use Rattle.rounds.specs.Rounds.{Going}
 use Rattle.semantics.specs.Counting.{unknowns}
 use Rattle.semantics.proofs.Counting.{unknowns_bounded}
 use Rattle.semantics.proofs.Rounds.{round_falls, assertion_targets}
+use Rattle.variables.specs.declared.VariableRow.{VariableRow}
 use Rattle.variables.specs.Rows.{lows_in, highs_in}
 use Rattle.variables.proofs.Columns.{low_ends, high_ends, row_count}
 use Rattle.waiting.proofs.Scoping.{targets_below}
@@ -87,7 +88,7 @@ module _ (t : System) where
 pub length_variables : (t : System) → length (variables t) ≡ length t.states + length t.flows
 length_variables t = length-append t.states t.flows
 
-module _ {ks : List ℕ} {ps : List ℤ} {nexts : List ℕ} {rows : List (List ℤ)} {at : ℕ} (a : AssertionStands ks ps nexts rows at) where
+module _ {ks : List ℕ} {ps : List ℤ} {nexts : List ℕ} {rows : List VariableRow} {at : ℕ} (a : AssertionStands ks ps nexts rows at) where
   pub rows_counted : length rows ≡ length a.system.states + length a.system.flows
   rows_counted = row_count (variables a.system) a.rows_held ∙ length_variables a.system
 

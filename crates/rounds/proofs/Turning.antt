@@ -18,6 +18,7 @@ use Rattle.model.specs.Standing.{InstructionAt, size_of}
 use Rattle.model.proofs.NodeLists.{NodesAt, nodes_within}
 use Rattle.model.proofs.NodeTrees.{instruction_size, instruction_nodes}
 use Rattle.model.proofs.Representable.{all_append}
+use Rattle.variables.specs.declared.VariableRow.{VariableRow}
 use Rattle.variables.specs.Rows.{lows_in, highs_in}
 use Rattle.variables.proofs.Columns.{low_ends, high_ends, row_count}
 use Rattle.expressions.specs.Expressions.{Valuation}
@@ -172,7 +173,7 @@ module _ (ks : List ℕ) (ps : List ℤ) where
 
 -- ---- the first reading
 
-module _ {ks : List ℕ} {ps : List ℤ} {nexts : List ℕ} {rows : List (List ℤ)} {at : ℕ} (some : AssertionStands ks ps nexts rows at)
+module _ {ks : List ℕ} {ps : List ℤ} {nexts : List ℕ} {rows : List VariableRow} {at : ℕ} (some : AssertionStands ks ps nexts rows at)
     (cells given : List ℤ) (same : given ≡ cells) (empty : Gathered) (nothing : empty ≡ nothing_found) (queue waits : List ℕ) (blank : waits ≡ replicate (length ks) 0) (room : length rows ≤ length given)
     (found' : Gathered) (given' : List ℤ) (queued' : ℕ) (queue' waits' : List ℕ)
     (told : (j : Instruction) → InstructionAt ks ps j at
@@ -229,7 +230,7 @@ module _ {ks : List ℕ} {ps : List ℤ} {nexts : List ℕ} {rows : List (List �
 
 -- ---- a turn: from what is known between two rounds, over what was read in the next
 
-module _ {ks : List ℕ} {ps : List ℤ} {nexts : List ℕ} {rows : List (List ℤ)} {at : ℕ} {cells₀ cells : List ℤ} {r : ℕ} (a : AssertionStands ks ps nexts rows at) {found : Gathered} {given : List ℤ} {waits : List ℕ}
+module _ {ks : List ℕ} {ps : List ℤ} {nexts : List ℕ} {rows : List VariableRow} {at : ℕ} {cells₀ cells : List ℤ} {r : ℕ} (a : AssertionStands ks ps nexts rows at) {found : Gathered} {given : List ℤ} {waits : List ℕ}
     (b : Between ks ps nexts rows at cells₀ cells r a found given waits) (clear : fault_in found ≡ none) where
   abbrev vs : List Variable
   vs = variables a.system
@@ -310,7 +311,7 @@ module _ {ks : List ℕ} {ps : List ℤ} {nexts : List ℕ} {rows : List (List �
 
 -- ---- the turns of the loop
 
-module _ {ks : List ℕ} {ps : List ℤ} {nexts : List ℕ} {rows : List (List ℤ)} {at : ℕ} {cells₀ cells given : List ℤ} {queue waits : List ℕ} {found : Gathered} {queued pending r done : ℕ}
+module _ {ks : List ℕ} {ps : List ℤ} {nexts : List ℕ} {rows : List VariableRow} {at : ℕ} {cells₀ cells given : List ℤ} {queue waits : List ℕ} {found : Gathered} {queued pending r done : ℕ}
     (some : AssertionStands ks ps nexts rows at) (t : Turn ks ps nexts rows at cells₀ cells given queue waits found queued pending r done) where
   -- the rounds so far are counted in 16 bits, and one more
   pub round_within : r + 1 < 65536
@@ -378,7 +379,7 @@ module _ {ks : List ℕ} {ps : List ℤ} {nexts : List ℕ} {rows : List (List �
 
 -- ---- a round that is to be read: the first, or a later one
 
-module _ {ks : List ℕ} {ps : List ℤ} {nexts : List ℕ} {rows : List (List ℤ)} {at : ℕ} {cells₀ cells given : List ℤ} {queue waits : List ℕ} {found : Gathered} {queued pending r done : ℕ}
+module _ {ks : List ℕ} {ps : List ℤ} {nexts : List ℕ} {rows : List VariableRow} {at : ℕ} {cells₀ cells given : List ℤ} {queue waits : List ℕ} {found : Gathered} {queued pending r done : ℕ}
     (some : AssertionStands ks ps nexts rows at) (ready : Ready ks ps nexts rows at cells₀ cells given queue waits found queued pending r done) where
   pub when_first : r ≡ 1 → Unread ks ps nexts rows at cells₀ cells given waits queued r
   when_first e = ⊎_elim (λ u. u) (λ s. absurd (omega (arith, e, s.next, (s.turn.between some).first))) ready
@@ -419,7 +420,7 @@ module _ {ks : List ℕ} {ps : List ℤ} {nexts : List ℕ} {rows : List (List �
 
 -- ---- the ends of the loop
 
-module _ {ks : List ℕ} {ps : List ℤ} {nexts : List ℕ} {rows : List (List ℤ)} {at : ℕ} {cells₀ cells given : List ℤ} {queue waits : List ℕ} {found : Gathered} {queued pending r done : ℕ}
+module _ {ks : List ℕ} {ps : List ℤ} {nexts : List ℕ} {rows : List VariableRow} {at : ℕ} {cells₀ cells given : List ℤ} {queue waits : List ℕ} {found : Gathered} {queued pending r done : ℕ}
     (t : Turn ks ps nexts rows at cells₀ cells given queue waits found queued pending r done) (a : AssertionStands ks ps nexts rows at) where
   pub turn_stops : (f : Fault) → fault_in found ≡ some f
       → (reached_in (Err f) cells ≡ rounds (variables a.system) a.system.assertion (suc (length a.system.flows)) 0 (valuation_of cells₀))

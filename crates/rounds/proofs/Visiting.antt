@@ -17,6 +17,7 @@ use Rattle.model.specs.Trees.{Instruction, variables}
 use Rattle.model.specs.WellFormed.{sizes_of}
 use Rattle.model.specs.Check.{assertion_scope}
 use Rattle.model.specs.Standing.{InstructionAt}
+use Rattle.variables.specs.declared.VariableRow.{VariableRow}
 use Rattle.variables.specs.Rows.{lows_in, highs_in}
 use Rattle.expressions.specs.Expressions.{Valuation}
 use Rattle.expressions.specs.Cells.{valuation_of}
@@ -48,7 +49,7 @@ more_effects [] s τ = append-nil (effects s.instruction τ)
 more_effects (r ∷ read) s τ =
     ap (λ l. effects r.instruction τ ++ l) (more_effects read s τ) ∙ sym (append_assoc (effects r.instruction τ) (effects_of_each (instructions_of read) τ) (effects s.instruction τ))
 
-module _ {ks : List ℕ} {ps : List ℤ} {nexts : List ℕ} {rows : List (List ℤ)} {at : ℕ} {cells : List ℤ} {r : ℕ} where
+module _ {ks : List ℕ} {ps : List ℤ} {nexts : List ℕ} {rows : List VariableRow} {at : ℕ} {cells : List ℤ} {r : ℕ} where
   module _ {f₀ f₁ : Gathered} {g₀ g₁ : List ℤ} {n₀ n₁ : ℕ} {q₀ w₀ q₁ w₁ : List ℕ} {m₁ : ℕ} where
     -- one after the other
     pub still_then : {f₂ : Gathered} {g₂ : List ℤ} {n₂ : ℕ} {q₂ w₂ : List ℕ} {m₂ : ℕ}
@@ -70,7 +71,7 @@ module _ {ks : List ℕ} {ps : List ℤ} {nexts : List ℕ} {rows : List (List �
     some_then s t =
         record { stands = s.stands; valuation = s.valuation; before = s.before; waking = t.still s.stands s.valuation s.before s.waking }
 
-module _ (ks : List ℕ) (ps : List ℤ) (nexts : List ℕ) (rows : List (List ℤ)) (at : ℕ) (cells : List ℤ) (r : ℕ)
+module _ (ks : List ℕ) (ps : List ℤ) (nexts : List ℕ) (rows : List VariableRow) (at : ℕ) (cells : List ℤ) (r : ℕ)
     (found : Gathered) (given : List ℤ) (queued : ℕ) (queue waits : List ℕ) (p : ℕ) (old : Old r (get_or waits p 0)) where
   -- what waits there
   spotted : (a : AssertionStands ks ps nexts rows at) (σ : Valuation) (before : List ℕ) → Waking ks ps nexts rows at cells r a σ before found given queued queue waits → Spotted a.system.assertion at σ p
@@ -140,7 +141,7 @@ module _ (ks : List ℕ) (ps : List ℤ) (nexts : List ℕ) (rows : List (List �
           (spot_waits some.valuation some.stands.system.assertion at it.spot it.among) within)
 
 -- something waits at the place since an earlier round
-module _ {ks : List ℕ} {ps : List ℤ} {nexts : List ℕ} {rows : List (List ℤ)} {at : ℕ} {cells : List ℤ} {r : ℕ}
+module _ {ks : List ℕ} {ps : List ℤ} {nexts : List ℕ} {rows : List VariableRow} {at : ℕ} {cells : List ℤ} {r : ℕ}
     {found : Gathered} {given : List ℤ} {queued : ℕ} {queue waits : List ℕ} (some : SomeWaking ks ps nexts rows at cells r found given queued queue waits)
     (p : ℕ) (old : Old r (get_or waits p 0)) where
   pub may_read : length rows ≤ length given → InstructionStands ks ps nexts (length rows) (length given) p

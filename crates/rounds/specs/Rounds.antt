@@ -3,6 +3,7 @@ use Rattle.std.specs.Prelude.{◌≡◌, ◌⊎◌, true, false, ℕ, suc, ◌+�
 use mathlib.Core.List.{List, ◌++◌, Memᴰ}
 use Rattle.std.proofs.Math.Option.{none}
 use Rattle.model.specs.Trees.{System, variables}
+use Rattle.variables.specs.declared.VariableRow.{VariableRow}
 use Rattle.variables.specs.Rows.{lows_in, highs_in}
 use Rattle.expressions.specs.Expressions.{Valuation}
 use Rattle.expressions.specs.Cells.{valuation_of}
@@ -32,7 +33,7 @@ Queued queue queued n = (queued ≤ length queue) × ((k : ℕ) → k < queued �
 abbrev pub Done : ℕ → List ℕ → ℕ → Type 0
 Done r waits p = Old r (get_or waits p 0) → ⊥
 
-module _ (ks : List ℕ) (ps : List ℤ) (nexts : List ℕ) (rows : List (List ℤ)) (at : ℕ) where
+module _ (ks : List ℕ) (ps : List ℤ) (nexts : List ℕ) (rows : List VariableRow) (at : ℕ) where
   -- in round r, over the cells, some of what waited over σ was read; the queue held `before` at the beginning of the round
   pub record Waking (cells : List ℤ) (r : ℕ) (a : AssertionStands ks ps nexts rows at) (σ : Valuation) (before : List ℕ)
       (found : Gathered) (given : List ℤ) (queued : ℕ) (queue waits : List ℕ) : Type 0 where
@@ -87,7 +88,7 @@ pub record Going (t : System) (cells₀ cells : List ℤ) (count : ℕ) : Type 0
   pub enough : unknowns (valuation_of cells) (length t.flows) (length t.states) ≤ left
   pub bound : count + left ≤ length t.flows
 
-module _ (ks : List ℕ) (ps : List ℤ) (nexts : List ℕ) (rows : List (List ℤ)) (at : ℕ) where
+module _ (ks : List ℕ) (ps : List ℤ) (nexts : List ℕ) (rows : List VariableRow) (at : ℕ) where
   -- after a reading over the cells: what it found, what waits, and the rounds so far
   pub record Between (cells₀ cells : List ℤ) (r : ℕ) (a : AssertionStands ks ps nexts rows at) (found : Gathered) (given : List ℤ) (waits : List ℕ) : Type 0 where
     pub going : Going a.system cells₀ cells (r - 1)

@@ -2,15 +2,16 @@
 
 #![tactic(auto)]
 
-ghost use Rattle.std.specs.Prelude.{◌≡◌, ℕ, suc, ◌<◌, ◌≤◌, ℤ, length, take, drop, replicate};
+ghost use Rattle.std.specs.Prelude.{◌≡◌, IfOk, false, ℕ, suc, ◌<◌, ◌≤◌, ℤ, length, take, drop, replicate};
 ghost use mathlib.Core.List.{List, Memᴰ};
 ghost use Rattle.model.specs.Trees as trees;
 ghost use Rattle.interpreter.specs.Gathering.{fault_in};
 ghost use Rattle.expressions.specs.Cells.{valuation_of};
 ghost use Rattle.semantics.specs.Propagation as propagation_specs;
+ghost use Rattle.waiting.specs.Marks.{mark_count};
 ghost use Rattle.waiting.specs.Waking.{Passed};
 ghost use Rattle.reading.specs.Readings.{SameCells};
-ghost use Rattle.rounds.specs.Cells.{finding_of, reached_in};
+ghost use Rattle.rounds.specs.Cells.{ending, finding_of, reached_in};
 ghost use Rattle.rounds.specs.Rounds.{Pending, Queued, Done};
 ghost use Rattle.rounds.specs.Lent.{AssertionHeld, IndexHeld, FittingIn, SomeWakingIn, StillWakingIn, RestingIn, TurnIn, ReadyIn, SomeReadyIn};
 
@@ -166,6 +167,9 @@ pub fn rounds(
     ensures reached { (a : AssertionHeld tables.now)
         → (reached_in result cells.new ≡ propagation_specs.rounds (trees.variables a.system) a.system.assertion (suc (length a.system.flows)) 0 (valuation_of cells.old))
         × ((count : ℕ) → result ≡ Ok count → RestingIn tables.now a cells.new gathering.new count) }
+    ensures found { (finding_of (fault_in gathering.new.found) ≡ ending result) × IfOk result (λ _. gathering.new.found.fresh ≡ false) }
+    ensures counted { Queued gathering.new.queue.now gathering.new.queued (length tables.now.variables.now)
+        × (gathering.new.pending ≡ mark_count gathering.new.waits.now) }
     ensures same { SameCells gathering.old gathering.new }
 {
     gathering.queued = 0;

@@ -21,7 +21,7 @@ use Rattle.standing.specs.Holding.{too_short, too_few, holds}
 use Rattle.marking.specs.Marks.{marks_of, refreshed}
 use Rattle.inspection.specs.Queries.{marks, value, first_fireable, pick, range_check}
 use Rattle.steps.specs.Calls.{answer_of, fired_into, start, fire, undone_by, undo}
-use Rattle.replaying.specs.Replays.{is_fired, initial, replay}
+use Rattle.replaying.specs.Replays.{initial, replay}
 use Rattle.replaying.proofs.Tests.{by_test}
 use Rattle.steps.proofs.FaultNumbers.{action_number, assertion_number}
 

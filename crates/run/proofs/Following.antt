@@ -2,8 +2,6 @@
 use mathlib.Core.Path.{◌≡◌, refl, sym, ap, ◌∙◌}
 use mathlib.Core.Bool.{Bool, true, false, cond}
 use mathlib.Core.List.{List, []}
-use types.Run.{OneOf, miss}
-use denote.Enum.Declared.{tag_of}
 use Prim.Native.Nat.{ℕ, suc, ◌+◌, ◌-◌}
 use native.Mathlib.Numerals.{add-one}
 use lib.IntN.{ℤ}
@@ -12,6 +10,10 @@ use Rattle.semantics.specs.Meanings.{Meaning, meaning_of}
 use Rattle.semantics.specs.Firing.{begun}
 use Rattle.model.specs.Check.{Verdict}
 use Rattle.model.specs.Check.Verdict.{refusal, accepted}
+use Rattle.std.proofs.Common.{Result, Ok, Err}
+use Rattle.results.specs.declared.refusal.Refusal.{Refusal}
+use Rattle.results.specs.Refusals.{number_of}
+use Rattle.replaying.specs.declared.Move.{Move}
 use Rattle.replaying.specs.declared.Move.TheVariants.{Start, Fire, Undo}
 use Rattle.standing.specs.Runs.{Run, Answer, run, answered}
 use Rattle.standing.specs.Runs as runs
@@ -22,11 +24,7 @@ use Rattle.steps.specs.Calls as calls
 use Rattle.steps.specs.Calls.{answer_of, step_on}
 use Rattle.replaying.specs.Replays.{is_fired, initial}
 use Rattle.steps.specs.Lent.{Cells, cells_left}
-use Rattle.steps.specs.Answers.{on_file, seen}
-use Rattle.steps.specs.declared.Answer as declared
-use Rattle.steps.specs.declared.Answer.TheVariants.{Refused, Rounds, Done, Number, Sizes, Picked, Outside}
-use Rattle.steps.specs.contracts.Answer.{the_type}
-use Rattle.steps.proofs.Tags.{all_but_rounds, all_but_done}
+use Rattle.steps.specs.Answers.{seen_as, told_by, on_file}
 use Rattle.run.proofs.Cases.{start_cases, fire_cases, undo_cases}
 
 -- ---- what is recorded after an answer
@@ -133,64 +131,43 @@ module _ (v : Verdict) (values : List ℤ) (marks history : List ℕ) (n : ℕ) 
       go (refusal k) = refl
       go (accepted z s) = sym (undo_follows (meaning_of s) values marks history n)
 
--- ---- answers of the code that leave the history and the count, by their tags
-
-pub no_rounds : {A : Type 0} (a : declared.Answer) → OneOf all_but_rounds (tag_of the_type a) → (new old : A)
-    → after_rounds (seen a) new old ≡ old
-unfolding seen after_rounds
-no_rounds (Refused k) h new old = refl
-no_rounds (Rounds k) h new old = absurd (miss all_but_rounds 1 tt h)
-no_rounds Done h new old = refl
-no_rounds (Number v) h new old = refl
-no_rounds (Sizes z) h new old = refl
-no_rounds (Picked f) h new old = refl
-no_rounds (Outside c) h new old = refl
-
-pub not_undone : (a : declared.Answer) → OneOf all_but_done (tag_of the_type a) → (n : ℕ) → count_after_undo (seen a) n ≡ n
-unfolding seen count_after_undo
-not_undone (Refused k) h n = refl
-not_undone (Rounds k) h n = refl
-not_undone Done h n = absurd (miss all_but_done 2 tt h)
-not_undone (Number v) h n = refl
-not_undone (Sizes z) h n = refl
-not_undone (Picked f) h n = refl
-not_undone (Outside c) h n = refl
-
 -- ---- the code's answers on a file
 
-module _ (v : Verdict) (values : List ℤ) (marks history : List ℕ) (n : ℕ) (r : declared.Answer) (new : List ℤ) (marked : List ℕ) where
-  module _ (e : answered (seen r) (new, marked) ≡ cells_left (on_file v (λ m. step_on m Start (run values marks [] 0)) (run values marks [] 0))) where
-    pub start_counted : (k : ℕ) → r ≡ Rounds k → answered (seen r) (run new marked history 0) ≡ on_file v (λ m. calls.start m (run values marks history n)) (run values marks history n)
-    unfolding seen after_rounds
+module _ (v : Verdict) (values : List ℤ) (marks history : List ℕ) (n : ℕ) (new : List ℤ) (marked : List ℕ) where
+  -- a move answered so, and left the new values and marks
+  abbrev pub Advanced : Move → Result ℕ Refusal → Run → Type 0
+  Advanced s r lent = answered (seen_as (told_by s) r) (new, marked) ≡ cells_left (on_file v (λ m. step_on m s lent) lent)
+
+  module _ (r : Result ℕ Refusal) (e : Advanced Start r (run values marks [] 0)) where
+    pub start_counted : (k : ℕ) → r ≡ Ok k → answered (rounds k) (run new marked history 0) ≡ on_file v (λ m. calls.start m (run values marks history n)) (run values marks history n)
+    unfolding told_by after_rounds
     start_counted k q =
-        let zero-count : after_rounds (seen r) 0 n ≡ 0 = ap (λ x. after_rounds (seen x) 0 n) q in
-        rw zero-count at (start_on_file v values marks history n (seen r) new marked e)
+        start_on_file v values marks history n (rounds k) new marked (rw q at e)
 
-    pub start_kept : OneOf all_but_rounds (tag_of the_type r)
-        → answered (seen r) (run new marked history n) ≡ on_file v (λ m. calls.start m (run values marks history n)) (run values marks history n)
-    start_kept h = rw (no_rounds r h 0 n) at (start_on_file v values marks history n (seen r) new marked e)
+    pub start_kept : (k : Refusal) → r ≡ Err k
+        → answered (refused (number_of k)) (run new marked history n) ≡ on_file v (λ m. calls.start m (run values marks history n)) (run values marks history n)
+    unfolding after_rounds
+    start_kept k q = start_on_file v values marks history n (refused (number_of k)) new marked (rw q at e)
 
-  module _ (t : ℕ) (e : answered (seen r) (new, marked) ≡ cells_left (on_file v (λ m. step_on m (Fire t) (run values marks history n)) (run values marks history n))) where
-    pub fire_counted : (k : ℕ) → r ≡ Rounds k
-        → answered (seen r) (run new marked (set history n t) (n + 1)) ≡ on_file v (λ m. calls.fire m t (run values marks history n)) (run values marks history n)
-    unfolding seen after_rounds
+  module _ (t : ℕ) (r : Result ℕ Refusal) (e : Advanced (Fire t) r (run values marks history n)) where
+    pub fire_counted : (k : ℕ) → r ≡ Ok k
+        → answered (rounds k) (run new marked (set history n t) (n + 1)) ≡ on_file v (λ m. calls.fire m t (run values marks history n)) (run values marks history n)
+    unfolding told_by after_rounds
     fire_counted k q =
-        let one_more : after_rounds (seen r) (suc n) n ≡ n + 1 = ap (λ x. after_rounds (seen x) (suc n) n) q ∙ sym (add-one n) in
-        let entered : after_rounds (seen r) (set history n t) history ≡ set history n t = ap (λ x. after_rounds (seen x) (set history n t) history) q in
-        rw (one_more, entered) at (fire_on_file v values marks history n (seen r) new marked t e)
+        ap (λ i. answered (rounds k) (run new marked (set history n t) i)) (add-one n)
+        ∙ fire_on_file v values marks history n (rounds k) new marked t (rw q at e)
 
-    pub fire_kept : OneOf all_but_rounds (tag_of the_type r)
-        → answered (seen r) (run new marked history n) ≡ on_file v (λ m. calls.fire m t (run values marks history n)) (run values marks history n)
-    fire_kept h =
-        rw (no_rounds r h (suc n) n, no_rounds r h (set history n t) history) at (fire_on_file v values marks history n (seen r) new marked t e)
+    pub fire_kept : (k : Refusal) → r ≡ Err k
+        → answered (refused (number_of k)) (run new marked history n) ≡ on_file v (λ m. calls.fire m t (run values marks history n)) (run values marks history n)
+    unfolding after_rounds
+    fire_kept k q = fire_on_file v values marks history n (refused (number_of k)) new marked t (rw q at e)
 
-  module _ (e : answered (seen r) (new, marked) ≡ cells_left (on_file v (λ m. step_on m Undo (run values marks history n)) (run values marks history n))) where
-    pub undo_counted : r ≡ Done → answered (seen r) (run new marked history (n - 1)) ≡ on_file v (λ m. calls.undo m (run values marks history n)) (run values marks history n)
-    unfolding seen count_after_undo
-    undo_counted q =
-        let one_less : count_after_undo (seen r) n ≡ n - 1 = ap (λ x. count_after_undo (seen x) n) q in
-        rw one_less at (undo_on_file v values marks history n (seen r) new marked e)
+  module _ (r : Result ℕ Refusal) (e : Advanced Undo r (run values marks history n)) where
+    pub undo_counted : (k : ℕ) → r ≡ Ok k → answered done (run new marked history (n - 1)) ≡ on_file v (λ m. calls.undo m (run values marks history n)) (run values marks history n)
+    unfolding told_by count_after_undo
+    undo_counted k q = undo_on_file v values marks history n done new marked (rw q at e)
 
-    pub undo_kept : OneOf all_but_done (tag_of the_type r)
-        → answered (seen r) (run new marked history n) ≡ on_file v (λ m. calls.undo m (run values marks history n)) (run values marks history n)
-    undo_kept h = rw (not_undone r h n) at (undo_on_file v values marks history n (seen r) new marked e)
+    pub undo_kept : (k : Refusal) → r ≡ Err k
+        → answered (refused (number_of k)) (run new marked history n) ≡ on_file v (λ m. calls.undo m (run values marks history n)) (run values marks history n)
+    unfolding count_after_undo
+    undo_kept k q = undo_on_file v values marks history n (refused (number_of k)) new marked (rw q at e)

@@ -1,29 +1,27 @@
 -- What `start` and `fire` promise, from the equation alone; and what the move's answer allows before the history and the count follow it.
-use mathlib.Core.Path.{◌≡◌, sym, ap, ◌∙◌}
+use mathlib.Core.Path.{◌≡◌, sym, ap}
 use mathlib.Core.List.{List, []}
 use Prim.Native.Nat.{ℕ, ◌<◌}
 use mir.Syntax.{w8}
 use mir.Val.{Fits}
 use lib.IntN.{ℤ}
 use lib.ListN.{length, get_or}
-use Rattle.std.proofs.Common.{Result}
+use Rattle.std.proofs.Common.{Result, Ok}
 use Rattle.results.specs.declared.refusal.Refusal.{Refusal}
-use Rattle.model.specs.declared.Sizes.{Sizes}
 use Rattle.model.specs.Check.{verdict}
 use Rattle.model.specs.Theorems.{Bytes}
 use Rattle.run.specs.declared.Call.{Call}
-use Rattle.run.specs.declared.Call.TheVariants.{Check, Start, Fire}
-use Rattle.steps.specs.declared.Answer as declared
+use Rattle.run.specs.declared.Call.TheVariants.{Start, Fire}
+use Rattle.run.specs.declared.Answer as declared
 use Rattle.replaying.specs.declared.Move.TheVariants as moves
 use Rattle.standing.specs.Runs.{Run, Store, Answer, Done, run, store, answered}
 use Rattle.standing.specs.Runs.Answer.{rounds, done}
-use Rattle.steps.specs.Answers.{seen, on_file}
-use Rattle.steps.specs.Lent.{cells_left}
+use Rattle.steps.specs.Answers.{seen_as, told_by, on_file}
 use Rattle.steps.specs.Calls as calls
 use Rattle.run.specs.Lists.{Promise}
-use Rattle.run.specs.Promises.{seen_check, CheckPromise, StartPromise, FirePromise, PerformPromise}
-use Rattle.run.proofs.Following.{fire_on_file, undo_on_file}
-use Rattle.run.proofs.Reached.{start_reached, fire_reached, undo_reached, calls_reached}
+use Rattle.run.specs.Promises.{told, StartPromise, FirePromise, PerformPromise}
+use Rattle.run.proofs.Following.{Advanced, fire_on_file, undo_on_file}
+use Rattle.run.proofs.Reached.{start_reached, fire_reached, undo_reached}
 use Rattle.run.proofs.Bounds.{bounded, fire_fits, undo_fits}
 
 answer_of_lem : {d e : Done Store} → d ≡ e → e.answer ≡ d.answer
@@ -33,39 +31,37 @@ module _ (m : List ℕ) (fits : (i : ℕ) → Fits w8 (get_or m i 0)) where
   bytes : Bytes m
   bytes i h = (fits i).fits
 
-  pub start_promised : (values : List ℤ) (marks : List ℕ) (n : ℕ) (r : declared.Answer) (values' : List ℤ) (marks' : List ℕ) (n' : ℕ)
-      → ((history : List ℕ) → answered (seen r) (run values' marks' history n')
+  pub start_promised : (values : List ℤ) (marks : List ℕ) (n : ℕ) (r : Result ℕ Refusal) (values' : List ℤ) (marks' : List ℕ) (n' : ℕ)
+      → ((history : List ℕ) → answered (seen_as rounds r) (run values' marks' history n')
       ≡ on_file (verdict m) (λ m. calls.start m (run values marks history n)) (run values marks history n))
       → StartPromise m values marks n r values' marks' n'
   start_promised values marks n r values' marks' n' e =
       let s = store (run values marks [] n) [] in
-      (e, bounded m bytes Start s _ (start_reached m s (seen r) (run values' marks' [] n') (e [])))
+      (e, bounded m bytes Start s _ (start_reached m s (seen_as rounds r) (run values' marks' [] n') (e [])))
 
-  pub fire_promised : (r : Run) (t : ℕ) (a : declared.Answer) (r' : Run)
-      → answered (seen a) r' ≡ on_file (verdict m) (λ m. calls.fire m t r) r
+  pub fire_promised : (r : Run) (t : ℕ) (a : Result ℕ Refusal) (r' : Run)
+      → answered (seen_as rounds a) r' ≡ on_file (verdict m) (λ m. calls.fire m t r) r
       → FirePromise m r.values r.marks r.history r.count t a r'.values r'.marks r'.history r'.count
-  fire_promised r t a r' e = (e, bounded m bytes (Fire t) (store r []) _ (fire_reached m (store r []) (seen a) r' t e))
+  fire_promised r t a r' e = (e, bounded m bytes (Fire t) (store r []) _ (fire_reached m (store r []) (seen_as rounds a) r' t e))
 
-  pub fire_allowed : (values : List ℤ) (marks history : List ℕ) (n t : ℕ) (a : Answer) (new : List ℤ) (marked : List ℕ) (count : ℕ) → a ≡ rounds count
-      → answered a (new, marked) ≡ cells_left (on_file (verdict m) (λ m. calls.step_on m (moves.Fire t) (run values marks history n)) (run values marks history n))
+  pub fire_allowed : (values : List ℤ) (marks history : List ℕ) (n t : ℕ) (r : Result ℕ Refusal) (new : List ℤ) (marked : List ℕ) (count : ℕ) → r ≡ Ok count
+      → Advanced (verdict m) values marks history n new marked (moves.Fire t) r (run values marks history n)
       → (t < 256) × (n < length history)
-  fire_allowed values marks history n t a new marked count q e =
+  unfolding told_by
+  fire_allowed values marks history n t r new marked count q e =
       let s = store (run values marks history n) [] in
-      fire_fits m bytes t s count (answer_of_lem (fire_reached m s a _ t (fire_on_file (verdict m) values marks history n a new marked t e)) ∙ q)
+      fire_fits m bytes t s count
+      (answer_of_lem (fire_reached m s (rounds count) _ t (fire_on_file (verdict m) values marks history n (rounds count) new marked t (rw q at e))))
 
-  -- one call, given by value
-  pub performed : (call c : Call) (s : Store) (a : declared.Answer) (s' : Store) → call ≡ c → Promise m c s (answered (seen a) s')
-      → PerformPromise m call s a s'
-  performed call c s a s' told p = rw told (p, bounded m bytes c s (answered (seen a) s') p)
+  -- one call, given by value, whose answer tells this
+  pub performed : (call c : Call) (s : Store) (a : Result declared.Answer Refusal) (s' : Store) → call ≡ c → {x : Answer} → seen_as told a ≡ x
+      → Promise m c s (answered x s') → PerformPromise m call s a s'
+  performed call c s a s' called tells p = rw (called, tells) (p, bounded m bytes c s (answered _ s') p)
 
-  -- the check's answer as a call's answer
-  pub checked : (call : Call) (s : Store) (r : Result Sizes Refusal) (a : declared.Answer) → call ≡ Check → CheckPromise m r → seen_check r ≡ seen a
-      → PerformPromise m call s a s
-  checked call s r a told e same = performed call Check s a s told (ap (λ a. answered a s) (sym same) ∙ calls_reached.check m s r e)
-
-pub undo_allowed : (m : List ℕ) (values : List ℤ) (marks history : List ℕ) (n : ℕ) (a : Answer) (new : List ℤ) (marked : List ℕ) → a ≡ done
-    → answered a (new, marked) ≡ cells_left (on_file (verdict m) (λ m. calls.step_on m moves.Undo (run values marks history n)) (run values marks history n))
+pub undo_allowed : (m : List ℕ) (values : List ℤ) (marks history : List ℕ) (n : ℕ) (r : Result ℕ Refusal) (new : List ℤ) (marked : List ℕ) (count : ℕ) → r ≡ Ok count
+    → Advanced (verdict m) values marks history n new marked moves.Undo r (run values marks history n)
     → n ≡ 0 → ⊥
-undo_allowed m values marks history n a new marked q e =
+unfolding told_by
+undo_allowed m values marks history n r new marked count q e =
     let s = store (run values marks history n) [] in
-    undo_fits m s (answer_of_lem (undo_reached m s a _ (undo_on_file (verdict m) values marks history n a new marked e)) ∙ q)
+    undo_fits m s (answer_of_lem (undo_reached m s done _ (undo_on_file (verdict m) values marks history n done new marked (rw q at e))))

@@ -11,8 +11,10 @@ use Rattle.semantics.specs.Meanings.{Meaning, meaning_of}
 use Rattle.run.specs.declared.Call.{Call}
 use Rattle.run.specs.declared.Call.TheVariants.{Check, Start, Fire, Undo, Marks, Value, Pick, FirstOutside}
 use Rattle.standing.specs.Runs.{Run, Store, Answer, Done, run, store, answered}
-use Rattle.steps.specs.Answers.{seen, on_file, on_file_answer}
+use Rattle.standing.specs.Runs.Answer.{rounds, done, number, picked}
+use Rattle.steps.specs.Answers.{seen_as, on_file, on_file_answer}
 use Rattle.steps.specs.Calls as calls
+use Rattle.inspection.specs.Asked.{told_outside}
 use Rattle.inspection.specs.Queries as queries
 use Rattle.run.specs.Lists.{on_run, on_buffer, call_on, call_by, call, calls_of}
 use Rattle.run.specs.Lists.Performed.{nothing, next}
@@ -21,7 +23,7 @@ use Rattle.run.specs.Theorems.{CallsReached, PerformancesExist}
 
 module _ (s : Store) where
   pub check_reached : (v : Verdict) (r : Result Sizes Refusal) → r ≡ answer_of v → answered (seen_check r) s ≡ call_by v Check s
-  unfolding answer_of call_by call_on seen_check
+  unfolding answer_of call_by call_on
   check_reached (refusal n) r e = ap (λ r. answered (seen_check r) s) e
   check_reached (accepted z t) r e = ap (λ r. answered (seen_check r) s) e
 
@@ -90,15 +92,15 @@ pub calls_reached : CallsReached
 calls_reached = record {
   check = λ m s r e. check_reached s (verdict m) r e;
   start = λ m values marks history n buffer r values' marks' n' e.
-      start_reached m (store (run values marks history n) buffer) (seen r) (run values' marks' history n') (e.0 history);
+      start_reached m (store (run values marks history n) buffer) (seen_as rounds r) (run values' marks' history n') (e.0 history);
   fire = λ m values marks history n t buffer r values' marks' history' n' e.
-      fire_reached m (store (run values marks history n) buffer) (seen r) (run values' marks' history' n') t e.0;
+      fire_reached m (store (run values marks history n) buffer) (seen_as rounds r) (run values' marks' history' n') t e.0;
   undo = λ m values marks history n buffer r values' marks' n' e.
-      undo_reached m (store (run values marks history n) buffer) (seen r) (run values' marks' history n') e;
-  marks = λ m values marks history n buffer r buffer' e. marks_reached (store (run values marks history n) buffer) (verdict m) (seen r) buffer' e;
-  value = λ m values marks history n x buffer r e. value_reached (store (run values marks history n) buffer) x (verdict m) (seen r) e;
-  pick = λ m values marks history n buffer r e. pick_reached (store (run values marks history n) buffer) (verdict m) (seen r) e;
-  first_outside = λ m values marks history n buffer r e. range_reached (store (run values marks history n) buffer) (verdict m) (seen r) e;
+      undo_reached m (store (run values marks history n) buffer) (seen_as (λ _. done) r) (run values' marks' history n') e;
+  marks = λ m values marks history n buffer r buffer' e. marks_reached (store (run values marks history n) buffer) (verdict m) (seen_as (λ _. done) r) buffer' e;
+  value = λ m values marks history n x buffer r e. value_reached (store (run values marks history n) buffer) x (verdict m) (seen_as number r) e;
+  pick = λ m values marks history n buffer r e. pick_reached (store (run values marks history n) buffer) (verdict m) (seen_as picked r) e;
+  first_outside = λ m values marks history n buffer r e. range_reached (store (run values marks history n) buffer) (verdict m) (seen_as told_outside r) e;
 }
 
 pub performances_exist : PerformancesExist

@@ -14,7 +14,7 @@ use lib.Seq.{take-suc-set, take-suc}
 use Rattle.semantics.specs.Meanings.{Meaning, meaning_of}
 use Rattle.semantics.specs.Firing.{fired, begun}
 use Rattle.standing.specs.Runs.{Run}
-use Rattle.replaying.specs.Replays.{is_fired, initial, go_on, refire, replay}
+use Rattle.replaying.specs.Replays.{initial, go_on, refire, replay}
 use Rattle.run.specs.Theorems.{ReplayHolds}
 use Rattle.replaying.proofs.Written.{Complete}
 use Rattle.replaying.proofs.Ends.{settle_complete}

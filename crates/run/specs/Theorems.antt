@@ -1,5 +1,5 @@
 -- The theorems on lists of calls. Proved in proofs/.
-use Rattle.std.specs.Prelude.{◌≡◌, List, [], ◌∷◌, ℕ, ℤ, Result}
+use Rattle.std.specs.Prelude.{◌≡◌, List, [], ◌∷◌, ℕ, ℤ, Option, Result}
 use Rattle.results.specs.declared.refusal.Refusal.{Refusal}
 use Rattle.model.specs.declared.Sizes.{Sizes}
 use Rattle.model.specs.Check.{Verdict, verdict}
@@ -8,41 +8,42 @@ use Rattle.model.specs.Theorems.{Bytes, Accepted, ShuffledFile}
 use Rattle.semantics.specs.Meanings.{Meaning, meaning_of}
 use Rattle.run.specs.declared.Call.{Call}
 use Rattle.run.specs.declared.Call.TheVariants.{Check, Start, Fire, Undo, Marks, Value, Pick, FirstOutside}
-use Rattle.standing.specs.Runs.{Run, Store, Done, run, store, answered}
-use Rattle.standing.specs.Runs.Answer.{refused, rounds}
-use Rattle.steps.specs.declared.Answer as declared
+use Rattle.standing.specs.Runs.{Run, Store, Answer, Done, run, store, answered}
+use Rattle.standing.specs.Runs.Answer.{refused, rounds, done, number, sizes, picked}
+use Rattle.standing.specs.declared.RangeCheck.{RangeCheck}
 use Rattle.replaying.specs.declared.Move.{Move}
 use Rattle.steps.specs.Calls.{step_on}
 use Rattle.marking.specs.Marks.{HoldsMarks}
 use Rattle.run.specs.Lists.{calls_of, Promise, Performed, last_left}
-use Rattle.steps.specs.Answers.{seen}
-use Rattle.run.specs.Promises.{seen_check, CheckPromise, StartPromise, FirePromise, UndoPromise, MarksPromise, ValuePromise, PickPromise, FirstOutsidePromise}
+use Rattle.steps.specs.Answers.{seen_as}
+use Rattle.inspection.specs.Asked.{told_outside}
+use Rattle.run.specs.Promises.{seen_check, told, CheckPromise, StartPromise, FirePromise, UndoPromise, MarksPromise, ValuePromise, PickPromise, FirstOutsidePromise}
 
 -- The functions carry out a list: what each promises of its answer and of what it is lent is the promise of its call, the rest of the
 -- store being as it was. 01: "Every call takes what it uses of this as the calls before, refused or not, left it".
 pub record CallsReached : Type 0 where
   pub check : (m : List ℕ) (s : Store) (r : Result Sizes Refusal) → CheckPromise m r → Promise m Check s (answered (seen_check r) s)
-  pub start : (m : List ℕ) (values : List ℤ) (marks history : List ℕ) (n : ℕ) (buffer : List ℕ) (r : declared.Answer)
+  pub start : (m : List ℕ) (values : List ℤ) (marks history : List ℕ) (n : ℕ) (buffer : List ℕ) (r : Result ℕ Refusal)
       (values' : List ℤ) (marks' : List ℕ) (n' : ℕ) → StartPromise m values marks n r values' marks' n'
-      → Promise m Start (store (run values marks history n) buffer) (answered (seen r) (store (run values' marks' history n') buffer))
-  pub fire : (m : List ℕ) (values : List ℤ) (marks history : List ℕ) (n t : ℕ) (buffer : List ℕ) (r : declared.Answer)
+      → Promise m Start (store (run values marks history n) buffer) (answered (seen_as rounds r) (store (run values' marks' history n') buffer))
+  pub fire : (m : List ℕ) (values : List ℤ) (marks history : List ℕ) (n t : ℕ) (buffer : List ℕ) (r : Result ℕ Refusal)
       (values' : List ℤ) (marks' history' : List ℕ) (n' : ℕ) → FirePromise m values marks history n t r values' marks' history' n'
-      → Promise m (Fire t) (store (run values marks history n) buffer) (answered (seen r) (store (run values' marks' history' n') buffer))
-  pub undo : (m : List ℕ) (values : List ℤ) (marks history : List ℕ) (n : ℕ) (buffer : List ℕ) (r : declared.Answer)
+      → Promise m (Fire t) (store (run values marks history n) buffer) (answered (seen_as rounds r) (store (run values' marks' history' n') buffer))
+  pub undo : (m : List ℕ) (values : List ℤ) (marks history : List ℕ) (n : ℕ) (buffer : List ℕ) (r : Result (Unit {0}) Refusal)
       (values' : List ℤ) (marks' : List ℕ) (n' : ℕ) → UndoPromise m values marks history n r values' marks' n'
-      → Promise m Undo (store (run values marks history n) buffer) (answered (seen r) (store (run values' marks' history n') buffer))
-  pub marks : (m : List ℕ) (values : List ℤ) (marks history : List ℕ) (n : ℕ) (buffer : List ℕ) (r : declared.Answer) (buffer' : List ℕ)
+      → Promise m Undo (store (run values marks history n) buffer) (answered (seen_as (λ _. done) r) (store (run values' marks' history n') buffer))
+  pub marks : (m : List ℕ) (values : List ℤ) (marks history : List ℕ) (n : ℕ) (buffer : List ℕ) (r : Result (Unit {0}) Refusal) (buffer' : List ℕ)
       → MarksPromise m values marks history n buffer r buffer'
-      → Promise m Marks (store (run values marks history n) buffer) (answered (seen r) (store (run values marks history n) buffer'))
-  pub value : (m : List ℕ) (values : List ℤ) (marks history : List ℕ) (n x : ℕ) (buffer : List ℕ) (r : declared.Answer)
+      → Promise m Marks (store (run values marks history n) buffer) (answered (seen_as (λ _. done) r) (store (run values marks history n) buffer'))
+  pub value : (m : List ℕ) (values : List ℤ) (marks history : List ℕ) (n x : ℕ) (buffer : List ℕ) (r : Result ℤ Refusal)
       → ValuePromise m values marks history n x r
-      → Promise m (Value x) (store (run values marks history n) buffer) (answered (seen r) (store (run values marks history n) buffer))
-  pub pick : (m : List ℕ) (values : List ℤ) (marks history : List ℕ) (n : ℕ) (buffer : List ℕ) (r : declared.Answer)
+      → Promise m (Value x) (store (run values marks history n) buffer) (answered (seen_as number r) (store (run values marks history n) buffer))
+  pub pick : (m : List ℕ) (values : List ℤ) (marks history : List ℕ) (n : ℕ) (buffer : List ℕ) (r : Result (Option ℕ) Refusal)
       → PickPromise m values marks history n r
-      → Promise m Pick (store (run values marks history n) buffer) (answered (seen r) (store (run values marks history n) buffer))
-  pub first_outside : (m : List ℕ) (values : List ℤ) (marks history : List ℕ) (n : ℕ) (buffer : List ℕ) (r : declared.Answer)
+      → Promise m Pick (store (run values marks history n) buffer) (answered (seen_as picked r) (store (run values marks history n) buffer))
+  pub first_outside : (m : List ℕ) (values : List ℤ) (marks history : List ℕ) (n : ℕ) (buffer : List ℕ) (r : Result RangeCheck Refusal)
       → FirstOutsidePromise m values r
-      → Promise m FirstOutside (store (run values marks history n) buffer) (answered (seen r) (store (run values marks history n) buffer))
+      → Promise m FirstOutside (store (run values marks history n) buffer) (answered (seen_as told_outside r) (store (run values marks history n) buffer))
 
 -- every list has results that the promises allow
 abbrev pub PerformancesExist : Type 0
@@ -103,6 +104,17 @@ MarksHeld =
     (m : List ℕ) (s : Store) (d : Done Store) (count : ℕ) → Promise m Start s d → d.answer ≡ rounds count
     → (cs : List Call) (rs : List (Done Store)) → Performed m cs d.left rs → HoldsMarksOn (verdict m) (last_left d.left rs).run
 
--- different answers of the code never look alike
-abbrev pub SeenDistinct : Type 0
-SeenDistinct = (a b : declared.Answer) → seen a ≡ seen b → a ≡ b
+-- different results never look alike, by what is told of their values
+abbrev pub Distinct : {A : Type 0} → (A → Answer) → Type 0
+Distinct {A} f = (a b : Result A Refusal) → seen_as f a ≡ seen_as f b → a ≡ b
+
+-- different answers of the code never look alike: of a call of a list, of check, of start and fire, of undo and marks, of value, of pick,
+-- of first outside
+pub record SeenDistinct : Type 0 where
+  pub listed : Distinct told
+  pub checked : Distinct sizes
+  pub fired : Distinct rounds
+  pub undone : Distinct (λ (a : Unit {0}). done)
+  pub valued : Distinct number
+  pub chosen : Distinct picked
+  pub looked : Distinct told_outside

@@ -2,14 +2,13 @@
 
 #![tactic(auto)]
 
-ghost use Rattle.standing.specs.Runs.{run, store};
 ghost use Rattle.run.specs.Promises.{CheckPromise, StartPromise, FirePromise, UndoPromise, MarksPromise, ValuePromise, PickPromise, FirstOutsidePromise, PerformPromise};
+ghost use Rattle.run.specs.Lent.{store_in, SameCells};
 
 use model::Sizes;
 use replaying::Move;
 use results::Refusal;
-use standing::Run;
-use steps::Answer;
+use standing::{RangeCheck, Run};
 
 // A call, with its transition or variable number.
 #[derive(Clone, Copy, PartialEq, Eq, Debug)]
@@ -24,6 +23,28 @@ pub enum Call {
     FirstOutside,
 }
 
+// What a call answers that is not refused: the round count, that it was done, a value, the five sizes, the transition picked or none,
+// what a check of the values found.
+#[derive(Clone, Copy, PartialEq, Eq, Debug)]
+pub enum Answer {
+    Rounds(usize),
+    Done,
+    Number(i32),
+    Sizes(Sizes),
+    Picked(Option<usize>),
+    Outside(RangeCheck),
+}
+
+// All that is lent to be changed: the run, and the slice that the marks call copies into.
+#[derive(Drop)]
+pub struct Store<'a> {
+    pub values: &'a mut [i32],
+    pub marks: &'a mut [u8],
+    pub history: &'a mut [u8],
+    pub n: usize,
+    pub buffer: &'a mut [u8],
+}
+
 // The check of a model: its five sizes.
 pub fn check(model: &[u8]) -> Result<Sizes, Refusal>
     ensures { CheckPromise model.now result }
@@ -32,15 +53,18 @@ pub fn check(model: &[u8]) -> Result<Sizes, Refusal>
 }
 
 // States initial, then the assertion; n = 0, and the marks of the guards. The history is not lent.
-pub fn start(model: &[u8], values: &mut [i32], marks: &mut [u8], n: &mut usize) -> Answer
+pub fn start(
+    model: &[u8],
+    values: &mut [i32],
+    marks: &mut [u8],
+    n: &mut usize,
+) -> Result<usize, Refusal>
     ensures { StartPromise model.now values.old marks.old n.old result
         values.new marks.new n.new }
 {
-    let answer = advancing::advance(model, values, marks, &[0u8; 0], 0, Move::Start);
-    if let Answer::Rounds(_) = answer {
-        *n = 0;
-    }
-    answer
+    let rounds = advancing::advance(model, values, marks, &[0u8; 0], 0, Move::Start)?;
+    *n = 0;
+    Ok(rounds)
 }
 
 // Guard, action, assertion, then the transition at place n of the history, n one higher, and the marks of the guards.
@@ -51,17 +75,15 @@ pub fn fire(
     history: &mut [u8],
     n: &mut usize,
     transition: usize,
-) -> Answer
+) -> Result<usize, Refusal>
     ensures { FirePromise model.now values.old marks.old history.old n.old transition result
         values.new marks.new history.new n.new }
 {
     let count = *n;
-    let answer = advancing::advance(model, values, marks, history, count, Move::Fire(transition));
-    if let Answer::Rounds(_) = answer {
-        history[count] = transition as u8;
-        *n = count + 1;
-    }
-    answer
+    let rounds = advancing::advance(model, values, marks, history, count, Move::Fire(transition))?;
+    history[count] = transition as u8;
+    *n = count + 1;
+    Ok(rounds)
 }
 
 // Back to the values before the last recorded transition (01: take back), and to their marks.
@@ -71,16 +93,14 @@ pub fn undo(
     marks: &mut [u8],
     history: &[u8],
     n: &mut usize,
-) -> Answer
+) -> Result<(), Refusal>
     ensures { UndoPromise model.now values.old marks.old history.now n.old result
         values.new marks.new n.new }
 {
     let count = *n;
-    let answer = advancing::advance(model, values, marks, history, count, Move::Undo);
-    if let Answer::Done = answer {
-        *n = count - 1;
-    }
-    answer
+    advancing::advance(model, values, marks, history, count, Move::Undo)?;
+    *n = count - 1;
+    Ok(())
 }
 
 // The marks that the run holds, copied, whatever its guards come to; start, fire and undo leave those of the guards.
@@ -91,7 +111,7 @@ pub fn marks(
     history: &[u8],
     n: usize,
     buffer: &mut [u8],
-) -> Answer
+) -> Result<(), Refusal>
     ensures { MarksPromise model.now values.now marks.now history.now n buffer.old result buffer.new }
 {
     let run = Run {
@@ -103,7 +123,7 @@ pub fn marks(
     inspection::marks(model, &run, buffer)
 }
 
-// The value of a variable.
+// The value of a variable; the calls that only read differ in what they hand the run to.
 pub fn value(
     model: &[u8],
     values: &[i32],
@@ -111,7 +131,7 @@ pub fn value(
     history: &[u8],
     n: usize,
     variable: usize,
-) -> Answer
+) -> Result<i32, Refusal>
     ensures { ValuePromise model.now values.now marks.now history.now n variable result }
 {
     let run = Run {
@@ -124,7 +144,13 @@ pub fn value(
 }
 
 // The fireable transition with the lowest number, or none exactly if no guard is true.
-pub fn pick(model: &[u8], values: &[i32], marks: &[u8], history: &[u8], n: usize) -> Answer
+pub fn pick(
+    model: &[u8],
+    values: &[i32],
+    marks: &[u8],
+    history: &[u8],
+    n: usize,
+) -> Result<Option<usize>, Refusal>
     ensures { PickPromise model.now values.now marks.now history.now n result }
 {
     let run = Run {
@@ -137,37 +163,36 @@ pub fn pick(model: &[u8], values: &[i32], marks: &[u8], history: &[u8], n: usize
 }
 
 // The first variable whose value is outside its ends or none, and how many values were looked at. The values alone are lent.
-pub fn first_outside(model: &[u8], values: &[i32]) -> Answer
+pub fn first_outside(model: &[u8], values: &[i32]) -> Result<RangeCheck, Refusal>
     ensures { FirstOutsidePromise model.now values.now result }
 {
     inspection::first_outside(model, values)
 }
 
 // One call, given by value.
-pub fn perform(
-    call: Call,
-    model: &[u8],
-    values: &mut [i32],
-    marks: &mut [u8],
-    history: &mut [u8],
-    n: &mut usize,
-    buffer: &mut [u8],
-) -> Answer
-    ensures { PerformPromise model.now call
-        (store (run values.old marks.old history.old n.old) buffer.old) result
-        (store (run values.new marks.new history.new n.new) buffer.new) }
+pub fn perform(call: Call, model: &[u8], store: &mut Store<'_>) -> Result<Answer, Refusal>
+    ensures performed { PerformPromise model.now call (store_in store.old) result (store_in store.new) }
+    ensures same { SameCells store.old store.new }
 {
+    let values = &mut *store.values;
+    let marks = &mut *store.marks;
+    let history = &mut *store.history;
+    let n = &mut store.n;
+    let buffer = &mut *store.buffer;
     match call {
-        Call::Check => match check(model) {
-            Err(refusal) => Answer::Refused(refusal.number()),
-            Ok(sizes) => Answer::Sizes(sizes),
-        },
-        Call::Start => start(model, values, marks, n),
-        Call::Fire(transition) => fire(model, values, marks, history, n, transition),
-        Call::Undo => undo(model, values, marks, history, n),
-        Call::Marks => self::marks(model, values, marks, history, *n, buffer),
-        Call::Value(variable) => value(model, values, marks, history, *n, variable),
-        Call::Pick => pick(model, values, marks, history, *n),
-        Call::FirstOutside => first_outside(model, values),
+        Call::Check => check(model).map(Answer::Sizes),
+        Call::Start => start(model, values, marks, n).map(Answer::Rounds),
+        Call::Fire(transition) => {
+            fire(model, values, marks, history, n, transition).map(Answer::Rounds)
+        }
+        Call::Undo => undo(model, values, marks, history, n).map(|()| Answer::Done),
+        Call::Marks => {
+            self::marks(model, values, marks, history, *n, buffer).map(|()| Answer::Done)
+        }
+        Call::Value(variable) => {
+            value(model, values, marks, history, *n, variable).map(Answer::Number)
+        }
+        Call::Pick => pick(model, values, marks, history, *n).map(Answer::Picked),
+        Call::FirstOutside => first_outside(model, values).map(Answer::Outside),
     }
 }

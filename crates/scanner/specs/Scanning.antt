@@ -1,10 +1,11 @@
--- How the code finds a word, byte by byte.
+-- A word as the code finds it: how long it is, and the number that it holds.
 use Rattle.std.specs.Prelude.{Bool, cond, List, ℕ, ◌<◌, ◌≤◌, eqb, length, take, drop, Option, Some, None}
 use Rattle.ascii.specs.Ascii.{space_byte, value_of}
 use Rattle.grammar.specs.Words.{Longest}
 use Rattle.grammar.specs.Tokens.{is_numeral}
 use Rattle.grammar.specs.Held.{capped}
 
+-- the byte is a space
 abbrev pub is_space : ℕ → Bool
 is_space b = eqb b space_byte
 

@@ -56,16 +56,7 @@ fn numeral(digits: &[u8]) -> Option<u32>
     if *first == b'0' && !rest.is_empty() {
         return None;
     }
-    let mut value: u32 = 0;
-    for digit in digits {
-        if !digit.is_ascii_digit() {
-            return None;
-        }
-        value = value
-            .saturating_mul(10)
-            .saturating_add(u32::from(*digit - b'0'));
-    }
-    Some(value)
+    ascii::number(digits)
 }
 
 // What a word means. Those with a meaning of their own begin neither with a digit nor with `v`.
@@ -112,10 +103,9 @@ fn word_length(text: &[u8]) -> usize
     if run > 0 {
         return run;
     }
-    if text.len() > 1 && text[1] == b'=' && b"=!<>".contains(&text[0]) {
-        2
-    } else {
-        1
+    match text {
+        [first, b'=', ..] if b"=!<>".contains(first) => 2,
+        _ => 1,
     }
 }
 

@@ -9,7 +9,7 @@ use Rattle.model.specs.Trees.Expression.{numeral, variable, negation, binary}
 use Rattle.model.specs.Trees.Instruction.{skip, assign, block}
 use Rattle.model.specs.Trees.Instructions.{none, more}
 use Rattle.interpreter.specs.declared.Fault.TheVariants.{Failure, Conflict}
-use Rattle.interpreter.specs.Instructions.{number_of}
+use Rattle.interpreter.specs.Instructions.{fault_number}
 use Rattle.interpreter.specs.Instructions.Place.{action, assertion}
 use Rattle.semantics.specs.Actions.{act}
 use Rattle.semantics.specs.Actions.Acted.{faulty, states}
@@ -48,7 +48,7 @@ RowI =
     ≡ states (pos 1 ∷ []))
     × (act (of_states (number_variable (pos 0) (pos 5) (pos 0) ∷ [])) (both (assign 0 (numeral (pos 1))) (assign 0 (numeral (pos 2)))) (pos 0 ∷ [])
     ≡ faulty Conflict)
-    × (number_of action Conflict ≡ 27)
+    × (fault_number action Conflict ≡ 27)
 
 -- flows v := w, w := v with these resets
 abbrev pub exchanging : ℤ → ℤ → System
@@ -61,13 +61,13 @@ abbrev pub RowJ : Type 0
 RowJ =
     (settle (exchanging (pos 0) (pos 0)) [] ≡ settled 1 (pos 0 ∷ pos 0 ∷ []))
     × (settle (exchanging (pos 0) (pos 1)) [] ≡ refused Conflict)
-    × (number_of assertion Conflict ≡ 30)
+    × (fault_number assertion Conflict ≡ 30)
 
 -- (k) v := not v, reset 0: 30
 abbrev pub RowK : Type 0
 RowK =
     (settle (of_flows (boolean_variable (pos 0) ∷ []) (assign 0 (negation (variable 0)))) [] ≡ refused Conflict)
-    × (number_of assertion Conflict ≡ 30)
+    × (fault_number assertion Conflict ≡ 30)
 
 -- (l) a := 1 div 0 beside b := 9 with ends 0 to 5: 25 in either order
 abbrev pub divides : Instruction
@@ -82,7 +82,7 @@ RowL =
     ≡ faulty Failure)
     × (act (of_states (number_variable (pos 0) (pos 5) (pos 0) ∷ number_variable (pos 0) (pos 5) (pos 0) ∷ [])) (both leaves divides) (pos 0 ∷ pos 0 ∷ [])
     ≡ faulty Failure)
-    × (number_of action Failure ≡ 25)
+    × (fault_number action Failure ≡ 25)
 
 abbrev pub Rows : Type 0
 Rows = RowA × RowB × RowC × RowD × RowE × RowF × RowG × RowH × RowI × RowJ × RowK × RowL

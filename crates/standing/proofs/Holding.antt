@@ -15,6 +15,7 @@ use lib.ListN.{length, get_or, drop}
 use Rattle.std.specs.Prelude.{Option, Some, None, is_none}
 use Rattle.evaluation.proofs.Signed.{read_test}
 use Rattle.model.specs.Trees.{Variable}
+use Rattle.variables.specs.declared.VariableRow.{VariableRow}
 use Rattle.variables.specs.Rows.{variable_rows, lows_in, highs_in, within_ends}
 use Rattle.semantics.specs.Meanings.{Meaning}
 use Rattle.standing.specs.Runs.{Run}
@@ -23,7 +24,7 @@ use Rattle.standing.specs.Holding.{ends_of, first_outside, history_holds, marks_
 -- ---- the values
 
 -- the value at a place lies within the ends there
-abbrev is_in_ends : List (List ℤ) → List ℤ → ℕ → Bool
+abbrev is_in_ends : List VariableRow → List ℤ → ℕ → Bool
 is_in_ends rows values i = within_ends (lows_in rows) (highs_in rows) i (get_or values i (pos 0))
 
 nil : (i : ℕ) → ◌≡◌ {A = List ℤ} (drop i []) []
@@ -31,7 +32,7 @@ nil zero = refl
 nil (suc i) = refl
 
 -- what is left to look at from place i on, counted from x: its value is missing, it decides, or nothing is left
-missing : (rows : List (List ℤ)) (values : List ℤ) (i x : ℕ) → i < length rows → length values ≤ i
+missing : (rows : List VariableRow) (values : List ℤ) (i x : ℕ) → i < length rows → length values ≤ i
     → first_outside (drop i (map ends_of rows)) (drop i values) x ≡ Some x
 unfolding first_outside
 missing [] values i x h l = absurd (omega arith)
@@ -40,7 +41,7 @@ missing (r ∷ rs) (c ∷ cs) zero x h l = absurd (omega arith)
 missing (r ∷ rs) [] (suc i) x h l = ap (λ k. first_outside (drop i (map ends_of rs)) k x) (sym (nil i)) ∙ missing rs [] i x (omega arith) (omega arith)
 missing (r ∷ rs) (c ∷ cs) (suc i) x h l = missing rs cs i x (omega arith) (omega arith)
 
-step : (rows : List (List ℤ)) (values : List ℤ) (i x : ℕ) → i < length rows → i < length values
+step : (rows : List VariableRow) (values : List ℤ) (i x : ℕ) → i < length rows → i < length values
     → first_outside (drop i (map ends_of rows)) (drop i values) x
     ≡ cond (is_in_ends rows values i) (first_outside (drop (suc i) (map ends_of rows)) (drop (suc i) values) (suc x)) (Some x)
 unfolding first_outside
@@ -49,7 +50,7 @@ step (r ∷ rs) [] i x h l = absurd (omega arith)
 step (r ∷ rs) (c ∷ cs) zero x h l = refl
 step (r ∷ rs) (c ∷ cs) (suc i) x h l = step rs cs i x (omega arith) (omega arith)
 
-ended : (rows : List (List ℤ)) (values : List ℤ) (i x : ℕ) → length rows ≤ i → first_outside (drop i (map ends_of rows)) (drop i values) x ≡ None
+ended : (rows : List VariableRow) (values : List ℤ) (i x : ℕ) → length rows ≤ i → first_outside (drop i (map ends_of rows)) (drop i values) x ≡ None
 unfolding first_outside
 ended [] values zero x h = refl
 ended [] values (suc i) x h = refl
@@ -57,7 +58,7 @@ ended (r ∷ rs) values zero x h = absurd (omega arith)
 ended (r ∷ rs) [] (suc i) x h = ap (λ k. first_outside (drop i (map ends_of rs)) k x) (sym (nil i)) ∙ ended rs [] i x (omega arith)
 ended (r ∷ rs) (c ∷ cs) (suc i) x h = ended rs cs i x (omega arith)
 
-module _ (rows : List (List ℤ)) (values : List ℤ) where
+module _ (rows : List VariableRow) (values : List ℤ) where
   abbrev whole : Option ℕ
   whole = first_outside (map ends_of rows) values 0
 
@@ -96,7 +97,7 @@ outside_rows (v ∷ vs) (c ∷ cs) x = ap (λ o. cond (le_z v.low c && le_z c v.
 
 -- ---- the test over rows is the test over a model
 
-module _ (m : Meaning) (transitions : ℕ) (rows : List (List ℤ)) (counted : transitions ≡ m.transitions) (declared : rows ≡ variable_rows m.declarations)
+module _ (m : Meaning) (transitions : ℕ) (rows : List VariableRow) (counted : transitions ≡ m.transitions) (declared : rows ≡ variable_rows m.declarations)
     (r : Run) (b : Bool) (e : b ≡ holds_over transitions (map ends_of rows) r) where
   run_holds : b ≡ holds m r
   run_holds =

@@ -1,6 +1,6 @@
 -- 9, 10 and 20: does a run fit a model. 01: "every other call takes 9 and, start excepted, 20"; A4: 10 "in every call on a run". A3's
 -- check of the values takes 9 alone.
-use Rattle.std.specs.Prelude.{◌≡◌, ◌⊎◌, ◌≤◌, ◌<◌, Bool, cond, ◌&&◌, List, [], ◌∷◌, ℕ, suc, leb, ltb, ℤ, pos, length, get_or, take, Option, Some, None, is_none}
+use Rattle.std.specs.Prelude.{◌≡◌, ◌⊎◌, ◌≤◌, ◌<◌, Bool, cond, ◌&&◌, List, [], ◌∷◌, ℕ, suc, leb, ltb, ℤ, length, take, Option, Some, None, is_none}
 use Rattle.std.specs.List.{list_all}
 use Rattle.std.specs.Int.Signed.{le_z}
 use Rattle.kinds.specs.declared.Sort.TheVariants.{Number}
@@ -9,6 +9,7 @@ use Rattle.results.specs.declared.refusal.Refusal.{Refusal}
 use Rattle.results.specs.declared.refusal.Refusal.TheVariants.{ShortValues, ShortSlice}
 use Rattle.semantics.specs.Meanings.{Meaning}
 use Rattle.standing.specs.Runs.{Run}
+use Rattle.variables.specs.declared.VariableRow.{VariableRow}
 
 -- 9 "values slice under S+F"
 abbrev pub too_short : Meaning → List ℤ → Bool
@@ -20,7 +21,7 @@ abbrev pub too_few : Meaning → List ℕ → Bool
 too_few m marks = ltb (length marks) m.transitions
 
 -- 9, or else 10: too few values for these rows of variables, or too few marks for so many transitions
-abbrev pub IsShort : ℕ → List (List ℤ) → Run → Refusal → Type 0
+abbrev pub IsShort : ℕ → List VariableRow → Run → Refusal → Type 0
 IsShort transitions rows r e =
     ((e ≡ ShortValues) × (length r.values < length rows))
     ⊎ ((e ≡ ShortSlice) × (length rows ≤ length r.values) × (length r.marks < transitions))
@@ -57,5 +58,5 @@ abbrev pub holds : Meaning → Run → Bool
 holds m r = holds_over m.transitions m.declarations r
 
 -- the variable with the ends and the first value of a row; its sort, which nothing here asks, is not in the row
-abbrev pub ends_of : List ℤ → Variable
-ends_of row = record { sort = Number; low = get_or row 0 (pos 0); high = get_or row 1 (pos 0); first = get_or row 2 (pos 0) }
+abbrev pub ends_of : VariableRow → Variable
+ends_of row = record { sort = Number; low = row.low; high = row.high; first = row.first }

@@ -7,6 +7,7 @@ ghost use Rattle.standing.specs.Runs.{run_in};
 ghost use Rattle.standing.specs.Holding.{ends_of, first_outside, looked_at, all_below, history_holds, holds_over, IsShort};
 
 use results::Refusal;
+use variables::VariableRow;
 
 // How many marks there are: 0, 1 and 2.
 const MARKS: usize = 3;
@@ -28,14 +29,13 @@ pub struct RangeCheck {
 }
 
 // The first variable outside its ends, or none; no value after that one is looked at. A value that is missing is outside.
-fn first_outside(variables: &[[i32; 3]], values: &[i32]) -> Option<usize>
+// By a loop: a find would need a contract for its test, which is longer.
+fn first_outside(variables: &[VariableRow], values: &[i32]) -> Option<usize>
     ensures first { result ≡ first_outside (map ends_of variables.now) values.now 0 }
     ensures declared { IfSome result (λ x. x < length variables.now) }
 {
     for variable in 0..variables.len() {
-        if values.len() <= variable
-            || !variables::is_within(variables, variable, values[variable])
-        {
+        if values.len() <= variable || !variables[variable].is_within(values[variable]) {
             return Some(variable);
         }
     }
@@ -44,7 +44,7 @@ fn first_outside(variables: &[[i32; 3]], values: &[i32]) -> Option<usize>
 
 // The first variable outside its ends, and how many values were looked at to find it: its own too, or all.
 #[tactic(auto, unfolding(crate::specs::Holding::looked_at))]
-pub fn check_ranges(variables: &[[i32; 3]], values: &[i32]) -> RangeCheck
+pub fn check_ranges(variables: &[VariableRow], values: &[i32]) -> RangeCheck
     ensures outside { result.outside ≡ first_outside (map ends_of variables.now) values.now 0 }
     ensures looked { result.looked ≡ looked_at (length variables.now) (first_outside (map ends_of variables.now) values.now 0) }
 {
@@ -67,7 +67,7 @@ fn all_below(bound: usize, count: usize, cells: &[u8]) -> bool
 
 impl Run<'_> {
     // Are there a value for each variable and a mark for each transition.
-    pub fn measure(&self, transitions: usize, variables: &[[i32; 3]]) -> Result<(), Refusal>
+    pub fn measure(&self, transitions: usize, variables: &[VariableRow]) -> Result<(), Refusal>
         ensures enough { IfOk result (λ _. (length variables.now ≤ length self.now.values.now) × (transitions ≤ length self.now.marks.now)) }
         ensures short { IfErr result (λ e. IsShort transitions variables.now (run_in self.now) e) }
     {
@@ -89,7 +89,7 @@ impl Run<'_> {
     }
 
     // Does the run hold, over so many transitions and the rows of the variables.
-    pub fn holds(&self, transitions: usize, variables: &[[i32; 3]]) -> bool
+    pub fn holds(&self, transitions: usize, variables: &[VariableRow]) -> bool
         ensures { result ≡ holds_over transitions (map ends_of variables.now) (run_in self.now) }
     {
         self.history_holds(transitions)

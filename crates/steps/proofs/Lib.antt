@@ -2,5 +2,4 @@
 pub mod FaultNumbers
 pub mod Parts
 pub mod StepTests
-pub mod Tags
 pub mod Declarations

@@ -30,6 +30,7 @@ use Rattle.replaying.proofs.Longer.{longer, moved_longer}
 use Rattle.replaying.proofs.Refiring.{outcome_of, refired}
 use Rattle.steps.specs.Calls.{answer_of, started_by, start, fired_by, fire, undone_by, undo, step_on}
 use Rattle.steps.specs.Lent.{refused_at, refused_by, refused_before, answer_to, Cells, cells_left}
+use Rattle.variables.specs.declared.VariableRow.{VariableRow}
 
 -- ---- the tests
 
@@ -48,7 +49,7 @@ module _ (m : Meaning) (r : Run) where
       unfolding refused_before
       both_enough room o e = rw (le-ltb (length r.values) (length m.declarations) enough, le-ltb (length r.marks) m.transitions room) e
 
-    pub measured : (transitions : ℕ) (rows : List (List ℤ)) {e : Refusal} → length rows ≡ length m.declarations → transitions ≡ m.transitions
+    pub measured : (transitions : ℕ) (rows : List VariableRow) {e : Refusal} → length rows ≡ length m.declarations → transitions ≡ m.transitions
         → IsShort transitions rows r e → some (number_of e) ≡ refused_before m s r
     unfolding number_of
     measured transitions rows declared counted short =

@@ -1,21 +1,25 @@
--- The answers of the code, and a call on a model file.
+-- What a call answers, by 01's numbers and values, and a call on a model file.
+use Rattle.std.specs.Prelude.{ℕ, Result, Ok, Err}
+use Rattle.results.specs.declared.refusal.Refusal.{Refusal}
 use Rattle.results.specs.Refusals.{number_of}
 use Rattle.model.specs.Check.{Verdict}
 use Rattle.model.specs.Check.Verdict.{refusal, accepted}
 use Rattle.semantics.specs.Meanings.{Meaning, meaning_of}
-use Rattle.steps.specs.declared.Answer as answer
 use Rattle.standing.specs.Runs.{Answer, Done, answered}
-use Rattle.standing.specs.Runs.Answer.{refused, rounds, done, number, sizes, picked, outside}
+use Rattle.standing.specs.Runs.Answer.{refused, rounds, done}
+use Rattle.replaying.specs.declared.Move.{Move}
+use Rattle.replaying.specs.declared.Move.TheVariants.{Start, Fire, Undo}
 
--- the code's answers, by 01's numbers and values
-unfoldable pub seen : answer.Answer → Answer
-seen (answer.TheVariants.Refused n) = refused n
-seen (answer.TheVariants.Rounds n) = rounds n
-seen answer.TheVariants.Done = done
-seen (answer.TheVariants.Number v) = number v
-seen (answer.TheVariants.Sizes z) = sizes z
-seen (answer.TheVariants.Picked f) = picked f
-seen (answer.TheVariants.Outside c) = outside c.outside c.looked
+-- what is answered for a value, or the number of a refusal
+abbrev pub seen_as : {A : Type 0} → (A → Answer) → Result A Refusal → Answer
+seen_as f (Ok a) = f a
+seen_as f (Err r) = refused (number_of r)
+
+-- what a move tells of its round count: start and fire the count, an undo that it was done
+unfoldable pub told_by : Move → ℕ → Answer
+told_by Start n = rounds n
+told_by (Fire t) n = rounds n
+told_by Undo n = done
 
 -- a call over the meaning of a file's model and a thing that is lent; a refused file leaves it
 unfoldable pub on_file : {A : Type 0} → Verdict → (Meaning → Done A) → A → Done A

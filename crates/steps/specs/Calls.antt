@@ -2,7 +2,7 @@
 -- skipping those foreign to it". "A refusal answers its number alone; values, record, n and marks keep their content."
 use Rattle.std.specs.Prelude.{cond, not, List, ℕ, suc, ◌-◌, eqb, ltb, ℤ, length, take, set, Ok, Err}
 use Rattle.std.proofs.Math.Option.{Option, some, none}
-use Rattle.interpreter.specs.Instructions.{number_of}
+use Rattle.interpreter.specs.Instructions.{fault_number}
 use Rattle.interpreter.specs.Instructions.Place.{action, assertion}
 use Rattle.semantics.specs.Firing.{Firing}
 use Rattle.semantics.specs.declared.NotFired.TheVariants.{Disabled, GuardFailed, ActionFault, AssertionFault}
@@ -20,8 +20,8 @@ use Rattle.replaying.specs.declared.Move.TheVariants.{Start, Fire, Undo}
 unfoldable pub answer_of : Firing → Answer
 answer_of (Err Disabled) = refused 23
 answer_of (Err GuardFailed) = refused 24
-answer_of (Err (ActionFault f)) = refused (number_of action f)
-answer_of (Err (AssertionFault f)) = refused (number_of assertion f)
+answer_of (Err (ActionFault f)) = refused (fault_number action f)
+answer_of (Err (AssertionFault f)) = refused (fault_number assertion f)
 answer_of (Ok n) = rounds n
 
 -- the answer of firing, with what is new if it was fired and what was there if it was refused

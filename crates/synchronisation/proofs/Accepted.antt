@@ -24,7 +24,7 @@ use Rattle.model.proofs.CheckExact.{check_exact, encode_accepted}
 use Rattle.semantics.proofs.Knowing.{element_all}
 use Rattle.synchronisation.specs.Synchronisations.{nested, guard_of, optional_branches, branches_of, together, extended_by, synchronised_of, fits}
 use Rattle.synchronisation.specs.Theorems.{SynchronisedFile, FitsExact, SynchronisedAccepted}
-use Rattle.synchronisation.proofs.Members.{last_is, one_more, all_weaken, members_all}
+use Rattle.synchronisation.proofs.Listed.{last_is, one_more, all_weaken, members_all}
 
 -- ---- the new transition, of members that are guarded by the scope
 

@@ -15,16 +15,14 @@ use Rattle.model.specs.Check.{verdict, kinds_in, parameters_in}
 use Rattle.standing.specs.Holding.{all_below}
 use Rattle.std.proofs.Common.{Result, Err}
 use Rattle.results.specs.declared.refusal.Refusal.{Refusal}
-use Rattle.results.specs.Refusals.{number_of}
 use Rattle.decoding.specs.Decoding.{Arrays, VariablesRead, prepared_by}
 use Rattle.decoding.proofs.Decoded.{decoded_variables}
 use Rattle.decoding.proofs.Preparing.{variables_read}
 use Rattle.decoding.proofs.InUse.{DecodedIn, take_over, refused_verdict}
-use Rattle.synchronisation.specs.declared.Synchronised.{Synchronised}
-use Rattle.synchronisation.specs.declared.Synchronised.TheVariants.{Refused}
+use Rattle.results.specs.declared.refusal.Refusal.TheVariants.{NoSuchTransition, NoMembers}
 use Rattle.synchronisation.specs.Synchronisations.{members_of, together, is_empty, extended_into, joined_into, synchronised_in, synchronised_by}
 use Rattle.synchronisation.specs.Members.{MembersFound}
-use Rattle.synchronisation.proofs.Members.{is_there, members_there}
+use Rattle.synchronisation.proofs.Listed.{is_there, members_there}
 
 -- ---- what is there, and what is not
 
@@ -41,14 +39,14 @@ some_of (some a) e = (a, refl)
 -- ---- the refusals of the lists, or the new model
 
 module _ (t : System) (ms os old : List ℕ) where
-  pub none_given : (is_empty ms && is_empty os) ≡ true → answered (Refused 35) old ≡ synchronised_in t ms os old
+  pub none_given : (is_empty ms && is_empty os) ≡ true → answered (Err NoMembers) old ≡ synchronised_in t ms os old
   none_given e = rw e
 
   module _ (given : (is_empty ms && is_empty os) ≡ false) where
     past_empty : synchronised_in t ms os old ≡ joined_into t (members_of t.transitions ms) (members_of t.transitions os) old
     past_empty = rw given
 
-    pub mandatory_missing : all_below (length t.transitions) ms ≡ false → answered (Refused 11) old ≡ synchronised_in t ms os old
+    pub mandatory_missing : all_below (length t.transitions) ms ≡ false → answered (Err NoSuchTransition) old ≡ synchronised_in t ms os old
     unfolding joined_into
     mandatory_missing e =
         let gone = none_of (members_of t.transitions ms) (members_there t.transitions ms ∙ e) in
@@ -58,7 +56,7 @@ module _ (t : System) (ms os old : List ℕ) where
       mandatory_there : (ts : List Transition) × (members_of t.transitions ms ≡ some ts)
       mandatory_there = some_of (members_of t.transitions ms) (members_there t.transitions ms ∙ here)
 
-      pub optional_missing : all_below (length t.transitions) os ≡ false → answered (Refused 11) old ≡ synchronised_in t ms os old
+      pub optional_missing : all_below (length t.transitions) os ≡ false → answered (Err NoSuchTransition) old ≡ synchronised_in t ms os old
       unfolding joined_into
       optional_missing e =
           let gone = none_of (members_of t.transitions os) (members_there t.transitions os ∙ e) in
@@ -76,7 +74,7 @@ module _ (t : System) (ms os old : List ℕ) where
             optional_found = there.1;
           }
 
-  pub members_joined : (f : MembersFound t ms os) {x : Answered Synchronised (List ℕ)}
+  pub members_joined : (f : MembersFound t ms os) {x : Answered (Result ℕ Refusal) (List ℕ)}
       → x ≡ extended_into t (together t.events f.mandatory f.optional) old → x ≡ synchronised_in t ms os old
   unfolding joined_into
   members_joined f e =
@@ -87,12 +85,12 @@ module _ (t : System) (ms os old : List ℕ) where
 -- ---- the model's check
 
 pub model_refused : (m : List ℕ) (before after : Arrays) (r : Result Model Refusal) → answered r after ≡ prepared_by m before (verdict m)
-    → {n : Refusal} → r ≡ Err n → (ms os old : List ℕ) → answered (Refused (number_of n)) old ≡ synchronised_by (verdict m) ms os old
+    → {n : Refusal} → r ≡ Err n → (ms os old : List ℕ) → answered (Err n) old ≡ synchronised_by (verdict m) ms os old
 unfolding synchronised_by
 model_refused m before after r e {n} h ms os old = rw (refused_verdict m before after r n (verdict m) e h)
 
 module _ (m : List ℕ) (a : Arrays) (d : Model) (x : DecodedIn m a d) where
-  pub model_accepted : (ms os old : List ℕ) {y : Answered Synchronised (List ℕ)} → y ≡ synchronised_in x.system ms os old
+  pub model_accepted : (ms os old : List ℕ) {y : Answered (Result ℕ Refusal) (List ℕ)} → y ≡ synchronised_in x.system ms os old
       → y ≡ synchronised_by (verdict m) ms os old
   unfolding synchronised_by
   model_accepted ms os old h = h ∙ ap (λ v. synchronised_by v ms os old) (sym x.checked)

@@ -13,6 +13,7 @@ use Rattle.results.specs.Results.{answered, over}
 use Rattle.kinds.specs.declared.Sort.{Sort}
 use Rattle.model.specs.declared.Sizes.{Sizes}
 use Rattle.std.proofs.Common.{Result, Ok, Err}
+use Rattle.std.specs.Result.{is_err}
 use Rattle.results.specs.declared.refusal.Refusal.{Refusal}
 use Rattle.model.specs.Trees.{Transition, System, variables}
 use Rattle.model.specs.Nodes.{Node, nodes_of_expression, nodes_of, nodes_of_variable, nodes_of_transition, nodes_of_system}
@@ -30,9 +31,9 @@ use Rattle.model.proofs.Encoding.{file, file_length, parameters_map}
 use Rattle.decoding.specs.Decoding.{assertion_place}
 use Rattle.decoding.proofs.Places.{variables_size}
 use Rattle.encoding.specs.Files.{file_bytes}
-use Rattle.encoding.specs.Tapes.{Tape, tape, put_all}
-use Rattle.encoding.proofs.Tapes.{put_over}
-use Rattle.synchronisation.specs.declared.Synchronised.TheVariants.{Refused, Length}
+use Rattle.tapes.specs.Tapes.{Tape, tape, put_all}
+use Rattle.tapes.proofs.Tapes.{put_over}
+use Rattle.results.specs.declared.refusal.Refusal.TheVariants.{LimitPassed}
 use Rattle.synchronisation.specs.Synchronisations.{together, extended_by, fits, extended_into}
 use Rattle.synchronisation.specs.Members.{may_fit, ExtensionStands}
 use Rattle.synchronisation.proofs.NewNodes.{extended_nodes, members_few}
@@ -43,7 +44,7 @@ use Rattle.synchronisation.proofs.Accepted.{Fitting, fitting_of, fits_by}
 
 module _ (t : System) (u : Transition) (old : List ℕ) where
   -- a limit is passed
-  pub not_fitting : (Fitting t u → ⊥) → answered (Refused 36) old ≡ extended_into t u old
+  pub not_fitting : (Fitting t u → ⊥) → answered (Err LimitPassed) old ≡ extended_into t u old
   unfolding extended_into
   not_fitting n = rw (by (fits t u) refl)
     where
@@ -52,13 +53,13 @@ module _ (t : System) (u : Transition) (old : List ℕ) where
       by false e = e
 
   -- the slice is too short
-  no_room : length old < length (encode (extended_by t u)) → answered (Refused 36) old ≡ extended_into t u old
+  no_room : length old < length (encode (extended_by t u)) → answered (Err LimitPassed) old ≡ extended_into t u old
   unfolding extended_into
   no_room h = rw (lt-ltb (length old) (length (encode (extended_by t u))) h, or-true (not (fits t u)))
 
   -- neither
   fitting_room : Fitting t u → length (encode (extended_by t u)) ≤ length old
-      → answered (Length (length (encode (extended_by t u)))) (over (encode (extended_by t u)) old) ≡ extended_into t u old
+      → answered (Ok (length (encode (extended_by t u)))) (over (encode (extended_by t u)) old) ≡ extended_into t u old
   unfolding extended_into
   fitting_room f h = rw (fits_by t u f, le-ltb (length old) (length (encode (extended_by t u))) h)
 
@@ -77,6 +78,16 @@ module _ (t : System) (ts os : List Transition) (s : Sizes) (m o : ℕ) where
         le-leb m 4000 (omega (arith, p, few, g.nodes)),
         le-leb o 4000 (omega (arith, q, few, g.nodes)),
       ) at n)
+
+-- ---- an answer that is a refusal, and one that is not
+
+refused_by : {A : Type 0} (r : Result A Refusal) → is_err r ≡ true → (n : Refusal) × (r ≡ Err n)
+refused_by (Ok a) h = absurd (true≢false (sym h))
+refused_by (Err n) h = (n, refl)
+
+found_by : {A : Type 0} (r : Result A Refusal) → is_err r ≡ false → (a : A) × (r ≡ Ok a)
+found_by (Ok a) h = (a, refl)
+found_by (Err n) h = absurd (true≢false h)
 
 -- ---- the nodes that have been put
 
@@ -172,21 +183,21 @@ module _ {sizes : Sizes} {assertion : ℕ} {ks : List ℕ} {ps : List ℤ} {sort
     walked_as = checked ∙ ap outcome walk_same
 
     -- too deep
-    pub walk_refused : {n : Refusal} → w ≡ Err n → answered (Refused 36) old ≡ extended_into t u old
+    pub walk_refused : is_err w ≡ true → answered (Err LimitPassed) old ≡ extended_into t u old
     unfolding outcome
     walk_refused h =
-        not_fitting t u old (λ f. split h (walked_as ∙ ap outcome (found_by_lem (f.guard_depth, f.action_depth))))
+        not_fitting t u old (λ f. split (refused_by w h).1 (walked_as ∙ ap outcome (found_by_lem (f.guard_depth, f.action_depth))))
 
-    walk_found : {c : Cursor} → w ≡ Ok c → Shallow u
+    walk_found : is_err w ≡ false → Shallow u
     unfolding outcome
     walk_found h = by walk refl walked_as
       where
         by : (x : Walk Transition) → walk ≡ x → w ≡ outcome x → Shallow u
-        by (refused n) p q = absurd (split q h)
+        by (refused n) p q = absurd (split q (found_by w h).1)
         by (found v next) p q = shallow_by v next p
 
     -- the slice is too short
-    pub slice_short : length old < 6 + 5 * sizes.nodes → answered (Refused 36) old ≡ extended_into t u old
+    pub slice_short : length old < 6 + 5 * sizes.nodes → answered (Err LimitPassed) old ≡ extended_into t u old
     slice_short h = no_room t u old (omega (arith, h, bytes_of))
 
     -- the bytes that were written
@@ -196,12 +207,12 @@ module _ {sizes : Sizes} {assertion : ℕ} {ks : List ℕ} {ps : List ℤ} {sort
         (λ i. file_bytes (e.sizes_held i) (e.kinds_held i) (e.parameters_held i))
         ∙ ap (λ (l : List ℕ). header_bytes byte_layout (sizes_of (extended_by t u)) ++ (kinds ++ l)) (sym (parameters_map ns))
 
-    pub model_written : {c : Cursor} {new : List ℕ} {r : ℕ} → w ≡ Ok c → 6 + 5 * sizes.nodes ≤ length old
-        → tape new r ≡ put_all (file_bytes sizes ks ps) (tape old 0) → answered (Length (6 + 5 * sizes.nodes)) new ≡ extended_into t u old
+    pub model_written : {new : List ℕ} {r : ℕ} → is_err w ≡ false → 6 + 5 * sizes.nodes ≤ length old
+        → tape new r ≡ put_all (file_bytes sizes ks ps) (tape old 0) → answered (Ok (6 + 5 * sizes.nodes)) new ≡ extended_into t u old
     model_written {new = new} h room put =
         let d = walk_found h in
         let f : Fitting t u = record { events = e.events_fit; transitions = e.transitions_fit; nodes = e.nodes_fit; guard_depth = d.0; action_depth = d.1 } in
         let enough : length (encode (extended_by t u)) ≤ length old = omega (arith, room, bytes_of) in
         let cells : new ≡ over (encode (extended_by t u)) old =
         ap (λ (t : Tape ℕ). t.cells) (put ∙ ap (λ (l : List ℕ). put_all l (tape old 0)) same_bytes_lem ∙ put_over (encode (extended_by t u)) old enough) in
-        (λ i. answered (Length (bytes_of i)) (cells i)) ∙ fitting_room t u old f enough
+        (λ i. answered (Ok (bytes_of i)) (cells i)) ∙ fitting_room t u old f enough

@@ -25,7 +25,7 @@ use Rattle.standing.specs.Holding.{too_short, too_few, holds}
 use Rattle.steps.specs.Calls.{fired_by, fire}
 use Rattle.synchronisation.specs.Synchronisations.{extended_by, together}
 use Rattle.synchronisation.specs.Theorems.{by_guard, new_meaning, new_number, FiresTogether}
-use Rattle.synchronisation.proofs.Members.{last_is, one_more}
+use Rattle.synchronisation.proofs.Listed.{last_is, one_more}
 
 -- ---- firing by a guard and an action given as values
 

@@ -24,7 +24,7 @@ use Rattle.semantics.proofs.Deciding.{expression_decides}
 use Rattle.marking.specs.Marks.{mark_of}
 use Rattle.synchronisation.specs.Synchronisations.{nested, guard_of, together, is_empty}
 use Rattle.synchronisation.specs.Theorems.{SynchronisedFile, all_mark, any_mark, member_marks, together_mark, GuardTogether}
-use Rattle.synchronisation.proofs.Members.{no_members}
+use Rattle.synchronisation.proofs.Listed.{no_members}
 use Rattle.synchronisation.proofs.Firing.{new_guard}
 use Rattle.synchronisation.proofs.Accepted.{nested_sorted, MembersGuarded, mandatory_guarded, optional_guarded}
 

@@ -19,13 +19,14 @@ use Rattle.model.specs.WellFormed.{Scoped, sizes_of}
 use Rattle.model.proofs.Encoding.{sizes_path}
 use Rattle.decoding.proofs.InUse.{take_over}
 use Rattle.engine.proofs.Loading.{loaded_well_formed, loaded_states, loaded_flows}
+use Rattle.tapes.specs.Tapes.{tape}
 use Rattle.synchronisation.specs.Synchronisations.{together, extended_by}
-use Rattle.synchronisation.specs.Members.{may_fit, sheet, put_nodes, JoinStands, ExtensionStands}
+use Rattle.synchronisation.specs.Members.{may_fit, Sheet, put_nodes, JoinStands, ExtensionStands}
 use Rattle.synchronisation.proofs.Lists.{may_fit_lem}
 use Rattle.synchronisation.proofs.Sheets.{kinds_over, parameters_over, nodes_full}
 use Rattle.synchronisation.proofs.Places.{loaded_events, loaded_transitions, members_stand}
 use Rattle.synchronisation.proofs.Pieces.{members_long}
-use Rattle.synchronisation.proofs.Members.{members_all, one_more}
+use Rattle.synchronisation.proofs.Listed.{members_all, one_more}
 use Rattle.synchronisation.proofs.Accepted.{Fitting, MembersGuarded, guard_sorted, branches_scoped}
 use Rattle.synchronisation.proofs.Extending.{may_not_fit}
 
@@ -60,8 +61,17 @@ module _ {model : Model} {ks : List ℕ} {ps : List ℤ} {nexts guards ms os : L
   optional_in = members_all _ t.transitions (loaded_well_formed j.loaded).guarded os us j.members.optional_found
 
   -- the nodes on the sheet, of which `at` are told
-  module _ {kinds : List ℕ} {parameters : List ℤ} {at : ℕ}
-      (put : sheet kinds parameters at ≡ put_nodes ns (sheet (replicate 4001 0) (replicate 4001 (pos 0)) 0)) where
+  module _ {s : Sheet}
+      (put : s ≡ put_nodes ns (record { kinds = tape (replicate 4001 0) 0; parameters = tape (replicate 4001 (pos 0)) 0 })) where
+    abbrev at : ℕ
+    at = s.kinds.at
+
+    abbrev kinds : List ℕ
+    kinds = s.kinds.cells
+
+    abbrev parameters : List ℤ
+    parameters = s.parameters.cells
+
     abbrev blank_kinds : List ℕ
     blank_kinds = replicate 4001 0
 

@@ -10,7 +10,7 @@ pub mod Extending
 pub mod Joining
 pub mod Calling
 -- theorems:
-pub mod Members
+pub mod Listed
 pub mod Written
 pub mod Accepted
 pub mod Answers

@@ -8,7 +8,7 @@ use Rattle.model.specs.WellFormed.{All, sizes_of}
 use Rattle.model.proofs.CheckExact.{check_exact}
 use Rattle.synchronisation.specs.Synchronisations.{together, extended_by, synchronised_of}
 use Rattle.synchronisation.specs.Theorems.{OneMore, OneTransitionMore}
-use Rattle.synchronisation.proofs.Members.{last_is, one_more, all_weaken}
+use Rattle.synchronisation.proofs.Listed.{last_is, one_more, all_weaken}
 use Rattle.synchronisation.proofs.Accepted.{before_formed, synchronised_accepted}
 
 -- a transition under a new event, after the others

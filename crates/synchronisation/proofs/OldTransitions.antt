@@ -28,7 +28,7 @@ use Rattle.steps.specs.Calls.{answer_of, fired_into, fire}
 use Rattle.replaying.proofs.Tests.{clash}
 use Rattle.synchronisation.specs.Synchronisations.{extended_by, together}
 use Rattle.synchronisation.specs.Theorems.{SameButLastMark, NeitherRefuses, Stays, OldTransitionsStay}
-use Rattle.synchronisation.proofs.Members.{old_stays, one_more}
+use Rattle.synchronisation.proofs.Listed.{old_stays, one_more}
 use Rattle.synchronisation.proofs.Firing.{fired_as, used, fired_old, fired_new}
 
 -- ---- a refusal, and the tests before the firing

@@ -11,9 +11,10 @@ use Rattle.evaluation.specs.declared.Operator.TheVariants.{Conjunction, Disjunct
 use Rattle.kinds.specs.Kinds.{kind_of}
 use Rattle.model.specs.Trees.{Transition}
 use Rattle.model.specs.Nodes.{Node, node, nodes_of_expression, nodes_of, nodes_of_all}
-use Rattle.encoding.specs.Tapes.{put_all}
+use Rattle.tables.specs.declared.Tables.{Tables}
+use Rattle.tapes.specs.Tapes.{put_all}
 use Rattle.synchronisation.specs.Synchronisations.{nested, guard_of, optional_branches, branches_of}
-use Rattle.synchronisation.specs.Members.{Sheet, put_nodes, MemberStands, MembersStand}
+use Rattle.synchronisation.specs.Members.{Sheet, put_nodes, MemberStands, MembersStand, MembersIn}
 use Rattle.synchronisation.proofs.Sheets.{nodes_put}
 
 -- ---- the members, one by one
@@ -40,6 +41,11 @@ module _ (ks : List ℕ) (ps : List ℤ) (nexts guards : List ℕ) where
   members_long [] (t ∷ ts) s = absurd s
   members_long (k ∷ rest) [] s = absurd s
   members_long (k ∷ rest) (t ∷ ts) s = ap suc (members_long rest ts s.1)
+
+-- the same over the tables that are lent
+pub member_in : (t : Tables) (numbers : List ℕ) (ts : List Transition) (i : ℕ) → i < length numbers → MembersIn t numbers ts
+    → MemberAt t.kinds.now t.parameters.now t.nexts.now t.guards.now numbers ts i
+member_in t = member_at t.kinds.now t.parameters.now t.nexts.now t.guards.now
 
 -- ---- one piece of a whole
 

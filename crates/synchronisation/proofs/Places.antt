@@ -21,8 +21,9 @@ use Rattle.expressions.proofs.Evaluating.{expression_within}
 use Rattle.engine.specs.Cells.{Loaded}
 use Rattle.engine.proofs.Loading.{exact, loaded_places, loaded_guards, loaded_guard, loaded_action}
 use Rattle.synchronisation.specs.Synchronisations.{members_of}
-use Rattle.synchronisation.proofs.Members.{first_and_rest}
+use Rattle.synchronisation.proofs.Listed.{first_and_rest}
 use Rattle.synchronisation.specs.Members.{Between, MemberStands, MembersStand}
+use Rattle.variables.specs.declared.VariableRow.{VariableRow}
 
 -- ---- nodes that stand from a place on, as a part of the columns
 
@@ -43,6 +44,7 @@ module _ (ks : List ℕ) (ps : List ℤ) (long : length ps ≡ length ks) where
       let within = nodes_within ks ps ns at h n in
       record {
         long = long;
+        ordered = omega arith;
         within = within;
         kinds = column ks (λ n. n.kind) ns at within (λ i l. (nodes_each ks ps ns at i n l).0);
         parameters = column ps (λ n. n.parameter) ns at (omega (arith, long)) (λ i l. (nodes_each ks ps ns at i n l).1);
@@ -55,7 +57,7 @@ some_below [] k {a} e = absurd (none-ne-some a e)
 some_below (x ∷ l) zero e = omega arith
 some_below (x ∷ l) (suc k) e = omega (arith, some_below l k e)
 
-module _ {model : Model} {ks : List ℕ} {ps : List ℤ} {rows : List (List ℤ)} {nexts guards : List ℕ} (d : Loaded model ks ps rows nexts guards) where
+module _ {model : Model} {ks : List ℕ} {ps : List ℤ} {rows : List VariableRow} {nexts guards : List ℕ} (d : Loaded model ks ps rows nexts guards) where
   abbrev system : System
   system = d.decoded.system
 

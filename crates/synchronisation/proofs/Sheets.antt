@@ -5,36 +5,26 @@ use Prim.Native.Nat.{ℕ, ◌+◌, ◌≤◌, ◌<◌}
 use native.Mathlib.Numerals.{add-one}
 use native.Mathlib.Omega.{arith}
 use lib.IntN.{ℤ, pos}
-use lib.ListN.{length, set, get_or, take, length-map, length-drop, length-take}
+use lib.ListN.{length, get_or, take, length-map, length-drop, length-take}
 use lib.Seq.{slice, slice-cons}
-use mir.Syntax.{w32}
-use mir.Val.{to_z, of_z, SFits}
-use mir.ValLaws.{to_z-of_z}
+use Rattle.std.specs.List.{between}
+use Rattle.std.proofs.lemmas.Slice.{between_is}
 use Rattle.results.specs.Results.{over}
 use Rattle.model.specs.Nodes.{Node, node}
-use Rattle.encoding.specs.Tapes.{Tape, tape, put_all}
-use Rattle.encoding.proofs.Tapes.{put_here, put_past, put_append, put_none, put_over, put_full}
-use Rattle.synchronisation.specs.Members.{Sheet, sheet, put_columns, put_nodes, Between}
+use Rattle.tapes.specs.Tapes.{Tape, tape, put, put_all}
+use Rattle.tapes.proofs.Tapes.{put_append, put_none, put_over, put_full}
+use Rattle.synchronisation.specs.Members.{Sheet, put_columns, put_nodes, Between}
 
-sheet_path : {k k' : Tape ℕ} {p p' : Tape ℤ} → k ≡ k' → p ≡ p'
+pub sheet_path : {k k' : Tape ℕ} {p p' : Tape ℤ} → k ≡ k' → p ≡ p'
     → ◌≡◌ {A = Sheet} (record { kinds = k; parameters = p }) (record { kinds = k'; parameters = p' })
 sheet_path e f = λ i. record { kinds = e i; parameters = f i }
 
 -- ---- one node
 
-module _ (ks : List ℕ) (ps : List ℤ) (at k : ℕ) (p : ℤ) where
-  node_here : at < length ks → at < length ps → sheet (set ks at k) (set ps at p) (at + 1) ≡ put_nodes (node k p ∷ []) (sheet ks ps at)
-  unfolding put_all
-  node_here h g = sheet_path (put_here ks at k h) (put_here ps at p g)
-
-  -- with the number that was read
-  pub node_written : SFits w32 p → at < length ks → at < length ps
-      → sheet (set ks at k) (set ps at (to_z w32 (of_z w32 p))) (at + 1) ≡ put_nodes (node k p ∷ []) (sheet ks ps at)
-  node_written f h g = ap (λ (x : ℤ). sheet (set ks at k) (set ps at x) (at + 1)) (to_z-of_z w32 p f) ∙ node_here h g
-
-  pub node_past : length ks ≤ at → length ps ≤ at → sheet ks ps at ≡ put_nodes (node k p ∷ []) (sheet ks ps at)
-  unfolding put_all
-  node_past h g = sheet_path (put_past ks at k h) (put_past ps at p g)
+pub node_put : (k : ℕ) (p : ℤ) (s : Sheet) {k' : Tape ℕ} {p' : Tape ℤ} → k' ≡ put k s.kinds → p' ≡ put p s.parameters
+    → ◌≡◌ {A = Sheet} (record { kinds = k'; parameters = p' }) (put_nodes (node k p ∷ []) s)
+unfolding put_all
+node_put k p s e f = sheet_path e f
 
 -- ---- several, one after another
 
@@ -46,11 +36,21 @@ nodes_put front back s =
     (ap (λ (l : List ℤ). put_all l s.parameters) (map-append (λ n. n.parameter) front back)
     ∙ put_append (map (λ n. n.parameter) front) (map (λ n. n.parameter) back) s.parameters)
 
--- past the last cells nothing is
-pub nodes_none : (ns : List Node) (ks : List ℕ) (ps : List ℤ) (at : ℕ) → length ks ≤ at → length ps ≤ at → sheet ks ps at ≡ put_nodes ns (sheet ks ps at)
-nodes_none ns ks ps at h g = sheet_path (put_none (map (λ n. n.kind) ns) ks at h) (put_none (map (λ n. n.parameter) ns) ps at g)
-
 -- ---- a part of other nodes
+
+module _ (ks : List ℕ) (ps : List ℤ) where
+  pub part_put : (ns : List Node) (from past : ℕ) (s : Sheet) {k : Tape ℕ} {p : Tape ℤ} → Between ks ps ns from past
+      → k ≡ put_all (between from past ks) s.kinds → p ≡ put_all (between from past ps) s.parameters
+      → ◌≡◌ {A = Sheet} (record { kinds = k; parameters = p }) (put_nodes ns s)
+  part_put ns from past s b e f =
+      sheet_path (e ∙ ap (λ (l : List ℕ). put_all l s.kinds) (between_is ks from past ∙ b.kinds))
+      (f ∙ ap (λ (l : List ℤ). put_all l s.parameters) (between_is ps from past ∙ b.parameters))
+
+-- past the last cells nothing is
+pub nodes_none : (ns : List Node) (s : Sheet) → length s.kinds.cells ≤ s.kinds.at → length s.parameters.cells ≤ s.parameters.at → s ≡ put_nodes ns s
+nodes_none ns s h g =
+    sheet_path (put_none (map (λ n. n.kind) ns) s.kinds.cells s.kinds.at h)
+    (put_none (map (λ n. n.parameter) ns) s.parameters.cells s.parameters.at g)
 
 -- nothing is left from its end on
 no_slice : {A : Type 0} (from past : ℕ) (l : List A) → past ≤ from → slice from past l ≡ []
@@ -86,27 +86,27 @@ module _ (ks : List ℕ) (ps : List ℤ) (past : ℕ) where
 
 -- ---- all of them, from the first cell on
 
-module _ (ns : List Node) (ks : List ℕ) (ps : List ℤ) {ks' : List ℕ} {ps' : List ℤ} {at : ℕ}
-    (e : sheet ks' ps' at ≡ put_nodes ns (sheet ks ps 0)) where
-  kinds_put : tape ks' at ≡ put_all (map (λ n. n.kind) ns) (tape ks 0)
+module _ (ns : List Node) (ks : List ℕ) (ps : List ℤ) {s : Sheet}
+    (e : s ≡ put_nodes ns (record { kinds = tape ks 0; parameters = tape ps 0 })) where
+  kinds_put : s.kinds ≡ put_all (map (λ n. n.kind) ns) (tape ks 0)
   kinds_put = ap (λ (s : Sheet). s.kinds) e
 
-  parameters_put : tape ps' at ≡ put_all (map (λ n. n.parameter) ns) (tape ps 0)
+  parameters_put : s.parameters ≡ put_all (map (λ n. n.parameter) ns) (tape ps 0)
   parameters_put = ap (λ (s : Sheet). s.parameters) e
 
   -- with room for all
-  pub kinds_over : length ns ≤ length ks → (ks' ≡ over (map (λ n. n.kind) ns) ks) × (at ≡ length ns)
+  pub kinds_over : length ns ≤ length ks → (s.kinds.cells ≡ over (map (λ n. n.kind) ns) ks) × (s.kinds.at ≡ length ns)
   kinds_over h =
       let w = kinds_put ∙ put_over (map (λ n. n.kind) ns) ks (omega (arith, length-map ns (λ n. n.kind))) in
       (ap (λ (t : Tape ℕ). t.cells) w, ap (λ (t : Tape ℕ). t.at) w ∙ length-map ns (λ n. n.kind))
 
-  pub parameters_over : length ns ≤ length ps → ps' ≡ over (map (λ n. n.parameter) ns) ps
+  pub parameters_over : length ns ≤ length ps → s.parameters.cells ≡ over (map (λ n. n.parameter) ns) ps
   parameters_over h =
       ap (λ (t : Tape ℤ). t.cells)
       (parameters_put ∙ put_over (map (λ n. n.parameter) ns) ps (omega (arith, length-map ns (λ n. n.parameter))))
 
   -- without
-  pub nodes_full : length ks ≤ length ns → at ≡ length ks
+  pub nodes_full : length ks ≤ length ns → s.kinds.at ≡ length ks
   nodes_full h =
       ap (λ (t : Tape ℕ). t.at) kinds_put
       ∙ put_full (map (λ n. n.kind) ns) ks 0 (omega arith) (omega (arith, length-map ns (λ n. n.kind)))

@@ -16,7 +16,8 @@ use Rattle.model.specs.Shuffle.Shuffled.{same, step}
 use Rattle.model.specs.Theorems.{Bytes, ShuffledFile}
 use Rattle.model.proofs.Encoding.{file, file_length}
 use Rattle.model.proofs.Shuffling.{operands_depth, exchanged_depth, shuffled_sizes, shuffled_accepted}
-use Rattle.synchronisation.specs.declared.Synchronised.TheVariants.{Refused, Length}
+use Rattle.std.proofs.Common.{Ok, Err}
+use Rattle.results.specs.declared.refusal.Refusal.TheVariants.{NoMembers, LimitPassed}
 use Rattle.synchronisation.specs.Synchronisations.{together, extended_by, synchronised_of, fits, is_empty}
 use Rattle.synchronisation.specs.Synchronisations.{extended_into, joined_into, synchronised_in, synchronised_by}
 use Rattle.synchronisation.specs.Theorems.{SynchronisedFile, SynchronisedShuffled}
@@ -112,7 +113,7 @@ module _ {t t' : System} {u u' : Transition} (h : Shuffled t t') (x : Several Tr
   extended_answer old =
       let new = length (encode (extended_by t u)) in
       let new' = length (encode (extended_by t' u')) in
-      let same : cond (passes_limit t u old) (Refused 36) (Length new) ≡ cond (passes_limit t' u' old) (Refused 36) (Length new') =
+      let same : cond (passes_limit t u old) (Err LimitPassed) (Ok new) ≡ cond (passes_limit t' u' old) (Err LimitPassed) (Ok new') =
       rw (same_fits, same_length) in
       answer_by (passes_limit t u old) _ _ ∙ same ∙ sym (answer_by (passes_limit t' u' old) _ _)
 
@@ -133,7 +134,7 @@ same_answer : {t t' : System} → Shuffled t t' → (ms os old : List ℕ) → (
 same_answer h ms os old =
     let r = transitions_alike h in
     answer_by (is_empty ms && is_empty os) _ _
-    ∙ ap (cond (is_empty ms && is_empty os) (Refused 35)) (joined_answer h _ _ _ _ (members_alike r ms) (members_alike r os) old)
+    ∙ ap (cond (is_empty ms && is_empty os) (Err NoMembers)) (joined_answer h _ _ _ _ (members_alike r ms) (members_alike r os) old)
     ∙ sym (answer_by (is_empty ms && is_empty os) _ _)
 
 -- ---- the files written

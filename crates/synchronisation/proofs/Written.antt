@@ -9,22 +9,22 @@ use lib.Dec.{ltb}
 use lib.ListN.{length, take, drop}
 use lib.Seq.{take_at}
 use Rattle.results.specs.Results.{Answered, answered, over}
-use Rattle.results.specs.Refusals.{number_of}
 use Rattle.model.specs.declared.Sizes.{Sizes}
 use Rattle.model.specs.Trees.{Transition, System}
 use Rattle.model.specs.Check.{Verdict, verdict}
 use Rattle.model.specs.Check.Verdict.{refusal, accepted}
 use Rattle.model.specs.WellFormed.{encode}
 use Rattle.replaying.proofs.Tests.{clash, by_test, neither}
-use Rattle.synchronisation.specs.declared.Synchronised.{Synchronised}
-use Rattle.synchronisation.specs.declared.Synchronised.TheVariants.{Refused, Length}
+use Rattle.std.proofs.Common.{Result, Ok, Err}
+use Rattle.results.specs.declared.refusal.Refusal.{Refusal}
+use Rattle.results.specs.declared.refusal.Refusal.TheVariants.{NoSuchTransition, NoMembers, LimitPassed}
 use Rattle.synchronisation.specs.Synchronisations.{members_of, together, extended_by, fits, is_empty, extended_into, joined_into, synchronised_by}
 use Rattle.synchronisation.specs.Theorems.{SynchronisedFile, SynchronisedWritten}
 
 -- a refusal that leaves the cells, or a file over the first of them
-pub data Outcome (P : List ℕ → Type 0) (old : List ℕ) : Answered Synchronised (List ℕ) → Type 0 where
-  refuses : (n : ℕ) → Outcome P old (answered (Refused n) old)
-  writes : (m' : List ℕ) → P m' → length m' ≤ length old → Outcome P old (answered (Length (length m')) (over m' old))
+pub data Outcome (P : List ℕ → Type 0) (old : List ℕ) : Answered (Result ℕ Refusal) (List ℕ) → Type 0 where
+  refuses : (r : Refusal) → Outcome P old (answered (Err r) old)
+  writes : (m' : List ℕ) → P m' → length m' ≤ length old → Outcome P old (answered (Ok (length m')) (over m' old))
 
 -- a file that is written from every model with this verdict
 abbrev pub FileOf : Verdict → List ℕ → List ℕ → List ℕ → Type 0
@@ -39,13 +39,13 @@ joined : (z : Sizes) (t : System) (ms os old : List ℕ) → (is_empty ms && is_
     → (a b : Option (List Transition)) → members_of t.transitions ms ≡ a → members_of t.transitions os ≡ b
     → Outcome (FileOf (accepted z t) ms os) old (joined_into t a b old)
 unfolding joined_into extended_into
-joined z t ms os old given none b e f = refuses 11
-joined z t ms os old given (some ts) none e f = refuses 11
+joined z t ms os old given none b e f = refuses NoSuchTransition
+joined z t ms os old given (some ts) none e f = refuses NoSuchTransition
 joined z t ms os old given (some ts) (some us) e f =
     let u = together t.events ts us in
     let new = encode (extended_by t u) in
     by_test (Outcome (FileOf (accepted z t) ms os) old) (passes_limit t u old) _ _
-    (λ c. refuses 36)
+    (λ c. refuses LimitPassed)
     (λ c.
     let h = neither (not (fits t u)) (ltb (length old) (length new)) c in
     writes new
@@ -67,14 +67,14 @@ joined z t ms os old given (some ts) (some us) e f =
 -- what the call comes to
 pub outcome : (v : Verdict) (ms os old : List ℕ) → Outcome (FileOf v ms os) old (synchronised_by v ms os old)
 unfolding synchronised_by
-outcome (refusal r) ms os old = refuses (number_of r)
+outcome (refusal r) ms os old = refuses r
 outcome (accepted z t) ms os old =
-    by_test (Outcome (FileOf (accepted z t) ms os) old) (is_empty ms && is_empty os) _ _ (λ c. refuses 35)
+    by_test (Outcome (FileOf (accepted z t) ms os) old) (is_empty ms && is_empty os) _ _ (λ c. refuses NoMembers)
     (λ c. joined z t ms os old c (members_of t.transitions ms) (members_of t.transitions os) refl refl)
 
 -- where a length is answered, so much of the cells is the file
-front : {P : List ℕ → Type 0} {old : List ℕ} {d : Answered Synchronised (List ℕ)} → Outcome P old d
-    → (n : ℕ) → d.answer ≡ Length n → P (take n d.left)
+front : {P : List ℕ → Type 0} {old : List ℕ} {d : Answered (Result ℕ Refusal) (List ℕ)} → Outcome P old d
+    → (n : ℕ) → d.answer ≡ Ok n → P (take n d.left)
 front (refuses k) n e = clash (cc)
 front {P} {old} (writes m' p l) n e = rw (take_at m' (drop (length m') old) n (cc)) p
 

@@ -12,9 +12,13 @@ use Rattle.model.specs.Sizes.{max_nodes, size_bound}
 use Rattle.model.specs.Check.{action_scope}
 use Rattle.model.specs.WellFormed.{WellFormed, Sorted, Scoped, sizes_of}
 use Rattle.decoding.specs.Decoding.{assertion_place}
-use Rattle.encoding.specs.Tapes.{Tape, tape, put_all}
+use Rattle.tables.specs.declared.Tables.{Tables}
+use Rattle.tapes.specs.Tapes.{Tape, tape_in, put_all}
 use Rattle.engine.specs.Cells.{Loaded}
+use Rattle.synchronisation.specs.declared.nodes.Members.{Members}
+use Rattle.synchronisation.specs.declared.nodes.Sheet.{Sheet as Lent}
 use Rattle.synchronisation.specs.Synchronisations.{members_of, extended_by, is_empty}
+use Rattle.variables.specs.declared.VariableRow.{VariableRow}
 
 -- with sizes s and so many members of each list the new model may keep the limits: a size more fits its byte, and each member has a node
 unfoldable pub may_fit : Sizes → ℕ → ℕ → Bool
@@ -26,8 +30,9 @@ pub record Sheet : Type 0 where
   pub kinds : Tape ℕ
   pub parameters : Tape ℤ
 
-abbrev pub sheet : List ℕ → List ℤ → ℕ → Sheet
-sheet ks ps at = record { kinds = tape ks at; parameters = tape ps at }
+-- the sheet that is lent
+abbrev pub sheet_in : Lent → Sheet
+sheet_in s = record { kinds = tape_in s.kinds; parameters = tape_in s.parameters }
 
 abbrev pub put_columns : List ℕ → List ℤ → Sheet → Sheet
 put_columns ks ps s = record { kinds = put_all ks s.kinds; parameters = put_all ps s.parameters }
@@ -39,6 +44,7 @@ module _ (ks : List ℕ) (ps : List ℤ) where
   -- these nodes stand from place `from` up to `past`
   pub record Between (ns : List Node) (from past : ℕ) : Type 0 where
     pub long : length ps ≡ length ks
+    pub ordered : from ≤ past
     pub within : past ≤ length ks
     pub kinds : slice from past ks ≡ map (λ n. n.kind) ns
     pub parameters : slice from past ps ≡ map (λ n. n.parameter) ns
@@ -66,11 +72,24 @@ module _ (ks : List ℕ) (ps : List ℤ) where
     MembersStand (k ∷ rest) [] = ⊥
     MembersStand (k ∷ rest) (t ∷ ts) = MemberStands k t × MembersStand rest ts
 
+-- the same over the tables that are lent
+abbrev pub MembersIn : Tables → List ℕ → List Transition → Type 0
+MembersIn t ms ts = MembersStand t.kinds.now t.parameters.now t.nexts.now t.guards.now ms ts
+
+-- and over both lists
+abbrev pub BothIn : Tables → Members → Type 0
+BothIn t m =
+    ((ts : List Transition) × MembersIn t m.mandatory.now ts) × ((os : List Transition) × MembersIn t m.optional.now os)
+
 -- the slices are the decoding of an accepted file, the sorts of its variables among them
 pub record SystemStands (model : Model) (ks : List ℕ) (ps : List ℤ) (sorts : List Sort) (nexts guards : List ℕ) : Type 0 where
-  pub rows : List (List ℤ)
+  pub rows : List VariableRow
   pub loaded : Loaded model ks ps rows nexts guards
   pub sorts_held : sorts ≡ sorts_of (variables loaded.decoded.system)
+
+-- the same over the tables that are lent
+abbrev pub SystemIn : Tables → List Sort → Type 0
+SystemIn t sorts = SystemStands t.model t.kinds.now t.parameters.now sorts t.nexts.now t.guards.now
 
 -- these are the members of two lists, of which one at least is not empty
 pub record MembersFound (t : System) (ms os : List ℕ) : Type 0 where
@@ -82,9 +101,13 @@ pub record MembersFound (t : System) (ms os : List ℕ) : Type 0 where
 
 -- the slices are the decoding of an accepted file, and the lists have their members in its model
 pub record JoinStands (model : Model) (ks : List ℕ) (ps : List ℤ) (nexts guards ms os : List ℕ) : Type 0 where
-  pub rows : List (List ℤ)
+  pub rows : List VariableRow
   pub loaded : Loaded model ks ps rows nexts guards
   pub members : MembersFound loaded.decoded.system ms os
+
+-- the same over what is lent
+abbrev pub JoinIn : Tables → Members → Type 0
+JoinIn t m = JoinStands t.model t.kinds.now t.parameters.now t.nexts.now t.guards.now m.mandatory.now m.optional.now
 
 abbrev pub joined_system : {model : Model} {ks : List ℕ} {ps : List ℤ} {nexts guards ms os : List ℕ} → JoinStands model ks ps nexts guards ms os → System
 joined_system j = j.loaded.decoded.system

@@ -1,12 +1,13 @@
 -- 02: "From a model, a list of mandatory and a list of optional transitions, write a model with one transition more, after the others, under
 -- a new event E."
-use Rattle.std.specs.Prelude.{Bool, true, false, cond, not, ◌&&◌, ◌||◌, List, [], ◌∷◌, ◌++◌, ℕ, suc, leb, ltb, pos, length}
+use Rattle.std.specs.Prelude.{Bool, true, false, cond, not, ◌&&◌, ◌||◌, List, [], ◌∷◌, ◌++◌, ℕ, suc, leb, ltb, pos, length, Result, Ok, Err}
 use Rattle.std.proofs.Math.Option.{Option, some, none}
 use Rattle.std.proofs.Math.ListN.{get_elem?}
 use Rattle.evaluation.specs.declared.Operator.{Operator}
 use Rattle.evaluation.specs.declared.Operator.TheVariants.{Conjunction, Disjunction}
 use Rattle.results.specs.Results.{Answered, answered, over}
-use Rattle.results.specs.Refusals.{number_of}
+use Rattle.results.specs.declared.refusal.Refusal.{Refusal}
+use Rattle.results.specs.declared.refusal.Refusal.TheVariants.{NoSuchTransition, NoMembers, LimitPassed}
 use Rattle.model.specs.Trees.{Expression, Instructions, Transition, System, depth_of, depth_of_expression}
 use Rattle.model.specs.Trees.Expression.{truth, binary}
 use Rattle.model.specs.Trees.Instruction.{if_then, block}
@@ -16,8 +17,6 @@ use Rattle.model.specs.Sizes.{max_nodes, size_bound}
 use Rattle.model.specs.Check.{Verdict, max_depth}
 use Rattle.model.specs.Check.Verdict.{refusal, accepted}
 use Rattle.model.specs.WellFormed.{encode}
-use Rattle.synchronisation.specs.declared.Synchronised.{Synchronised}
-use Rattle.synchronisation.specs.declared.Synchronised.TheVariants.{Refused, Length}
 
 -- one more, if it and the others are there
 unfoldable pub with_first : Option Transition → Option (List Transition) → Option (List Transition)
@@ -84,24 +83,24 @@ is_empty (k ∷ ks) = false
 
 -- 36, last: a limit, "or the slice lent for it"; else 02: "The answer is the new model's length in bytes." Its bytes stand in the first
 -- cells, the others stay.
-unfoldable pub extended_into : System → Transition → List ℕ → Answered Synchronised (List ℕ)
+unfoldable pub extended_into : System → Transition → List ℕ → Answered (Result ℕ Refusal) (List ℕ)
 extended_into t u old =
-    cond (not (fits t u) || ltb (length old) (length (encode (extended_by t u)))) (answered (Refused 36) old)
-    (answered (Length (length (encode (extended_by t u)))) (over (encode (extended_by t u)) old))
+    cond (not (fits t u) || ltb (length old) (length (encode (extended_by t u)))) (answered (Err LimitPassed) old)
+    (answered (Ok (length (encode (extended_by t u)))) (over (encode (extended_by t u)) old))
 
 -- 11 "for a member", of either list
-unfoldable pub joined_into : System → Option (List Transition) → Option (List Transition) → List ℕ → Answered Synchronised (List ℕ)
-joined_into t none os old = answered (Refused 11) old
-joined_into t (some ts) none old = answered (Refused 11) old
+unfoldable pub joined_into : System → Option (List Transition) → Option (List Transition) → List ℕ → Answered (Result ℕ Refusal) (List ℕ)
+joined_into t none os old = answered (Err NoSuchTransition) old
+joined_into t (some ts) none old = answered (Err NoSuchTransition) old
 joined_into t (some ts) (some os) old = extended_into t (together t.events ts os) old
 
 -- 35 for two empty lists, before a member is looked for
-abbrev pub synchronised_in : System → List ℕ → List ℕ → List ℕ → Answered Synchronised (List ℕ)
+abbrev pub synchronised_in : System → List ℕ → List ℕ → List ℕ → Answered (Result ℕ Refusal) (List ℕ)
 synchronised_in t ms os old =
-    cond (is_empty ms && is_empty os) (answered (Refused 35) old)
+    cond (is_empty ms && is_empty os) (answered (Err NoMembers) old)
     (joined_into t (members_of t.transitions ms) (members_of t.transitions os) old)
 
 -- 02: "Errors: 35 both lists empty, right after the model's check; then 11 for a member; 36 [..] last". A refusal writes nothing.
-unfoldable pub synchronised_by : Verdict → List ℕ → List ℕ → List ℕ → Answered Synchronised (List ℕ)
-synchronised_by (refusal r) ms os old = answered (Refused (number_of r)) old
+unfoldable pub synchronised_by : Verdict → List ℕ → List ℕ → List ℕ → Answered (Result ℕ Refusal) (List ℕ)
+synchronised_by (refusal r) ms os old = answered (Err r) old
 synchronised_by (accepted z t) ms os old = synchronised_in t ms os old

@@ -1,5 +1,5 @@
 -- The statements on synchronised transitions. Proved in proofs/.
-use Rattle.std.specs.Prelude.{◌≡◌, ◌↔◌, true, false, cond, ◌&&◌, ℕ, suc, ◌≤◌, ◌<◌, eqb, ℤ, length, take, drop, Err}
+use Rattle.std.specs.Prelude.{◌≡◌, ◌↔◌, true, false, cond, ◌&&◌, ℕ, suc, ◌≤◌, ◌<◌, eqb, ℤ, length, take, drop, Result, Ok, Err}
 use mathlib.Core.List.{List, [], ◌∷◌, ◌++◌, map, flat_map}
 use Rattle.std.proofs.Math.Option.{some}
 use Rattle.std.proofs.Math.ListN.{get_elem?}
@@ -7,6 +7,8 @@ use Rattle.evaluation.specs.declared.Evaluation.{Evaluation}
 use Rattle.evaluation.specs.declared.Evaluation.TheVariants.{Unknown, Failed, Value}
 use Rattle.evaluation.specs.Numbers.{eq_z, boolean}
 use Rattle.results.specs.Results.{Answered, answered}
+use Rattle.results.specs.declared.refusal.Refusal.{Refusal}
+use Rattle.results.specs.declared.refusal.Refusal.TheVariants.{NoSuchTransition, NoMembers, LimitPassed}
 use Rattle.model.specs.declared.Sizes.{Sizes}
 use Rattle.model.specs.Trees.{Transition, System, variables}
 use Rattle.model.specs.Trees.Instruction.{block}
@@ -26,8 +28,6 @@ use Rattle.standing.specs.Runs.Answer.{refused}
 use Rattle.standing.specs.Holding.{too_short, too_few, all_below, holds}
 use Rattle.marking.specs.Marks.{mark_of}
 use Rattle.steps.specs.Calls as calls
-use Rattle.synchronisation.specs.declared.Synchronised.{Synchronised}
-use Rattle.synchronisation.specs.declared.Synchronised.TheVariants.{Refused, Length}
 use Rattle.synchronisation.specs.Synchronisations.{members_of, guard_of, branches_of, together, synchronised_of, fits, is_empty, synchronised_in, synchronised_by}
 
 -- the members are the transitions with these numbers, in the list's order, each as often as it is named
@@ -50,7 +50,7 @@ pub record SynchronisedFile (m ms os m' : List ℕ) : Type 0 where
 -- what the call writes is such a file, so the statements below speak of it
 abbrev pub SynchronisedWritten : Type 0
 SynchronisedWritten =
-    (m ms os old : List ℕ) (n : ℕ) → (synchronised_by (verdict m) ms os old).answer ≡ Length n
+    (m ms os old : List ℕ) (n : ℕ) → (synchronised_by (verdict m) ms os old).answer ≡ Ok n
     → SynchronisedFile m ms os (take n (synchronised_by (verdict m) ms os old).left)
 
 -- the limits of 36 are those of the check: the tests pass exactly where the new tree is well-formed
@@ -71,29 +71,29 @@ SynchronisedAccepted =
 abbrev pub LengthExact : Type 0
 LengthExact =
     (m ms os old : List ℕ) (n : ℕ)
-    → ((synchronised_by (verdict m) ms os old).answer ≡ Length n)
+    → ((synchronised_by (verdict m) ms os old).answer ≡ Ok n)
     ↔ ((m' : List ℕ) × SynchronisedFile m ms os m' × (n ≡ length m') × (length m' ≤ length old))
 
 -- "cells past a result stay"
 abbrev pub CellsStay : Type 0
 CellsStay =
-    (v : Verdict) (ms os old : List ℕ) (n : ℕ) → (synchronised_by v ms os old).answer ≡ Length n
+    (v : Verdict) (ms os old : List ℕ) (n : ℕ) → (synchronised_by v ms os old).answer ≡ Ok n
     → (length (synchronised_by v ms os old).left ≡ length old) × (drop n (synchronised_by v ms os old).left ≡ drop n old)
 
 -- 01: a refused call changes nothing that was lent
 abbrev pub RefusedLeavesCells : Type 0
 RefusedLeavesCells =
-    (v : Verdict) (ms os old : List ℕ) (n : ℕ) → (synchronised_by v ms os old).answer ≡ Refused n → (synchronised_by v ms os old).left ≡ old
+    (v : Verdict) (ms os old : List ℕ) (r : Refusal) → (synchronised_by v ms os old).answer ≡ Err r → (synchronised_by v ms os old).left ≡ old
 
 -- the refusals of a model that is accepted, each exactly where 02 says: "35 both lists empty, right after the model's check; then 11 for a
 -- member; 36 the result would pass a limit of sizes, nodes or depth, or the slice lent for it, last"
 pub record RefusedExactly (t : System) (ms os old : List ℕ) : Type 0 where
-  pub empty : ((synchronised_in t ms os old).answer ≡ Refused 35) ↔ ((ms ≡ []) × (os ≡ []))
-  pub missing : ((synchronised_in t ms os old).answer ≡ Refused 11)
+  pub empty : ((synchronised_in t ms os old).answer ≡ Err NoMembers) ↔ ((ms ≡ []) × (os ≡ []))
+  pub missing : ((synchronised_in t ms os old).answer ≡ Err NoSuchTransition)
       ↔ (all_below (length t.transitions) ms && all_below (length t.transitions) os) ≡ false
   pub too_large : (ts us : List Transition) → members_of t.transitions ms ≡ some ts → members_of t.transitions os ≡ some us
       → (is_empty ms && is_empty os) ≡ false
-      → ((synchronised_in t ms os old).answer ≡ Refused 36)
+      → ((synchronised_in t ms os old).answer ≡ Err LimitPassed)
       ↔ (WellFormed (synchronised_of t ts us) × (length (encode (synchronised_of t ts us)) ≤ length old) → ⊥)
 
 abbrev pub RefusalsExact : Type 0
@@ -208,11 +208,11 @@ OldCallsStay =
 
 -- a shuffled model gives the same answer, and what is written of it is a shuffle of what is written of the other: what `OrderIndependent`
 -- asks of two models on which lists of calls are made
-pub record SameButShuffled (a b : Answered Synchronised (List ℕ)) : Type 0 where
+pub record SameButShuffled (a b : Answered (Result ℕ Refusal) (List ℕ)) : Type 0 where
   pub answer : a.answer ≡ b.answer
-  pub files : (n : ℕ) → a.answer ≡ Length n → ShuffledFile (take n a.left) (take n b.left)
-  pub rest : (n : ℕ) → a.answer ≡ Length n → drop n a.left ≡ drop n b.left
-  pub kept : (n : ℕ) → a.answer ≡ Refused n → a.left ≡ b.left
+  pub files : (n : ℕ) → a.answer ≡ Ok n → ShuffledFile (take n a.left) (take n b.left)
+  pub rest : (n : ℕ) → a.answer ≡ Ok n → drop n a.left ≡ drop n b.left
+  pub kept : (r : Refusal) → a.answer ≡ Err r → a.left ≡ b.left
 
 abbrev pub SynchronisedShuffled : Type 0
 SynchronisedShuffled =

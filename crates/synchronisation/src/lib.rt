@@ -8,28 +8,29 @@ ghost use Rattle.model.specs.Trees.{variables, sorts_of};
 ghost use Rattle.model.specs.Check.{verdict};
 ghost use Rattle.standing.specs.Holding.{all_below};
 ghost use Rattle.synchronisation.specs.Synchronisations.{is_empty, together, extended_into, synchronised_in, synchronised_by};
-ghost use Rattle.synchronisation.specs.Members.{may_fit, SystemStands, JoinStands, ExtensionStands, joined_system};
+ghost use Rattle.synchronisation.specs.Members.{may_fit, SystemIn, JoinIn, ExtensionStands, joined_system};
 
 use model::{Layout, Model, Sizes, Sort, check};
+use nodes::{Members, Sheet};
+use results::Refusal;
+use syntax::Tree;
+use tables::Tables;
+use tapes::Tape;
+use variables::VariableRow;
 
 mod nodes; // nodes.rt: the nodes of the new model
 
-// The answer: a refusal's number, or the new model's length in bytes.
-#[derive(Clone, Copy)]
-pub enum Synchronised {
-    Refused(u8),
-    Length(usize),
+impl Members<'_> {
+    // Are both lists empty?
+    #[tactic(auto, using(crate::proofs::Lists::is_empty_lem))]
+    fn is_empty(&self) -> bool
+        ensures { result ≡ (is_empty self.now.mandatory.now && is_empty self.now.optional.now) }
+    {
+        self.mandatory.is_empty() && self.optional.is_empty()
+    }
 }
 
-// Are both lists empty?
-#[tactic(auto, using(crate::proofs::Lists::is_empty_lem))]
-fn both_empty(mandatory: &[usize], optional: &[usize]) -> bool
-    ensures { result ≡ (is_empty mandatory.now && is_empty optional.now) }
-{
-    mandatory.is_empty() && optional.is_empty()
-}
-
-// Is every member the number of a transition?
+// Is every member the number of a transition? What the crate standing asks of the same name is of bytes, and of the first of them.
 fn all_below(members: &[usize], transitions: usize) -> bool
     ensures { result ≡ all_below transitions members.now }
 {
@@ -38,131 +39,110 @@ fn all_below(members: &[usize], transitions: usize) -> bool
 
 // Can the new model keep the limits, by the sizes of the old one and the numbers of members? Each member has at least one node.
 #[tactic(auto, unfolding(crate::specs::Members::may_fit))]
-fn may_fit(sizes: Sizes, mandatory: &[usize], optional: &[usize]) -> bool
-    ensures { result ≡ may_fit sizes (length mandatory.now) (length optional.now) }
+fn may_fit(sizes: Sizes, members: &Members<'_>) -> bool
+    ensures { result ≡ may_fit sizes (length members.now.mandatory.now) (length members.now.optional.now) }
 {
     sizes.events < Model::SIZE_BOUND - 1
         && sizes.transitions < Model::SIZE_BOUND - 1
-        && mandatory.len() <= Model::MAX_NODES
-        && optional.len() <= Model::MAX_NODES
+        && members.mandatory.len() <= Model::MAX_NODES
+        && members.optional.len() <= Model::MAX_NODES
 }
 
 // Writes the new model, whose nodes are given, if its new transition is not too deep and the slice has room.
+#[tactic(auto, using(crate::proofs::Extending::slice_short))]
 fn write(
     sizes: Sizes,
     assertion: usize,
-    kinds: &[u8],
-    parameters: &[i32],
+    tree: &Tree<'_>,
     sorts: &[Sort],
     out: &mut [u8],
-) -> Synchronised
-    requires { ExtensionStands sizes assertion kinds.now parameters.now sorts.now }
-    ensures { (e : ExtensionStands sizes assertion kinds.now parameters.now sorts.now)
+) -> Result<usize, Refusal>
+    requires { ExtensionStands sizes assertion tree.now.kinds.now tree.now.parameters.now sorts.now }
+    ensures { (e : ExtensionStands sizes assertion tree.now.kinds.now tree.now.parameters.now sorts.now)
         → answered result out.new ≡ extended_into e.system e.transition out.old }
 {
-    match check::check_transition(
-        kinds,
-        parameters,
-        sorts,
-        sizes.events,
-        sizes.states,
-        assertion,
-    ) {
-        Err(_) => Synchronised::Refused(36),
-        Ok(_) => {
-            let length = Model::HEADER + Layout::NODE_WIDTH * sizes.nodes;
-            if out.len() < length {
-                return Synchronised::Refused(36);
-            }
-            encoding::write_file(sizes, kinds, parameters, out);
-            Synchronised::Length(length)
-        }
+    check::check_transition(tree, sorts, sizes.events, sizes.states, assertion).map_err(
+        |_| Refusal::LimitPassed,
+    )?;
+    let length = Model::HEADER + Layout::NODE_WIDTH * sizes.nodes;
+    if out.len() < length {
+        return Err(Refusal::LimitPassed);
     }
+    encoding::write_file(sizes, tree, out);
+    Ok(length)
 }
 
 // The new model of members that are there: 36, or its bytes and their number.
 fn extend(
-    model: Model,
-    kinds: &[u8],
-    parameters: &[i32],
+    tables: &Tables<'_>,
     sorts: &[Sort],
-    nexts: &[u16],
-    guards: &[u16],
-    mandatory: &[usize],
-    optional: &[usize],
+    members: &Members<'_>,
     out: &mut [u8],
-) -> Synchronised
-    requires { (j : JoinStands model kinds.now parameters.now nexts.now guards.now mandatory.now optional.now)
-        × (sorts.now ≡ sorts_of (variables (joined_system j))) }
-    ensures { (j : JoinStands model kinds.now parameters.now nexts.now guards.now mandatory.now optional.now)
-        → sorts.now ≡ sorts_of (variables (joined_system j))
+) -> Result<usize, Refusal>
+    requires { (j : JoinIn tables.now members.now) × (sorts.now ≡ sorts_of (variables (joined_system j))) }
+    ensures { (j : JoinIn tables.now members.now) → sorts.now ≡ sorts_of (variables (joined_system j))
         → answered result out.new
         ≡ extended_into (joined_system j) (together (joined_system j).events j.members.mandatory j.members.optional) out.old }
 {
-    if !may_fit(model.sizes, mandatory, optional) {
-        return Synchronised::Refused(36);
+    let sizes = tables.model.sizes;
+    if !may_fit(sizes, members) {
+        return Err(Refusal::LimitPassed);
     }
-    let mut new_kinds = [0u8; nodes::ROOM];
-    let mut new_parameters = [0i32; nodes::ROOM];
-    let count = nodes::put_system(
-        model,
-        kinds,
-        parameters,
-        nexts,
-        guards,
-        mandatory,
-        optional,
-        &mut new_kinds,
-        &mut new_parameters,
-    );
+    let mut kinds = [0u8; nodes::ROOM];
+    let mut parameters = [0i32; nodes::ROOM];
+    let mut sheet = Sheet {
+        kinds: Tape {
+            cells: &mut kinds,
+            at: 0,
+        },
+        parameters: Tape {
+            cells: &mut parameters,
+            at: 0,
+        },
+    };
+    sheet.put_system(tables, members);
+    let count = sheet.kinds.at;
     if Model::MAX_NODES < count {
-        return Synchronised::Refused(36);
+        return Err(Refusal::LimitPassed);
     }
     let sizes = Sizes {
-        states: model.sizes.states,
-        flows: model.sizes.flows,
-        events: model.sizes.events + 1,
-        transitions: model.sizes.transitions + 1,
+        events: sizes.events + 1,
+        transitions: sizes.transitions + 1,
         nodes: count,
+        ..sizes
     };
-    write(
-        sizes,
-        model.assertion,
-        &new_kinds[..count],
-        &new_parameters[..count],
-        sorts,
-        out,
-    )
+    let kinds = sheet.kinds.cells;
+    let parameters = sheet.parameters.cells;
+    let tree = Tree {
+        kinds: &kinds[..count],
+        parameters: &parameters[..count],
+    };
+    write(sizes, tables.model.assertion, &tree, sorts, out)
 }
 
 // 35, 11, then the new model of the members.
 fn join(
-    model: Model,
-    kinds: &[u8],
-    parameters: &[i32],
+    tables: &Tables<'_>,
     sorts: &[Sort],
-    nexts: &[u16],
-    guards: &[u16],
-    mandatory: &[usize],
-    optional: &[usize],
+    members: &Members<'_>,
     out: &mut [u8],
-) -> Synchronised
-    requires { SystemStands model kinds.now parameters.now sorts.now nexts.now guards.now }
-    ensures { (s : SystemStands model kinds.now parameters.now sorts.now nexts.now guards.now)
-        → answered result out.new ≡ synchronised_in s.loaded.decoded.system mandatory.now optional.now out.old }
+) -> Result<usize, Refusal>
+    requires { SystemIn tables.now sorts.now }
+    ensures { (s : SystemIn tables.now sorts.now)
+        → answered result out.new
+        ≡ synchronised_in s.loaded.decoded.system members.now.mandatory.now members.now.optional.now out.old }
 {
-    if both_empty(mandatory, optional) {
-        return Synchronised::Refused(35);
+    if members.is_empty() {
+        return Err(Refusal::NoMembers);
     }
-    if !all_below(mandatory, guards.len()) {
-        return Synchronised::Refused(11);
+    let transitions = tables.guards.len();
+    if !all_below(members.mandatory, transitions) {
+        return Err(Refusal::NoSuchTransition);
     }
-    if !all_below(optional, guards.len()) {
-        return Synchronised::Refused(11);
+    if !all_below(members.optional, transitions) {
+        return Err(Refusal::NoSuchTransition);
     }
-    extend(
-        model, kinds, parameters, sorts, nexts, guards, mandatory, optional, out,
-    )
+    extend(tables, sorts, members, out)
 }
 
 // The model with one transition more, which fires the mandatory ones and those of the optional ones that can: its bytes in the first
@@ -172,40 +152,37 @@ pub fn synchronise(
     mandatory: &[usize],
     optional: &[usize],
     out: &mut [u8],
-) -> Synchronised
+) -> Result<usize, Refusal>
     ensures { answered result out.new
         ≡ synchronised_by (verdict model.now) mandatory.now optional.now out.old }
 {
     let mut parameters = [0i32; Model::MAX_NODES];
-    let mut variables = [[0i32; 3]; Model::MAX_VARIABLES];
+    let mut variables = [VariableRow::BLANK; Model::MAX_VARIABLES];
     let mut nexts = [0u16; Model::MAX_NODES];
     let mut guards = [0u16; Model::MAX_TRANSITIONS];
-    match decoding::prepare(
+    let ready = decoding::prepare(
         model,
         &mut parameters,
         &mut variables,
         &mut nexts,
         &mut guards,
-    ) {
-        Err(refusal) => Synchronised::Refused(refusal.number()),
-        Ok(ready) => {
-            let nodes = ready.sizes.nodes;
-            let count = ready.sizes.states + ready.sizes.flows;
-            let transitions = ready.sizes.transitions;
-            let kinds = decoding::kinds_of(model, nodes);
-            let mut sorts = [Sort::Boolean; Model::MAX_VARIABLES];
-            decoding::sorts_in(kinds, count, &mut sorts);
-            join(
-                ready,
-                kinds,
-                &parameters[..nodes],
-                &sorts[..count],
-                &nexts[..nodes],
-                &guards[..transitions],
-                mandatory,
-                optional,
-                out,
-            )
-        }
-    }
+    )?;
+    let nodes = ready.sizes.nodes;
+    let count = ready.sizes.states + ready.sizes.flows;
+    let kinds = decoding::kinds_of(model, nodes);
+    let mut sorts = [Sort::Boolean; Model::MAX_VARIABLES];
+    decoding::sorts_in(kinds, count, &mut sorts);
+    let tables = Tables {
+        model: ready,
+        kinds,
+        parameters: &parameters[..nodes],
+        variables: &variables[..count],
+        nexts: &nexts[..nodes],
+        guards: &guards[..ready.sizes.transitions],
+    };
+    let members = Members {
+        mandatory,
+        optional,
+    };
+    join(&tables, &sorts[..count], &members, out)
 }

@@ -18,7 +18,7 @@ use Rattle.std.proofs.lemmas.Option.{slice_get-get_or}
 use Rattle.kinds.specs.declared.Sort.{Sort}
 use Rattle.kinds.specs.declared.Sort.TheVariants.{Boolean, Number}
 use Rattle.kinds.specs.contracts.SortPartialEq.TheImpl.{eq-value}
-use Rattle.kinds.specs.Kinds.{same_sort}
+use Rattle.kinds.specs.Sameness.{same_sort}
 use Rattle.evaluation.specs.Numbers.{eq_z}
 use Rattle.evaluation.proofs.Signed.{read_both, same_bits, equal_bits, other_bits, zero_fits, one_fits}
 use Rattle.syntax.specs.Readings.{is_truth, is_target, is_of_sort}

@@ -1,5 +1,5 @@
 -- The node that is due, with the rules for its kind and its parameter. 01: "4 to 7 are tried in that order".
--- "A kind byte is looked up in a table of 256 rows": `row_of` is the row of a kind.
+-- "A kind byte is looked up in a table of 256 rows": `row_of` is the row of a byte, by 01's list.
 use Rattle.std.specs.Prelude.{Bool, true, cond, not, ◌&&◌, ◌||◌, List, ℕ, ◌+◌, eqb, leb, ltb, ℤ, pos, nat_abs, length, get_or, slice_get, Option, Some, None, Result, Ok, Err}
 use Rattle.std.specs.Int.Signed.{le_z, non_neg}
 use Rattle.evaluation.specs.Numbers.{eq_z}
@@ -9,8 +9,10 @@ use Rattle.syntax.specs.declared.Node.{Node}
 use Rattle.kinds.specs.declared.Sort.{Sort}
 use Rattle.kinds.specs.declared.Place.{Place}
 use Rattle.kinds.specs.declared.Place.TheVariants.{Variable, Transition, Instruction, Expression}
-use Rattle.kinds.specs.Kinds.{row_of, is_place, same_sort}
+use Rattle.kinds.specs.Kinds.{row_of}
+use Rattle.kinds.specs.Sameness.{is_place, same_sort}
 
+-- the parameter of a Boolean: 0 or 1
 abbrev pub is_truth : ℤ → Bool
 is_truth p = eq_z p (pos 0) || eq_z p (pos 1)
 
@@ -22,7 +24,7 @@ is_target from past p = non_neg p && (leb from (nat_abs p) && ltb (nat_abs p) pa
 abbrev pub is_of_sort : List Sort → Option Sort → ℤ → Bool
 is_of_sort sorts wanted p = non_neg p && (ltb (nat_abs p) (length sorts) && same_sort (slice_get sorts (nat_abs p)) wanted)
 
--- the kind stands at this place of the table
+-- 01: "where the kind may stand": the place in its row
 abbrev pub stands_at : Place → ℕ → Bool
 stands_at place k = is_place (row_of k).place place
 
@@ -48,10 +50,6 @@ instruction_fits from past k p =
 abbrev pub variable_fits : ℕ → ℤ → Bool
 variable_fits k p = eqb k 2 || is_truth p
 
--- a node that is due, where its kind and its parameter are allowed
-unfoldable pub checked : Bool → Bool → Node → Result Node Refusal
-checked allowed fits n = cond (not allowed) (Err KindNotAllowed) (cond (not fits) (Err ParameterNotAllowed) (Ok n))
-
 module _ (ks : List ℕ) (ps : List ℤ) where
   abbrev pub kind_at : ℕ → ℕ
   kind_at at = get_or ks at 0
@@ -76,10 +74,6 @@ module _ (ks : List ℕ) (ps : List ℤ) where
   unfoldable pub reading_at : Option Refusal → ℕ → Result Node Refusal
   reading_at None at = Ok (node_at at)
   reading_at (Some r) at = Err r
-
-  -- the same before any rule for its kind and its parameter
-  unfoldable pub due_at : ℕ → ℕ → Result Node Refusal
-  due_at left at = reading_at (refusal_at (λ k. true) (λ k p. true) left at) at
 
   -- the nodes that the walk asks for, each with its own rules for 6 and 7
   unfoldable pub expression_refusal : List Sort → ℕ → Option Sort → ℕ → Option Refusal

@@ -1,7 +1,8 @@
 // The node that is due, read with the cursor moved on. Refusals 4, 5, 6, 7 are tried in this order.
 
 ghost use Rattle.std.specs.Prelude.{◌≡◌, ◌<◌, ◌&&◌, nat_abs, OnOk};
-ghost use Rattle.syntax.specs.Readings.{checked, due_at, end_reading, expression_allowed, expression_fits, expression_reading, instruction_fits, instruction_reading, is_of_sort, is_target, is_truth, stands_at, transition_reading, variable_fits, variable_reading};
+ghost use Rattle.syntax.specs.Nodes.{checked, due_at};
+ghost use Rattle.syntax.specs.Readings.{end_reading, expression_allowed, expression_fits, expression_reading, instruction_fits, instruction_reading, is_of_sort, is_target, is_truth, stands_at, transition_reading, variable_fits, variable_reading};
 ghost use Rattle.std.specs.Int.Signed.{le_z};
 
 use super::{Cursor, Node, Tree};
@@ -15,7 +16,7 @@ pub fn magnitude(parameter: i32) -> usize
     parameter.unsigned_abs() as usize
 }
 
-// Does the kind stand at this place of the table.
+// May the kind stand at this place.
 fn stands_at(kind: u8, place: Place) -> bool
     ensures { result ≡ stands_at place kind }
 {
@@ -29,10 +30,10 @@ fn expression_allowed(wanted: Option<Sort>, kind: u8) -> bool
     if !stands_at(kind, Place::Expression) {
         return false;
     }
-    if kind == Kind::Variable as u8 || kind == Kind::Conditional as u8 {
-        return true;
+    match Kind::try_from(kind) {
+        Ok(Kind::Variable | Kind::Conditional) => true,
+        _ => kinds::row_of(kind).result == wanted,
     }
-    kinds::row_of(kind).result == wanted
 }
 
 impl Node {
@@ -40,7 +41,7 @@ impl Node {
     pub fn magnitude(self) -> usize
         ensures { result ≡ nat_abs self.parameter }
     {
-        self.parameter.unsigned_abs() as usize
+        magnitude(self.parameter)
     }
 
     // Is the parameter 0 or 1.
@@ -71,14 +72,11 @@ impl Node {
     fn fits_expression(self, sorts: &[Sort], wanted: Option<Sort>) -> bool
         ensures { result ≡ expression_fits sorts.now wanted self.kind self.parameter }
     {
-        if self.kind == Kind::Numeral as u8 {
-            true
-        } else if self.kind == Kind::Truth as u8 {
-            self.is_truth()
-        } else if self.kind == Kind::Variable as u8 {
-            self.has_sort(sorts, wanted)
-        } else {
-            self.parameter == 0
+        match Kind::try_from(self.kind) {
+            Ok(Kind::Numeral) => true,
+            Ok(Kind::Truth) => self.is_truth(),
+            Ok(Kind::Variable) => self.has_sort(sorts, wanted),
+            _ => self.parameter == 0,
         }
     }
 
@@ -86,12 +84,10 @@ impl Node {
     fn fits_instruction(self, from: usize, past: usize) -> bool
         ensures { result ≡ instruction_fits from past self.kind self.parameter }
     {
-        if self.kind == Kind::Assignment as u8 {
-            self.is_between(from, past)
-        } else if self.kind == Kind::Block as u8 {
-            0 <= self.parameter
-        } else {
-            self.parameter == 0
+        match Kind::try_from(self.kind) {
+            Ok(Kind::Assignment) => self.is_between(from, past),
+            Ok(Kind::Block) => 0 <= self.parameter,
+            _ => self.parameter == 0,
         }
     }
 
@@ -99,7 +95,7 @@ impl Node {
     fn fits_variable(self) -> bool
         ensures { result ≡ variable_fits self.kind self.parameter }
     {
-        self.kind == Kind::LowEnd as u8 || self.is_truth()
+        kinds::stands_for(self.kind, Kind::LowEnd) || self.is_truth()
     }
 
     // Is the parameter within these ends.
@@ -148,6 +144,8 @@ impl Cursor {
             next: Cursor { at: at + 1 },
         })
     }
+
+    // The five below ask two tests each: handed to one function, a call of it would be as long as each of them is.
 
     // An expression node of the wanted sort, with this depth left.
     pub fn expression_node(

@@ -3,6 +3,7 @@
 #![tactic(auto)]
 
 use model::Model;
+use variables::VariableRow;
 
 // The nodes in walk order with their kinds and parameters, a row for each variable, after each node the place past its subtree, and the
 // place of each transition's guard.
@@ -11,7 +12,7 @@ pub struct Tables<'a> {
     pub model: Model,
     pub kinds: &'a [u8],
     pub parameters: &'a [i32],
-    pub variables: &'a [[i32; 3]],
+    pub variables: &'a [VariableRow],
     pub nexts: &'a [u16],
     pub guards: &'a [u16],
 }

@@ -10,10 +10,10 @@
 
 ghost use Rattle.std.specs.Prelude.{◌≡◌, ◌+◌, ◌*◌, ◌<◌, length};
 
+use cases::Case;
 use results::Refusal;
 use std::fs::File;
 use std::io;
-use std::io::Read;
 
 // The most cells of a slice lent.
 const CELLS: usize = 512;
@@ -47,94 +47,55 @@ impl From<[u8; 16]> for Head {
     }
 }
 
-impl Head {
-    // The length of the body.
-    fn body_length(self) -> usize
-        ensures { result ≡ self.model + self.text + 5 * self.nodes }
-    {
+// The answer of a case is the number of its nodes.
+impl Case for Head {
+    ghost size = { λ head. head.model + head.text + 5 * head.nodes };
+
+    fn body_length(self) -> usize {
         self.model + self.text + 5 * self.nodes
     }
 
-    // The wanted answer.
-    fn wanted(self) -> Result<usize, u8> {
-        match self.refusal {
-            0 => Ok(self.nodes),
-            number => Err(number),
+    // Types the text into two slices of the stored lengths, whose cells hold the stored numbers before. False where there is no such
+    // case.
+    fn is_as_stored<R: Print>(self, rt: &R, body: &[u8]) -> io::Result<bool> {
+        if CELLS < self.kinds || CELLS < self.parameters {
+            return Ok(false);
         }
+        let mut kinds = [self.kind; CELLS];
+        let mut parameters = [self.parameter; CELLS];
+        let kinds = &mut kinds[..self.kinds];
+        let parameters = &mut parameters[..self.parameters];
+        let (model, rest) = body.split_at(self.model);
+        let (text, stored) = rest.split_at(self.text);
+        let (stored_kinds, stored_parameters) = stored.split_at(self.nodes);
+        let answer = texts::write_nodes(model, text, kinds, parameters).map_err(Refusal::number);
+        let wanted = cases::wanted(self.refusal, self.nodes);
+        Ok(
+            cases::is_wanted(rt, "nodes", wanted, answer)?
+                && cases::is_stored(rt, "kind", kinds, stored_kinds, self.kind)?
+                && self.has_parameters(rt, stored_parameters, parameters)?,
+        )
     }
 }
 
-// The answer of a call: how many nodes, or the number of a refusal.
-fn answer_of(typed: Result<usize, Refusal>) -> Result<usize, u8> {
-    match typed {
-        Ok(count) => Ok(count),
-        Err(refusal) => Err(refusal.number()),
-    }
-}
-
-// Are all cells as stored? If not, that is told.
-fn is_same_cells(
-    rt: &impl Print,
-    head: Head,
-    stored: &[u8],
-    kinds: &[u8],
-    parameters: &[i32],
-) -> io::Result<bool>
-    requires { length stored.now ≡ 5 * head.nodes }
-{
-    let mut wanted = [0i32; CELLS];
-    let count = head.nodes;
-    if CELLS < count || !cases::is_same(kinds, &stored[..count], head.kind) {
-        print!(rt; "a kind is another; ")?;
-        return Ok(false);
-    }
-    cases::load_values(&stored[count..], &mut wanted[..count]);
-    if !cases::is_same(parameters, &wanted[..count], head.parameter) {
-        print!(rt; "a parameter is another; ")?;
-        return Ok(false);
-    }
-    Ok(true)
-}
-
-// Types the text of a case into two slices of the stored lengths, whose cells hold the stored numbers before: are the answer and
-// every cell as stored? False where there is no such case.
-fn is_equal(rt: &impl Print, head: Head, body: &[u8]) -> io::Result<bool>
-    requires { length body.now ≡ head.model + head.text + 5 * head.nodes }
-{
-    if CELLS < head.kinds || CELLS < head.parameters {
-        return Ok(false);
-    }
-    let mut kinds = [head.kind; CELLS];
-    let mut parameters = [head.parameter; CELLS];
-    let kinds = &mut kinds[..head.kinds];
-    let parameters = &mut parameters[..head.parameters];
-    let (model, rest) = body.split_at(head.model);
-    let (text, stored) = rest.split_at(head.text);
-    let answer = answer_of(texts::write_nodes(model, text, kinds, parameters));
-    if !cases::is_wanted(rt, "nodes", head.wanted(), answer)? {
-        return Ok(false);
-    }
-    is_same_cells(rt, head, stored, kinds, parameters)
-}
-
-// Reads one case and runs it; none at the end of the file.
-fn next_case(rt: &impl Print, file: &mut impl Read, buffer: &mut [u8]) -> io::Result<Option<bool>> {
-    let Some(bytes): Option<[u8; 16]> = cases::next_bytes(file)? else {
-        return Ok(None);
-    };
-    let head = Head::from(bytes);
-    let length = head.body_length();
-    if !cases::is_read(file, buffer, length)? {
-        return Ok(None);
-    }
-    match buffer.get(..length) {
-        Some(body) => Ok(Some(is_equal(rt, head, body)?)),
-        None => Ok(None),
+impl Head {
+    // Are the parameters as stored, four bytes each? If not, that is told.
+    fn has_parameters<R: Print>(self, rt: &R, stored: &[u8], parameters: &[i32]) -> io::Result<bool>
+        requires { length stored.now ≡ 4 * self.nodes }
+    {
+        let mut wanted = [0i32; CELLS];
+        let Some(wanted) = wanted.get_mut(..self.nodes) else {
+            return Ok(false);
+        };
+        cases::load_values(stored, wanted);
+        cases::is_stored(rt, "parameter", parameters, wanted, self.parameter)
     }
 }
 
 fn main(rt: HostRuntime) -> io::Result<()> {
     let mut file = File::open(&rt, "cases")?;
     let mut buffer = [0u8; 16384];
-    cases::run(&rt, "texts", || next_case(&rt, &mut file, &mut buffer))
+    cases::run(&rt, "texts", || {
+        cases::next_case::<Head, _, _>(&rt, &mut file, &mut buffer)
+    })
 }

@@ -13,7 +13,8 @@ use Rattle.evaluation.specs.Numbers.{eq_z}
 use Rattle.std.proofs.Common.{Option, Some, None, is_some}
 use Rattle.kinds.specs.declared.Sort.{Sort}
 use Rattle.kinds.specs.declared.Sort.TheVariants.{Boolean, Number}
-use Rattle.kinds.specs.Kinds.{boolean_sort, number_sort, same_sort, kind_of, result_of, operand_sort}
+use Rattle.kinds.specs.Kinds.{boolean_sort, number_sort, kind_of, result_of, operand_sort}
+use Rattle.kinds.specs.Sameness.{same_sort}
 use Rattle.kinds.proofs.Equality.{one_wanted}
 use Rattle.model.specs.Trees.{Expression}
 use Rattle.model.specs.Trees.Expression.{negation, binary, if_then_else}

@@ -8,7 +8,7 @@ use native.Mathlib.Omega.{arith}
 use borrow.Author.Tests.{lt-ltb, le-ltb}
 use lib.Dec.{T}
 use lib.IntN.{ℤ}
-use lib.ListN.{length, take, length-map}
+use lib.ListN.{length, length-map}
 use lib.Seq.{length-take-le}
 use Rattle.results.specs.Results.{answered, over}
 use Rattle.model.specs.Trees.{depth_of_expression}
@@ -18,19 +18,20 @@ use Rattle.model.specs.Check.{max_depth}
 use Rattle.grammar.specs.Reading.{phrase_of}
 use Rattle.grammar.proofs.Tests.{passes}
 use Rattle.grammar.proofs.Readings.{reading_exact}
-use Rattle.composition.specs.declared.Node.{Node}
+use Rattle.composition.specs.declared.list.Nodes.{Nodes}
 use Rattle.composition.specs.declared.Part.{Part}
 use Rattle.composition.specs.Typing.{sort_in, variables_below, expression_of}
-use Rattle.composition.specs.Parts.{held}
+use Rattle.composition.specs.Parts.{held, written}
 use Rattle.parser.specs.Levels.{TextReadAs}
 use Rattle.results.specs.declared.refusal.Refusal.TheVariants.{ShortSlice, NoSuchVariable, NotInGrammar, TypesDoNotFit, TooLarge}
 use Rattle.kinds.specs.declared.Sort.{Sort}
+use Rattle.kinds.specs.Kinds.{code_of}
 use Rattle.std.proofs.Common.{is_some, Ok, Err}
 use Rattle.texts.specs.Texts.{meant_by, Slices, slices, written_into, typed_over, max_text, min_nodes}
 use Rattle.texts.specs.Texts.Meant.{meant}
 use Rattle.texts.proofs.Limits.{Within, within_read}
-use Rattle.texts.proofs.Narrow.{kinds_held, phrase_parameters}
-use Rattle.texts.proofs.Small.{read_small}
+use Rattle.texts.proofs.Narrow.{phrase_kinds, phrase_parameters}
+use Rattle.texts.proofs.Small.{Small, read_small}
 
 module _ (vs : List Sort) (text : List ℕ) (s : Slices) where
   -- ---- before the text is read
@@ -53,7 +54,7 @@ module _ (vs : List Sort) (text : List ℕ) (s : Slices) where
 
   -- ---- after it was read
 
-  module _ (w : Within text s) (cells : List Node) where
+  module _ (w : Within text s) (cells : Nodes) where
     -- 32
     pub text_unread : phrase_of text ≡ none → answered (Err NotInGrammar) s ≡ typed_over vs text s
     unfolding meant_by written_into
@@ -106,28 +107,32 @@ module _ (vs : List Sort) (text : List ℕ) (s : Slices) where
                 le-ltb max_depth (depth_of_expression (expression_of vs q.phrase)) (omega (arith, q.holds.depth)),
               )
 
-          counted : length cells ≡ 400 → part.end ≡ length own
-          counted l =
-              sym (length-take-le part.end cells (omega (arith, q.room))) ∙ ap length q.holds.nodes ∙ length-map own held
+          counted : cells.count ≡ length own
+          counted =
+              sym (length-take-le cells.count cells.cells (omega (arith, q.room, cells.whole))) ∙ ap length q.holds.nodes ∙ length-map own held
 
           -- the kinds and the parameters of the nodes in use
-          kinds_own : map (λ n. n.kind) (take part.end cells) ≡ map (λ n. n.kind) own
-          kinds_own = ap (map (λ n. n.kind)) q.holds.nodes ∙ kinds_held own
+          module _ (few : length vs ≤ 510) where
+            below : T (variables_below (length vs) q.phrase)
+            below = passes (variables_below (length vs) q.phrase) (beyond_as b)
 
-          parameters_own : length vs ≤ 510 → map (λ n. n.parameter) (take part.end cells) ≡ map (λ n. n.parameter) own
-          parameters_own few =
-              let p = q.phrase in
-              let below : T (variables_below (length vs) p) = passes (variables_below (length vs) p) (beyond_as b) in
-              ap (map (λ n. n.parameter)) q.holds.nodes ∙ phrase_parameters vs few p (read_small text p ((reading_exact text p).0 q.reads)) below
+            small : Small q.phrase
+            small = read_small text q.phrase ((reading_exact text q.phrase).0 q.reads)
+
+            kinds_own : map (λ n. code_of n.kind) (written cells) ≡ map (λ n. n.kind) own
+            kinds_own = ap (map (λ n. code_of n.kind)) q.holds.nodes ∙ phrase_kinds vs few q.phrase small below
+
+            parameters_own : map (λ n. n.parameter) (written cells) ≡ map (λ n. n.parameter) own
+            parameters_own = ap (map (λ n. n.parameter)) q.holds.nodes ∙ phrase_parameters vs few q.phrase small below
 
           -- no refusal is due
-          pub text_written : length vs ≤ 510 → length cells ≡ 400 → part.depth ≤ max_depth → {kinds : List ℕ} {parameters : List ℤ}
-              → kinds ≡ over (map (λ n. n.kind) (take part.end cells)) s.kinds
-              → parameters ≡ over (map (λ n. n.parameter) (take part.end cells)) s.parameters
-              → answered (Ok part.end) (slices kinds parameters) ≡ typed_over vs text s
+          pub text_written : length vs ≤ 510 → part.depth ≤ max_depth → {kinds : List ℕ} {parameters : List ℤ}
+              → kinds ≡ over (map (λ n. code_of n.kind) (written cells)) s.kinds
+              → parameters ≡ over (map (λ n. n.parameter) (written cells)) s.parameters
+              → answered (Ok cells.count) (slices kinds parameters) ≡ typed_over vs text s
           unfolding written_into
-          text_written few l d {kinds} {parameters} k r =
-              let ks : kinds ≡ over (map (λ n. n.kind) own) s.kinds = k ∙ ap (λ (l : List ℕ). over l s.kinds) kinds_own in
+          text_written few d {kinds} {parameters} k r =
+              let ks : kinds ≡ over (map (λ n. n.kind) own) s.kinds = k ∙ ap (λ (l : List ℕ). over l s.kinds) (kinds_own few) in
               let ps : parameters ≡ over (map (λ n. n.parameter) own) s.parameters = r ∙ ap (λ (l : List ℤ). over l s.parameters) (parameters_own few) in
-              (λ i. answered (Ok (counted l i)) (slices (ks i) (ps i)))
+              (λ i. answered (Ok (counted i)) (slices (ks i) (ps i)))
               ∙ sym (means_nodes d)

@@ -5,47 +5,43 @@
 ghost use Rattle.std.specs.Prelude.{◌≡◌, ◌≤◌, length};
 ghost use Rattle.results.specs.Results.{answered};
 ghost use Rattle.model.specs.Check.{verdict};
+ghost use Rattle.composition.specs.Parts.{SameCells};
 ghost use Rattle.texts.specs.Texts.{slices, typed_over, typed_in};
 
-use composition::Node;
+use composition::{Cells, Node, Nodes};
 use kinds::Sort;
 use model::Model;
+use parser::Source;
 use results::Refusal;
 
 // The most bytes of a text.
 pub const MAX_TEXT: usize = 200;
 
 // The least cells of each slice: every text has room.
-pub const MIN_NODES: usize = 400;
+pub const MIN_NODES: usize = composition::MAX_NODES;
 
 // The nodes of a text over variables of these sorts.
-fn write_over(
-    text: &[u8],
-    sorts: &[Sort],
-    kinds: &mut [u8],
-    parameters: &mut [i32],
-) -> Result<usize, Refusal>
+fn write_over(text: &[u8], sorts: &[Sort], cells: &mut Cells<'_>) -> Result<usize, Refusal>
     requires { length sorts.now ≤ 510 }
-    ensures { answered result (slices kinds.new parameters.new)
-        ≡ typed_over sorts.now text.now (slices kinds.old parameters.old) }
+    ensures typed { answered result (slices cells.new.kinds.now cells.new.parameters.now)
+        ≡ typed_over sorts.now text.now (slices cells.old.kinds.now cells.old.parameters.now) }
+    ensures same { SameCells cells.old cells.new }
 {
     if MAX_TEXT < text.len() {
         return Err(Refusal::TooLarge);
     }
-    if kinds.len() < MIN_NODES {
+    if cells.kinds.len() < MIN_NODES {
         return Err(Refusal::ShortSlice);
     }
-    if parameters.len() < MIN_NODES {
+    if cells.parameters.len() < MIN_NODES {
         return Err(Refusal::ShortSlice);
     }
-    let empty = Node {
-        kind: 0,
-        parameter: 0,
+    let mut nodes = Nodes {
+        cells: [Node::BLANK; MIN_NODES],
+        count: 0,
     };
-    let mut nodes = [empty; MIN_NODES];
-    let Some(part) = parser::parse(text, sorts, &mut nodes) else {
-        return Err(Refusal::NotInGrammar);
-    };
+    let source = Source { text, sorts };
+    let part = source.parse(&mut nodes).ok_or(Refusal::NotInGrammar)?;
     if !part.below {
         return Err(Refusal::NoSuchVariable);
     }
@@ -55,8 +51,8 @@ fn write_over(
     if Model::MAX_DEPTH < usize::from(part.depth) {
         return Err(Refusal::TooLarge);
     }
-    let count = usize::from(part.end);
-    composition::unpack(&nodes[..count], kinds, parameters);
+    let count = usize::from(nodes.count);
+    cells.write(&nodes.cells[..count]);
     Ok(count)
 }
 
@@ -73,5 +69,6 @@ pub fn write_nodes(
     let mut sorts = [Sort::Boolean; Model::MAX_VARIABLES];
     let sizes = decoding::sorts_of(model, &mut sorts)?;
     let count = sizes.states + sizes.flows;
-    write_over(text, &sorts[..count], kinds, parameters)
+    let mut cells = Cells { kinds, parameters };
+    write_over(text, &sorts[..count], &mut cells)
 }

@@ -1,24 +1,24 @@
 -- The columns of rows, and of the rows of variables.
 use mathlib.Core.Path.{◌≡◌, refl, sym, ◌∙◌, ap}
 use mathlib.Core.List.{List, [], ◌∷◌, map}
-use Prim.Native.Nat.{ℕ, ◌<◌, ◌^◌}
+use Prim.Native.Nat.{ℕ}
 use lib.IntN.{ℤ, pos}
-use lib.Signed.{mag}
 use lib.ListN.{get_or, length, length-map, get_or-map}
-use mir.Syntax.{w32}
-use mir.Val.{to_z, of_z}
-use Rattle.evaluation.proofs.Signed.{read_back}
 use Rattle.model.specs.Trees.{Variable}
-use Rattle.variables.specs.Rows.{variable_row, variable_rows, lows_in, highs_in, firsts_in}
+use Rattle.variables.specs.declared.VariableRow.{VariableRow}
+use Rattle.variables.specs.Rows.{variable_row, variable_rows, lows_in, highs_in, firsts_in, within_row, within_ends}
 
--- an entry that is read is the entry of its column
-pub read : (column : ℕ) (rows : List (List ℤ)) (x : ℕ) → mag (get_or (get_or rows x []) column (pos 0)) < 2 ^ 31
-    → to_z w32 (of_z w32 (get_or (get_or rows x []) column (pos 0))) ≡ get_or (map (λ row. get_or row column (pos 0)) rows) x (pos 0)
-read column rows x h = read_back (get_or (get_or rows x []) column (pos 0)) h ∙ sym (get_or-map (λ row. get_or row column (pos 0)) rows x [])
+-- the row that stands for one that is missing
+abbrev pub blank : VariableRow
+blank = record { low = pos 0; high = pos 0; first = pos 0 }
+
+-- the ends of a row are those of its columns
+pub within_columns : (rows : List VariableRow) (x : ℕ) (v : ℤ) → within_row (get_or rows x blank) v ≡ within_ends (lows_in rows) (highs_in rows) x v
+within_columns rows x v = rw (sym (get_or-map (λ row. row.low) rows x blank), sym (get_or-map (λ row. row.high) rows x blank)) refl
 
 -- a column is as long as the rows
-pub column_length : (column : ℕ) (rows : List (List ℤ)) → length (map (λ row. get_or row column (pos 0)) rows) ≡ length rows
-column_length column rows = length-map rows (λ row. get_or row column (pos 0))
+pub column_length : (column : VariableRow → ℤ) (rows : List VariableRow) → length (map column rows) ≡ length rows
+column_length column rows = length-map rows column
 
 -- the columns of the rows of variables are their low ends, high ends and first values
 pub lows_of : (vs : List Variable) → lows_in (variable_rows vs) ≡ map (λ v. v.low) vs
@@ -34,7 +34,7 @@ firsts_of [] = refl
 firsts_of (v ∷ vs) = ap (λ l. v.first ∷ l) (firsts_of vs)
 
 -- the rows are those of these variables
-module _ (vs : List Variable) {rows : List (List ℤ)} (held : rows ≡ variable_rows vs) where
+module _ (vs : List Variable) {rows : List VariableRow} (held : rows ≡ variable_rows vs) where
   pub low_ends : lows_in rows ≡ map (λ v. v.low) vs
   low_ends = ap lows_in held ∙ lows_of vs
 

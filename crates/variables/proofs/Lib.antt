@@ -1,4 +1,3 @@
 -- Proofs of crate `variables`.
 pub mod Columns
-pub mod Ends
 pub mod Storing

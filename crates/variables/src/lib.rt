@@ -2,51 +2,40 @@
 
 #![tactic(auto)]
 
-ghost use Rattle.std.specs.Prelude.{◌≡◌, ◌<◌, ◌≤◌, pos, length, get_or};
+ghost use Rattle.std.specs.Prelude.{◌≡◌, ◌≤◌, length};
 ghost use Rattle.results.specs.Results.{over};
-ghost use Rattle.variables.specs.Rows.{lows_in, highs_in, firsts_in, within_ends};
+ghost use Rattle.variables.specs.Rows.{firsts_in, within_row};
 
-// The low end of a variable.
-fn low(variables: &[[i32; 3]], variable: usize) -> i32
-    requires { variable < length variables.now }
-    ensures { result ≡ get_or (lows_in variables.now) variable (pos 0) }
-{
-    variables[variable][0]
+// The low end of a variable, its high end, and its first value: a state's initial value, a flow's reset value.
+#[derive(Clone, Copy, PartialEq, Eq, Debug)]
+pub struct VariableRow {
+    pub low: i32,
+    pub high: i32,
+    pub first: i32,
 }
 
-// Its high end.
-fn high(variables: &[[i32; 3]], variable: usize) -> i32
-    requires { variable < length variables.now }
-    ensures { result ≡ get_or (highs_in variables.now) variable (pos 0) }
-{
-    variables[variable][1]
-}
+impl VariableRow {
+    // What arrays of rows are made of.
+    pub const BLANK: VariableRow = VariableRow {
+        low: 0,
+        high: 0,
+        first: 0,
+    };
 
-// Does the value lie within the ends of the variable.
-pub fn is_within(variables: &[[i32; 3]], variable: usize, value: i32) -> bool
-    requires { variable < length variables.now }
-    ensures { result ≡ within_ends (lows_in variables.now) (highs_in variables.now) variable value }
-{
-    if value < low(variables, variable) {
-        return false;
+    // Does the value lie within the ends of the variable.
+    pub fn is_within(self, value: i32) -> bool
+        ensures { result ≡ within_row self value }
+    {
+        self.low <= value && value <= self.high
     }
-    value <= high(variables, variable)
-}
-
-// The first value of a variable: a state's initial value, a flow's reset value.
-pub fn first(variables: &[[i32; 3]], variable: usize) -> i32
-    requires { variable < length variables.now }
-    ensures { result ≡ get_or (firsts_in variables.now) variable (pos 0) }
-{
-    variables[variable][2]
 }
 
 // The first values become the first cells.
-pub fn first_values(variables: &[[i32; 3]], values: &mut [i32])
+pub fn first_values(variables: &[VariableRow], values: &mut [i32])
     requires { length variables.now ≤ length values.old }
     ensures { values.new ≡ over (firsts_in variables.now) values.old }
 {
-    for x in 0..variables.len() {
-        values[x] = first(variables, x);
+    for (x, row) in variables.iter().enumerate() {
+        values[x] = row.first;
     }
 }

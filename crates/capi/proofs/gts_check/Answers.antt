@@ -1,59 +1,42 @@
 -- `gts_check` meets its contract.
 use native.Mathlib.Omega.{arith}
-use lib.ListN.{set, length-set}
+use Rattle.results.specs.Refusals.{number_of}
 use Rattle.capi.proofs.Sizing.{sizes_fit, check_refused, check_short, check_written}
 use Rattle.capi.proofs.gts_check.Goals as goal
 
 pub returns-then-sizes-lt-SIZE_CELLS : goal.returns-then-sizes-lt-SIZE_CELLS
+unfolding number_of
 returns-then-sizes-lt-SIZE_CELLS c =
     let start = c.args in
     let called = c.check in
-    check_short start.model.now start.sizes.now called.result called.ensures c.in-Ok.found c.in-Ok.is c.if-sizes-lt-SIZE_CELLS.true
+    rw c.number-then-sizes-lt-SIZE_CELLS.ensures (check_short start.model.now start.sizes.now called.result called.ensures c.in-Ok.found c.in-Ok.is c.if-sizes-lt-SIZE_CELLS.true)
 
-pub overflow_cast-sizes : goal.overflow_cast-sizes
-overflow_cast-sizes c =
+pub overflow_cast-found : goal.overflow_cast-found
+overflow_cast-found c =
     let m = c.args.model.now in
     let called = c.check in
     record { fits = omega (arith, (sizes_fit m c.shared_slice_known-1.given called.result c.in-Ok.found c.in-Ok.is called.ensures).states) }
 
-pub overflow_cast-sizes-in-Ok : goal.overflow_cast-sizes-in-Ok
-overflow_cast-sizes-in-Ok c =
+pub overflow_cast-found-in-Ok : goal.overflow_cast-found-in-Ok
+overflow_cast-found-in-Ok c =
     let m = c.args.model.now in
     let called = c.check in
     record { fits = omega (arith, (sizes_fit m c.shared_slice_known-1.given called.result c.in-Ok.found c.in-Ok.is called.ensures).flows) }
 
-pub bounds-sizes-1 : goal.bounds-sizes-1
-bounds-sizes-1 c =
-    let start = c.args in
-    let z = c.in-Ok.found in
-    omega (arith, c.if-sizes-lt-SIZE_CELLS.false, length-set start.sizes.now 0 z.states)
-
-pub overflow_cast-sizes-in-Ok-2 : goal.overflow_cast-sizes-in-Ok-2
-overflow_cast-sizes-in-Ok-2 c =
+pub overflow_cast-found-in-Ok-2 : goal.overflow_cast-found-in-Ok-2
+overflow_cast-found-in-Ok-2 c =
     let m = c.args.model.now in
     let called = c.check in
     record { fits = omega (arith, (sizes_fit m c.shared_slice_known-1.given called.result c.in-Ok.found c.in-Ok.is called.ensures).events) }
 
-pub bounds-sizes-2 : goal.bounds-sizes-2
-bounds-sizes-2 c =
-    let start = c.args in
-    let z = c.in-Ok.found in
-    omega (arith, c.if-sizes-lt-SIZE_CELLS.false, length-set start.sizes.now 0 z.states, length-set (set start.sizes.now 0 z.states) 1 z.flows)
-
-pub overflow_cast-sizes-in-Ok-3 : goal.overflow_cast-sizes-in-Ok-3
-overflow_cast-sizes-in-Ok-3 c =
+pub overflow_cast-found-in-Ok-3 : goal.overflow_cast-found-in-Ok-3
+overflow_cast-found-in-Ok-3 c =
     let m = c.args.model.now in
     let called = c.check in
     record { fits = omega (arith, (sizes_fit m c.shared_slice_known-1.given called.result c.in-Ok.found c.in-Ok.is called.ensures).transitions) }
 
-pub bounds-sizes-3 : goal.bounds-sizes-3
-bounds-sizes-3 c =
-    let start = c.args in
-    let z = c.in-Ok.found in
-    omega (arith, c.if-sizes-lt-SIZE_CELLS.false, length-set start.sizes.now 0 z.states, length-set (set start.sizes.now 0 z.states) 1 z.flows, length-set (set (set start.sizes.now 0 z.states) 1 z.flows) 2 z.events)
-
-pub overflow_cast-sizes-in-Ok-4 : goal.overflow_cast-sizes-in-Ok-4
-overflow_cast-sizes-in-Ok-4 c =
+pub overflow_cast-found-in-Ok-4 : goal.overflow_cast-found-in-Ok-4
+overflow_cast-found-in-Ok-4 c =
     let m = c.args.model.now in
     let called = c.check in
     record { fits = omega (arith, (sizes_fit m c.shared_slice_known-1.given called.result c.in-Ok.found c.in-Ok.is called.ensures).nodes) }
@@ -68,4 +51,4 @@ pub returns-else-sizes-lt-SIZE_CELLS : goal.returns-else-sizes-lt-SIZE_CELLS
 returns-else-sizes-lt-SIZE_CELLS c =
     let start = c.args in
     let called = c.check in
-    check_written start.model.now start.sizes.now called.result called.ensures c.in-Ok.found c.in-Ok.is c.if-sizes-lt-SIZE_CELLS.false
+    check_written start.model.now start.sizes.now called.result called.ensures c.in-Ok.found c.in-Ok.is c.if-sizes-lt-SIZE_CELLS.false c.copy_from_slice.ensures.after

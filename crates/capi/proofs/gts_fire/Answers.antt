@@ -5,7 +5,7 @@ use Rattle.capi.proofs.gts_fire.Goals as goal
 pub returns : goal.returns
 returns c =
     let start = c.args in
-    let called = c.fire-answer in
-    fire_coded start.model.now start.rounds.now c.code_of.result c.rounds_or.result called.result
-    c.code_of.ensures c.rounds_or.ensures start.values.now start.marks.now start.history.now start.n.now start.transition
+    let called = c.fire in
+    fire_coded start.model.now start.rounds.now c.hand.result c.hand.new.cell called.result
+    c.hand.ensures.code c.hand.ensures.value start.values.now start.marks.now start.history.now start.n.now start.transition
     called.new.values called.new.marks called.new.history called.new.n called.ensures

@@ -6,5 +6,5 @@ pub returns : goal.returns
 returns c =
     let start = c.args in
     let called = c.marks in
-    marks_coded start.model.now c.code_of.result called.result c.code_of.ensures
+    marks_coded start.model.now c.code.result called.result c.code.ensures
     start.values.now start.marks.now start.history.now start.n start.buffer.now called.new.buffer called.ensures

@@ -6,5 +6,5 @@ pub returns : goal.returns
 returns c =
     let start = c.args in
     let called = c.undo in
-    undo_coded start.model.now c.code_of.result called.result c.code_of.ensures
+    undo_coded start.model.now c.code.result called.result c.code.ensures
     start.values.now start.marks.now start.history.now start.n.now called.new.values called.new.marks called.new.n called.ensures

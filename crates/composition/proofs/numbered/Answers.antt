@@ -5,6 +5,7 @@ use mir.Val.{SFits}
 use mir.ValLaws.{to_z-of_z}
 use Rattle.std.specs.Result.{OkIff, result_unwrap_or}
 use Rattle.composition.specs.Parts.{held}
+use Rattle.composition.proofs.Bytes.{kind_itself}
 use Rattle.composition.proofs.numbered.Goals as goal
 
 -- what a result that was tried comes to
@@ -17,4 +18,4 @@ unfolding held
 returns c =
     let fits : SFits w32 c.unwrap_or-parameter.result = search rules in
     let is = c.unwrap_or-parameter.ensures ∙ saturated c.try_from.result c.args.number c.try_from.ensures in
-    rw (to_z-of_z w32 c.unwrap_or-parameter.result fits, is, c.code.ensures)
+    rw (to_z-of_z w32 c.unwrap_or-parameter.result fits, is, kind_itself c.args.kind)

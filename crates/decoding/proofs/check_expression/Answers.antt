@@ -8,8 +8,8 @@ use Rattle.decoding.proofs.VariablesInUse.{SortsInUse, sorts_in_use}
 use Rattle.decoding.proofs.Handed.{refused_given, ready_given}
 use Rattle.decoding.proofs.check_expression.Goals as goal
 
-pub overflow_add-count : goal.overflow_add-count
-overflow_add-count c =
+pub variables-requires : goal.variables-requires
+variables-requires c =
     let sizes : Sizes = c.in_ok-sizes.sizes in
     let used : SortsInUse c.args.model.now sizes
     c.sorts_of.new.sorts =
@@ -24,7 +24,7 @@ slice_bounds-sorts-end c =
     c.sorts_of.new.sorts =
     sorts_in_use c.args.model.now c.shared_slice_known-1.given _ c.sorts_of.new.sorts sizes
     c.sorts_of.result c.sorts_of.ensures c.in_ok-sizes.was in
-    part_within _ c.sorts_of.new.sorts used.part
+    rw c.variables.ensures (part_within _ c.sorts_of.new.sorts used.part)
 
 pub slice_bounds-check_over_sorts-end : goal.slice_bounds-check_over_sorts-end
 slice_bounds-check_over_sorts-end c =
@@ -33,14 +33,14 @@ slice_bounds-check_over_sorts-end c =
     c.sorts_of.new.sorts =
     sorts_in_use c.args.model.now c.shared_slice_known-1.given _ c.sorts_of.new.sorts sizes
     c.sorts_of.result c.sorts_of.ensures c.in_ok-sizes.was in
-    used.part
+    rw c.variables.ensures used.part
 
 pub returns-in_err-sizes : goal.returns-in_err-sizes
 returns-in_err-sizes c =
     let given = c.args in
     let e = err_from_is_err_and c.from_residual.result c.from_residual.ensures.1 in
     rw (e.1, e.2)
-    (refused_given given.model.now given.kinds.now given.parameters.now (Some given.wanted)
+    (refused_given given.model.now given.tree.now.kinds.now given.tree.now.parameters.now (Some given.wanted)
     c.sorts_of.new.sorts _ c.sorts_of.result _ c.sorts_of.ensures c.in_err-sizes.was)
 
 pub returns : goal.returns
@@ -54,5 +54,5 @@ returns c =
     read.sorts_of.result read.sorts_of.ensures c.in_ok-sizes.was in
     let read = c in
     let given = read.args in
-    ready_given given.model.now given.kinds.now given.parameters.now (Some given.wanted)
-    read.sorts_of.new.sorts sizes c.check_over_sorts.result used c.check_over_sorts.ensures
+    ready_given given.model.now given.tree.now.kinds.now given.tree.now.parameters.now (Some given.wanted)
+    read.sorts_of.new.sorts sizes c.check_over_sorts.result used (rw c.variables.ensures at c.check_over_sorts.ensures)

@@ -7,19 +7,19 @@ use Rattle.model.proofs.Encoding.{SizedAs}
 use Rattle.decoding.proofs.Preparing.{answer_sizes, lent_kinds, lent_parameters, steps_decoded}
 use Rattle.decoding.proofs.decode.Goals as goal
 
-pub slice_bounds-next_places-end : goal.slice_bounds-next_places-end
-slice_bounds-next_places-end c =
+pub slice_bounds-tree-end : goal.slice_bounds-tree-end
+slice_bounds-tree-end c =
     omega (arith, c.requires.1.0, c.decode_variables-transitions.auto.parameters)
 
-pub slice_bounds-next_places-end-2 : goal.slice_bounds-next_places-end-2
-slice_bounds-next_places-end-2 c =
+pub slice_bounds-tree-end-2 : goal.slice_bounds-tree-end-2
+slice_bounds-tree-end-2 c =
     let sizes : SizedAs c.args.model.now c.args.sizes = answer_sizes _ _ c.requires.0 in
     sym (length-take-le c.args.sizes.nodes c.decode_variables-transitions.new.parameters (omega (arith, c.requires.1.0, c.decode_variables-transitions.auto.parameters)))
 
 pub next_places-requires : goal.next_places-requires
 next_places-requires c =
     let sizes : SizedAs c.args.model.now c.args.sizes = answer_sizes _ _ c.requires.0 in
-    let kinds = c.kinds_of-kinds.ensures in
+    let kinds = c.kinds_of.ensures in
     let m = c.args.model.now in
     let s = c.args.sizes in
     let many = lent_kinds m s _ kinds sizes in (
@@ -44,7 +44,7 @@ returns c =
     (arrays declared.new.parameters declared.new.variables nexts.new.nexts guards.new.guards)
     declared.result guards.result
     (record {
-      kinds = c.kinds_of-kinds.ensures;
+      kinds = c.kinds_of.ensures;
       declared = declared.ensures;
       nexts = nexts.ensures;
       long = c.requires.1.2;

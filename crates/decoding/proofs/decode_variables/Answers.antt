@@ -16,17 +16,17 @@ parameters_in-requires c =
     let sizes : SizedAs c.args.model.now c.args.sizes = answer_sizes _ _ c.requires.0 in
     (c.requires.1, omega (arith, sizes))
 
-pub slice_bounds-read_variables-end : goal.slice_bounds-read_variables-end
-slice_bounds-read_variables-end c =
+pub slice_bounds-tree-end : goal.slice_bounds-tree-end
+slice_bounds-tree-end c =
     omega (arith, c.requires.1, c.parameters_in.auto.parameters)
 
-pub slice_bounds-read_variables-end-2 : goal.slice_bounds-read_variables-end-2
-slice_bounds-read_variables-end-2 c =
+pub slice_bounds-tree-end-2 : goal.slice_bounds-tree-end-2
+slice_bounds-tree-end-2 c =
     let sizes : SizedAs c.args.model.now c.args.sizes = answer_sizes _ _ c.requires.0 in
     sym (length-take-le c.args.sizes.nodes c.parameters_in.new.parameters (omega (arith, c.requires.1, c.parameters_in.auto.parameters)))
 
-pub overflow_add-sizes : goal.overflow_add-sizes
-overflow_add-sizes c =
+pub variables-requires : goal.variables-requires
+variables-requires c =
     let sizes : SizedAs c.args.model.now c.args.sizes = answer_sizes _ _ c.requires.0 in
     let fits : Fits c.args.sizes = answer_fits _ _ c.shared_slice_known-1.given c.requires.0 in
     omega (arith, fits)
@@ -34,13 +34,13 @@ overflow_add-sizes c =
 pub read_variables-requires : goal.read_variables-requires
 read_variables-requires c =
     let sizes : SizedAs c.args.model.now c.args.sizes = answer_sizes _ _ c.requires.0 in
-    let kinds = c.kinds_of-kinds.ensures in
+    let kinds = c.kinds_of.ensures in
     let m = c.args.model.now in
     let s = c.args.sizes in
     let parameters = c.parameters_in.new.parameters in (
       lent_parameters m s _ kinds parameters sizes (omega (arith, c.requires.1, c.parameters_in.auto.parameters)),
-      variables_asked m s _ _ kinds (parameters_front m s.nodes _ parameters c.parameters_in.ensures) c.requires.0,
-      c.requires.2,
+      rw c.variables.ensures (variables_asked m s _ _ kinds (parameters_front m s.nodes _ parameters c.parameters_in.ensures) c.requires.0),
+      rw c.variables.ensures c.requires.2,
     )
 
 pub returns : goal.returns
@@ -48,4 +48,4 @@ returns c =
     let sizes : SizedAs c.args.model.now c.args.sizes = answer_sizes _ _ c.requires.0 in
     variables_decoded_lem c.args.model.now c.args.sizes _ c.args.parameters.now c.parameters_in.new.parameters
     c.args.variables.now c.read_variables.new.variables c.read_variables.result
-    c.kinds_of-kinds.ensures c.parameters_in.ensures c.read_variables.ensures
+    c.kinds_of.ensures c.parameters_in.ensures (rw c.variables.ensures at c.read_variables.ensures)

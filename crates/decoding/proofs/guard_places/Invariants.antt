@@ -2,5 +2,5 @@
 use Rattle.decoding.proofs.StoredGuards.{GuardsStored}
 use Rattle.decoding.proofs.guard_places.Given as goal
 
-abbrev pub invariant-loop-i : goal.invariant-loop-i
-invariant-loop-i l = GuardsStored l.nexts l.count l.from l.i l.at l.guards l.initial.guards
+abbrev pub invariant-loop-guard : goal.invariant-loop-guard
+invariant-loop-guard l = GuardsStored l.nexts l.count l.from l.guard-index l.at l.guard-items l.initial.guard-items

@@ -18,10 +18,10 @@ pub loop-at-preserved : goal.loop-at-preserved
 loop-at-preserved c =
     let given = c.args in
     let turn = c.loop-at in
-    let p = get_or given.parameters.now (turn.at - 1) (pos 0) in (
+    let p = get_or given.tree.now.parameters.now (turn.at - 1) (pos 0) in (
       sym
-          (filled_turn given.kinds.now given.parameters.now turn.at turn.nexts c.children_of-children.result c.follow-after.result c.loop-at-test.true
-          (c.children_of-children.ensures ∙ ap (children_by (get_or given.kinds.now (turn.at - 1) 0)) (read_back p c.children_of-arg-1.given))
+          (filled_turn given.tree.now.kinds.now given.tree.now.parameters.now turn.at turn.nexts c.children_of-children.result c.follow-after.result c.loop-at-test.true
+          (c.children_of-children.ensures ∙ ap (children_by (get_or given.tree.now.kinds.now (turn.at - 1) 0)) (read_back p (omega arith)))
           c.follow-after.ensures.0)
           ∙ turn.invariant.0,
       length-set turn.nexts (turn.at - 1) c.follow-after.result ∙ turn.invariant.1,

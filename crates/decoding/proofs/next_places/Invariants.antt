@@ -6,4 +6,4 @@ use Rattle.decoding.proofs.next_places.Given as goal
 
 abbrev pub invariant-loop-at : goal.invariant-loop-at
 invariant-loop-at l =
-    (filled l.kinds l.parameters l.at l.nexts ≡ filled l.kinds l.parameters (length l.kinds) l.initial.nexts) × (length l.nexts ≡ length l.initial.nexts)
+    (filled l.tree.kinds.now l.tree.parameters.now l.at l.nexts ≡ filled l.tree.kinds.now l.tree.parameters.now (length l.tree.kinds.now) l.initial.nexts) × (length l.nexts ≡ length l.initial.nexts)

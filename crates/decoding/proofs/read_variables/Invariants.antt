@@ -3,6 +3,6 @@ use Rattle.variables.specs.Rows.{variable_row}
 use Rattle.decoding.proofs.StoredVariables.{VariablesStored}
 use Rattle.decoding.proofs.read_variables.Given as goal
 
-abbrev pub invariant-loop-i : goal.invariant-loop-i
-invariant-loop-i l =
-    VariablesStored variable_row l.kinds l.parameters l.count l.i l.at l.variables l.initial.variables
+abbrev pub invariant-loop-row : goal.invariant-loop-row
+invariant-loop-row l =
+    VariablesStored variable_row l.tree.kinds.now l.tree.parameters.now l.count l.row-index l.at l.row-items l.initial.row-items

@@ -9,5 +9,5 @@ use Rattle.decoding.proofs.sorts_in.Given as goal
 abbrev pub sort : Variable → Sort
 sort v = v.sort
 
-abbrev pub invariant-loop-i : goal.invariant-loop-i
-invariant-loop-i l = (ps : List ℤ) → VariablesStored sort l.kinds ps l.count l.i l.at l.sorts l.initial.sorts
+abbrev pub invariant-loop-sort : goal.invariant-loop-sort
+invariant-loop-sort l = (ps : List ℤ) → VariablesStored sort l.kinds ps l.count l.sort-index l.at l.sort-items l.initial.sort-items

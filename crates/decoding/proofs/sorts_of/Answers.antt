@@ -11,8 +11,8 @@ use Rattle.decoding.proofs.Preparing.{answer_fits, sorts_asked}
 use Rattle.decoding.proofs.VariablesInUse.{kept, sorts_read}
 use Rattle.decoding.proofs.sorts_of.Goals as goal
 
-pub overflow_add-sizes : goal.overflow_add-sizes
-overflow_add-sizes c =
+pub variables-requires : goal.variables-requires
+variables-requires c =
     let sizes : Sizes = c.in_ok-sizes.sizes in
     let answer : answer_of (verdict c.args.model.now) ≡ Ok sizes = sym c.check.ensures ∙ c.in_ok-sizes.was in
     let fits : Fits sizes = answer_fits _ _ c.shared_slice_known-1.given answer in
@@ -23,8 +23,8 @@ sorts_in-requires c =
     let sizes : Sizes = c.in_ok-sizes.sizes in
     let answer : answer_of (verdict c.args.model.now) ≡ Ok sizes = sym c.check.ensures ∙ c.in_ok-sizes.was in
     let fits : Fits sizes = answer_fits _ _ c.shared_slice_known-1.given answer in (
-      sorts_asked _ sizes _ c.kinds_of-kinds.ensures answer,
-      omega (arith, fits, c.sorts_in-arg-1.given.0.1),
+      rw c.variables.ensures (sorts_asked _ sizes _ c.kinds_of-kinds.ensures answer),
+      omega (arith, fits, c.variables.ensures, c.sorts_in-arg-1.given.0.1),
     )
 
 pub returns-in_err-sizes : goal.returns-in_err-sizes
@@ -40,4 +40,4 @@ returns c =
     let answer : answer_of (verdict c.args.model.now) ≡ Ok sizes = sym c.check.ensures ∙ c.in_ok-sizes.was in
     let given = c.args in
     sorts_read given.model.now given.sorts.now sizes _ c.sorts_in.new.sorts
-    answer c.kinds_of-kinds.ensures c.sorts_in.ensures
+    answer c.kinds_of-kinds.ensures (rw c.variables.ensures at c.sorts_in.ensures)

@@ -1,7 +1,7 @@
 -- The first bytes of the eight.
 use mathlib.Core.Path.{ap, ◌∙◌}
 use lib.ListN.{take}
-use Rattle.encoding.specs.Tapes.{tape_in, put_all}
+use Rattle.tapes.specs.Tapes.{tape_in, put_all}
 use Rattle.encoding.proofs.Numbers.{low_bytes}
 use Rattle.encoding.proofs.put_number.Goals as goal
 

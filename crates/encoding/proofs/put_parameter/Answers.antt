@@ -5,7 +5,7 @@ use mir.Val.{of_z}
 use Rattle.std.proofs.lemmas.Int.{to_z-of_z}
 use Rattle.std.specs.Int.{bytes_low_first}
 use Rattle.model.specs.Nodes.{little_bytes}
-use Rattle.encoding.specs.Tapes.{tape_in, put_all}
+use Rattle.tapes.specs.Tapes.{tape_in, put_all}
 use Rattle.encoding.proofs.Numbers.{all_bytes, complement}
 use Rattle.encoding.proofs.put_parameter.Goals as goal
 

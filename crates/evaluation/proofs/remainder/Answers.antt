@@ -1,15 +1,11 @@
 -- The remainder of two 32-bit numbers fits 64 bits, where it is checked; by 0 it failed.
 use mathlib.Core.Path.{◌∙◌}
 use lib.Signed.{rem_z}
-use Rattle.evaluation.proofs.Signed.{answer_fits, divisor, divided_by_zero, divided_same, quotient_widens, remainder_widens}
+use Rattle.evaluation.proofs.Signed.{divided_by_zero, divided_same, remainder_widens}
 use Rattle.evaluation.proofs.remainder.Goals as goal
 
 pub returns-then-y-eq0 : goal.returns-then-y-eq0
 returns-then-y-eq0 c = divided_by_zero rem_z c.args.x c.ranges.y c.if-y-eq0.true
-
-pub nonzero_rem-from : goal.nonzero_rem-from
-nonzero_rem-from c =
-    rw (c.from.ensures, c.from-2.ensures) (divisor c.ranges.y c.if-y-eq0.false, answer_fits quotient_widens c.ranges.x c.ranges.y)
 
 pub returns : goal.returns
 returns c =

@@ -1,8 +1,6 @@
 use Prim.Native.Nat.{◌+◌}
-use mathlib.Core.Path.{◌∙◌}
+use mathlib.Core.Path.{sym, ◌∙◌}
 use native.Mathlib.Omega.{arith}
-use mir.Syntax.{w32}
-use Rattle.evaluation.proofs.Signed.{equal_bits, other_bits, one_fits}
 use Rattle.expressions.specs.Cells.{valuation_of}
 use Rattle.expressions.proofs.Evaluating.{Told, expression_within, negation_given, conditional_given, binary_given, first_stands_lem, second_stands_lem, branches_stand, kinds_stand, here_stands, skipped_stands, evaluated_stands, both_given, then_given, else_given}
 use Rattle.expressions.proofs.+conditional_evaluate.Goals.{evaluate-then-kinds-child-lt-NEGATION, evaluate-else-kinds-child-lt-NEGATION, evaluate-then-kinds-place-lt-NEGATION, evaluate-else-kinds-place-lt-NEGATION}
@@ -16,9 +14,9 @@ pub conditional-past-requires : goal.conditional-past-requires
 conditional-past-requires t c =
     kinds_stand c.args.kinds.now c.args.parameters.now (evaluated_stands c.args.kinds.now c.args.parameters.now c.args.cursor.at c.requires (valuation_of c.args.cells.now) c.evaluate-first.ensures).0
 
-pub conditional-returns-then-v-eq1 : goal.conditional-returns-then-v-eq1
-conditional-returns-then-v-eq1 t c =
-    then_given c.args.kinds.now c.args.parameters.now c.args.cursor.at (valuation_of c.args.cells.now) c.in-Value.is (equal_bits w32 (record { sfits = c.in-Value.known_told-1-own.given.0.1 }) one_fits c.if-v-eq1.true) c.evaluate-first.ensures c.past.ensures
+pub conditional-returns-then-is_true : goal.conditional-returns-then-is_true
+conditional-returns-then-is_true t c =
+    then_given c.args.kinds.now c.args.parameters.now c.args.cursor.at (valuation_of c.args.cells.now) c.in-Value.is (sym c.is_true.ensures ∙ c.if-is_true.true) c.evaluate-first.ensures c.past.ensures
 
 pub conditional-past-requires-in-Value : goal.conditional-past-requires-in-Value
 conditional-past-requires-in-Value t c =
@@ -31,7 +29,7 @@ conditional-evaluate-requires t c =
 
 pub conditional-returns-in-Value : goal.conditional-returns-in-Value
 conditional-returns-in-Value t c =
-    else_given c.args.kinds.now c.args.parameters.now c.args.cursor.at (valuation_of c.args.cells.now) c.in-Value.is (other_bits w32 (record { sfits = c.in-Value.known_told-1-own.given.0.1 }) one_fits c.if-v-eq1.false) c.past-in-Value.ensures c.evaluate.ensures
+    else_given c.args.kinds.now c.args.parameters.now c.args.cursor.at (valuation_of c.args.cells.now) c.in-Value.is (sym c.is_true.ensures ∙ c.if-is_true.false) c.past-in-Value.ensures c.evaluate.ensures
 
 pub conditional-evaluate-first-requires-2 : goal.conditional-evaluate-first-requires-2
 conditional-evaluate-first-requires-2 t c =

@@ -5,4 +5,4 @@ use Rattle.indexing.proofs.index.Given as goal
 
 abbrev pub invariant-loop-at : goal.invariant-loop-at
 invariant-loop-at l =
-    (length l.heads ≡ length l.initial.heads) × (length l.links ≡ length l.initial.links) × (l.at ≤ length l.kinds) × (l.assertion ≤ l.at) × Linked l.kinds l.parameters l.at l.heads l.links
+    (length l.heads ≡ length l.initial.heads) × (length l.links ≡ length l.initial.links) × (l.at ≤ length l.tree.kinds.now) × (l.assertion ≤ l.at) × Linked l.tree.kinds.now l.tree.parameters.now l.at l.heads l.links

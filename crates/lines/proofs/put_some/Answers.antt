@@ -1,12 +1,9 @@
 -- A number, or nothing.
-use Rattle.lines.proofs.Lines.{some_room, some_put, none_put}
+use Rattle.lines.proofs.Lines.{some_put, nothing_put}
 use Rattle.lines.proofs.put_some.Goals as goal
 
-pub put_number-requires : goal.put_number-requires
-put_number-requires c = some_room c.args.at c.in-Some.is c.requires
+pub returns-in-Some-clause-put : goal.returns-in-Some-clause-put
+returns-in-Some-clause-put c = some_put _ c.in-Some.is c.put_number.ensures.put
 
-pub returns-in-Some : goal.returns-in-Some
-returns-in-Some c = some_put c.in-Some.is c.put_number.ensures
-
-pub returns-in-None : goal.returns-in-None
-returns-in-None c = none_put c.args.out.now c.args.at c.in-None.is
+pub returns-in_default-clause-put : goal.returns-in_default-clause-put
+returns-in_default-clause-put c = nothing_put c.in_default.is

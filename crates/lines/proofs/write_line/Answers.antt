@@ -1,7 +1,7 @@
 -- The word, the number, the fields and the line feed, one after the other.
-use Rattle.std.proofs.Common.{◌≤◌, [], length, map, arith}
+use Rattle.std.proofs.Common.{◌≤◌, [], length, map, sym, ◌∙◌, arith}
 use Rattle.lines.specs.Lines.{room}
-use Rattle.lines.proofs.Lines.{too_short_lem, has_room, text, line_written}
+use Rattle.lines.proofs.Lines.{too_short_lem, has_room, text, text_put, line_written}
 use Rattle.lines.proofs.write_line.Goals as goal
 
 pub returns-then-is_short : goal.returns-then-is_short
@@ -12,8 +12,13 @@ returns-then-is_short g c =
 pub returns : goal.returns
 returns g c =
     let a = c.args in
-    let p = rw c.copy_from_slice.ensures.after at c.put_some-after.ensures in
-    let q = c.put_fields-end.ensures in
+    let fields = map g.T.Field.text a.fields.now in
+    let word = c.put.ensures in
+    let first = c.put_some.ensures in
+    let others = c.put_fields.ensures in
+    let feed = c.put_one.ensures in
     let enough : room g.T.Field.WIDTH (length a.fields.now) ≤ length a.out.now = has_room a.out.now [] _ c.is_short.ensures c.if-is_short.false in
-    line_written a.word.now a.number (map g.T.Field.text a.fields.now) a.out.now (omega (arith, c.requires)) p q.put
-    (omega (arith, c.requires, p.place, q.upper_bound)) enough
+    rw (c.out-1.given.1.1 (sym (feed.same_cells ∙ others.same_cells ∙ first.same_cells ∙ word.same_cells)))
+    (line_written a.word.now a.number fields a.out.now enough
+    (text_put a.word.now a.number fields a.out.now word.put first.put others.put feed.put)
+    (omega (arith, c.requires, others.upper_bound)))

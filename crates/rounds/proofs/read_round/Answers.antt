@@ -1,10 +1,9 @@
 -- The first round is the reading of the assertion; a later one goes on from the round before.
-use mathlib.Core.Path.{sym, ap}
-use native.Mathlib.Omega.{arith}
+use mathlib.Core.Path.{ap}
 use lib.ListN.{length}
 use Rattle.interpreter.proofs.Nothing.{nothing_by_default}
 use Rattle.rounds.proofs.Propagating.{may_gather}
-use Rattle.rounds.proofs.Turning.{when_first, when_later, first_goes, later_goes, later_wakes}
+use Rattle.rounds.proofs.Turning.{when_later, first_goes, later_goes, later_wakes}
 use Rattle.rounds.proofs.read_round.Goals as goal
 
 pub gather-requires : goal.gather-requires
@@ -16,14 +15,6 @@ returns-then-round-eq1-clause-turn c =
     let e = c.gather.ensures in
     let g = c.gather.new.gathering in
     λ start ready. first_goes c.requires.0.stands ready (nothing_by_default c.default-gathering.result c.default-gathering.ensures) c.requires.1.2 {given' = g.given.now} {queue' = g.queue.now} {waits' = g.waits.now} c.if-round-eq1.true e.read e.same.given_length e.whole.0 e.whole.1
-
-pub returns-then-round-eq1-clause-applied : goal.returns-then-round-eq1-clause-applied
-returns-then-round-eq1-clause-applied c = sym (when_first c.requires.0.stands c.requires.0.ready c.if-round-eq1.true).same
-
-pub apply-requires : goal.apply-requires
-apply-requires c =
-    let t = (when_later c.requires.0.stands c.requires.0.ready c.if-round-eq1.false).turn in
-    (t.owed, (t.entries.0, λ k h. omega (arith, t.entries.1 k h, c.requires.1.2)), t.ordered)
 
 pub wake_all-requires : goal.wake_all-requires
 wake_all-requires c =
@@ -37,6 +28,3 @@ returns-clause-turn c =
     let w = c.wake_all in
     let g = w.new.gathering in
     λ start ready. later_goes c.requires.0.stands ready (nothing_by_default c.default-gathering.result c.default-gathering.ensures) c.requires.1.2 {given' = g.given.now} {queue' = g.queue.now} {waits' = g.waits.now} c.if-round-eq1.false y.ensures c.requires.1.0 w.ensures.still w.ensures.passed w.ensures.same.given_length
-
-pub returns-clause-applied : goal.returns-clause-applied
-returns-clause-applied c = c.apply.ensures

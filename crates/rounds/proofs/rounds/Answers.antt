@@ -1,27 +1,15 @@
 -- The rounds, one after the other.
 use mathlib.Core.Path.{◌≡◌, refl, sym, ◌∙◌}
-use mathlib.Core.Logic.{inl, inr}
+use mathlib.Core.Logic.{inr}
 use mathlib.Core.Bool.{true}
 use mathlib.Core.Option.{none}
 use native.Mathlib.Omega.{arith}
 use Rattle.interpreter.specs.Gathering.{fault_in}
-use Rattle.reading.proofs.Cells.{same_cells, same_then}
+use Rattle.reading.proofs.Cells.{same_then}
+use Rattle.rounds.specs.Cells.{ending}
 use Rattle.rounds.proofs.Propagating.{finding_clear, finding_faulty}
-use Rattle.rounds.proofs.Turning.{round_within, turn_falls, turn_stops, turn_rests}
+use Rattle.rounds.proofs.Turning.{turn_falls, turn_stops, turn_rests}
 use Rattle.rounds.proofs.rounds.Goals as goal
-
-pub loop-fault-init : goal.loop-fault-init
-loop-fault-init c =
-    (same_cells _, refl, c.requires.1, inl (record { first = refl; start = refl; same = c.requires.4; blank = c.requires.3; nothing_queued = refl }))
-
-pub read_round-requires : goal.read_round-requires
-read_round-requires c =
-    let v = c.loop-fault.invariant in
-    (record { stands = c.requires.0; start = c.args.cells.now; ready = v.3 }, v.2, c.requires.2)
-
-pub overflow_add-round : goal.overflow_add-round
-overflow_add-round c =
-    omega (arith, round_within c.requires.0 (c.read_round.ensures.turn c.args.cells.now c.loop-fault.invariant.3))
 
 pub loop-fault-smaller : goal.loop-fault-smaller
 loop-fault-smaller c =
@@ -62,3 +50,19 @@ returns-then-not-gathering-clause-reached c =
     let t = r.ensures.turn c.args.cells.now c.loop-fault.invariant.3 in
     let clear : fault_in g.found ≡ none = finding_clear (fault_in g.found) (sym c.fault_in.ensures ∙ c.in-Ok.is) in
     λ a. rw (c.from.ensures) (turn_rests t a clear c.if-not-gathering.true)
+
+pub returns-in-Err-clause-found : goal.returns-in-Err-clause-found
+unfolding ending
+returns-in-Err-clause-found c = (sym c.fault_in.ensures ∙ c.in-Err.is, tt)
+
+pub returns-then-not-gathering-clause-found : goal.returns-then-not-gathering-clause-found
+unfolding ending
+returns-then-not-gathering-clause-found c = (sym c.fault_in.ensures ∙ c.in-Ok.is, c.if-not-gathering.true)
+
+pub returns-in-Err-clause-counted : goal.returns-in-Err-clause-counted
+returns-in-Err-clause-counted c =
+    let t = c.read_round.ensures.turn c.args.cells.now c.loop-fault.invariant.3 in (t.entries, t.counted)
+
+pub returns-then-not-gathering-clause-counted : goal.returns-then-not-gathering-clause-counted
+returns-then-not-gathering-clause-counted c =
+    let t = c.read_round.ensures.turn c.args.cells.now c.loop-fault.invariant.3 in (t.entries, t.counted)

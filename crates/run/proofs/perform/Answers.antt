@@ -1,109 +1,92 @@
 -- `perform` meets its contract: each call from what its function ensures.
-use mathlib.Core.Path.{ap}
-use Rattle.results.specs.Refusals.{number_of}
-use Rattle.standing.specs.Runs.{run, store}
-use Rattle.steps.specs.Answers.{seen}
-use Rattle.steps.specs.declared.Answer.TheVariants.{Refused, Sizes}
-use Rattle.run.specs.Promises.{seen_check}
-use Rattle.run.specs.declared.Call.TheVariants.{Start, Fire, Undo, Marks, Value, Pick, FirstOutside}
+use mathlib.Core.Path.{◌≡◌}
+use Rattle.standing.specs.Runs.Answer.{rounds, done, number, sizes, picked}
+use Rattle.steps.specs.Answers.{seen_as}
+use Rattle.inspection.specs.Asked.{told_outside}
+use Rattle.run.specs.Lent.{store_in}
+use Rattle.run.specs.Promises.{told}
+use Rattle.run.specs.declared.Call.TheVariants.{Check, Start, Fire, Undo, Marks, Value, Pick, FirstOutside}
 use Rattle.run.proofs.Reached.{calls_reached}
-use Rattle.run.proofs.Promised.{performed, checked}
+use Rattle.run.proofs.Promised.{performed}
+use borrow.Author.Rules.{rules}
 use Rattle.run.proofs.perform.Goals as goal
 
-pub returns-in-Err : goal.returns-in-Err
-unfolding seen seen_check
-returns-in-Err c =
-    let start = c.args in
-    let m = start.model.now in
-    let bytes = c.shared_slice_known-1.given in
-    let lent = store (run start.values.now start.marks.now start.history.now start.n.now) start.buffer.now in
+pub returns-in-Check-clause-performed : goal.returns-in-Check-clause-performed
+unfolding told
+returns-in-Check-clause-performed c =
+    let m = c.args.model.now in
+    let lent = c.args.store.now in
     let called = c.check in
-    rw c.number.ensures (checked m bytes start.call lent called.result (Refused (number_of c.in-Err.refusal)) c.in-Check.is
-    called.ensures (ap seen_check c.in-Err.is))
+    let tells : seen_as told c.map.result ≡ seen_as sizes called.result = search rules in
+    performed m c.type_inv.model c.args.call Check (store_in lent) c.map.result _ c.in-Check.is tells
+    (calls_reached.check m (store_in lent) called.result called.ensures)
 
-pub returns-in-Ok : goal.returns-in-Ok
-unfolding seen seen_check
-returns-in-Ok c =
-    let start = c.args in
-    let m = start.model.now in
-    let bytes = c.shared_slice_known-1.given in
-    let lent = store (run start.values.now start.marks.now start.history.now start.n.now) start.buffer.now in
-    let called = c.check in
-    checked m bytes start.call lent called.result (Sizes c.in-Ok.sizes) c.in-Check.is
-    called.ensures (ap seen_check c.in-Ok.is)
-
-pub returns-in-Start : goal.returns-in-Start
-returns-in-Start c =
-    let start = c.args in
-    let m = start.model.now in
-    let bytes = c.shared_slice_known-1.given in
-    let lent = store (run start.values.now start.marks.now start.history.now start.n.now) start.buffer.now in
+pub returns-in-Start-clause-performed : goal.returns-in-Start-clause-performed
+unfolding told
+returns-in-Start-clause-performed c =
+    let m = c.args.model.now in
+    let lent = c.args.store.now in
     let called = c.start in
-    performed m bytes start.call Start lent called.result _ c.in-Start.is
-    (calls_reached.start m start.values.now start.marks.now start.history.now start.n.now start.buffer.now called.result
-    called.new.values called.new.marks called.new.n called.ensures)
+    let tells : seen_as told c.map-in-Start.result ≡ seen_as rounds called.result = search rules in
+    performed m c.type_inv.model c.args.call Start (store_in lent) c.map-in-Start.result _ c.in-Start.is tells
+    (calls_reached.start m lent.values.now lent.marks.now lent.history.now lent.n lent.buffer.now called.result called.new.values called.new.marks called.new.n called.ensures)
 
-pub returns-in-Fire : goal.returns-in-Fire
-returns-in-Fire c =
-    let start = c.args in
-    let m = start.model.now in
-    let bytes = c.shared_slice_known-1.given in
-    let lent = store (run start.values.now start.marks.now start.history.now start.n.now) start.buffer.now in
+pub returns-in-Fire-clause-performed : goal.returns-in-Fire-clause-performed
+unfolding told
+returns-in-Fire-clause-performed c =
+    let m = c.args.model.now in
+    let lent = c.args.store.now in
     let called = c.fire in
-    let transition = c.in-Fire.transition in
-    performed m bytes start.call (Fire transition) lent called.result _ c.in-Fire.is
-    (calls_reached.fire m start.values.now start.marks.now start.history.now start.n.now transition start.buffer.now called.result
-    called.new.values called.new.marks called.new.history called.new.n called.ensures)
+    let tells : seen_as told c.map-in-Fire.result ≡ seen_as rounds called.result = search rules in
+    performed m c.type_inv.model c.args.call (Fire c.in-Fire.transition) (store_in lent) c.map-in-Fire.result _ c.in-Fire.is tells
+    (calls_reached.fire m lent.values.now lent.marks.now lent.history.now lent.n c.in-Fire.transition lent.buffer.now called.result called.new.values called.new.marks called.new.history called.new.n called.ensures)
 
-pub returns-in-Undo : goal.returns-in-Undo
-returns-in-Undo c =
-    let start = c.args in
-    let m = start.model.now in
-    let bytes = c.shared_slice_known-1.given in
-    let lent = store (run start.values.now start.marks.now start.history.now start.n.now) start.buffer.now in
+pub returns-in-Undo-clause-performed : goal.returns-in-Undo-clause-performed
+unfolding told
+returns-in-Undo-clause-performed c =
+    let m = c.args.model.now in
+    let lent = c.args.store.now in
     let called = c.undo in
-    performed m bytes start.call Undo lent called.result _ c.in-Undo.is
-    (calls_reached.undo m start.values.now start.marks.now start.history.now start.n.now start.buffer.now called.result
-    called.new.values called.new.marks called.new.n called.ensures)
+    let tells : seen_as told c.map-in-Undo.result ≡ seen_as (λ _. done) called.result = search rules in
+    performed m c.type_inv.model c.args.call Undo (store_in lent) c.map-in-Undo.result _ c.in-Undo.is tells
+    (calls_reached.undo m lent.values.now lent.marks.now lent.history.now lent.n lent.buffer.now called.result called.new.values called.new.marks called.new.n called.ensures)
 
-pub returns-in-Marks : goal.returns-in-Marks
-returns-in-Marks c =
-    let start = c.args in
-    let m = start.model.now in
-    let bytes = c.shared_slice_known-1.given in
-    let lent = store (run start.values.now start.marks.now start.history.now start.n.now) start.buffer.now in
+pub returns-in-Marks-clause-performed : goal.returns-in-Marks-clause-performed
+unfolding told
+returns-in-Marks-clause-performed c =
+    let m = c.args.model.now in
+    let lent = c.args.store.now in
     let called = c.marks in
-    performed m bytes start.call Marks lent called.result _ c.in-Marks.is
-    (calls_reached.marks m start.values.now start.marks.now start.history.now start.n.now start.buffer.now called.result
-    called.new.buffer called.ensures)
+    let tells : seen_as told c.map-in-Marks.result ≡ seen_as (λ _. done) called.result = search rules in
+    performed m c.type_inv.model c.args.call Marks (store_in lent) c.map-in-Marks.result _ c.in-Marks.is tells
+    (calls_reached.marks m lent.values.now lent.marks.now lent.history.now lent.n lent.buffer.now called.result called.new.buffer called.ensures)
 
-pub returns-in-Value : goal.returns-in-Value
-returns-in-Value c =
-    let start = c.args in
-    let m = start.model.now in
-    let bytes = c.shared_slice_known-1.given in
-    let lent = store (run start.values.now start.marks.now start.history.now start.n.now) start.buffer.now in
+pub returns-in-Value-clause-performed : goal.returns-in-Value-clause-performed
+unfolding told
+returns-in-Value-clause-performed c =
+    let m = c.args.model.now in
+    let lent = c.args.store.now in
     let called = c.value in
-    let variable = c.in-Value.variable in
-    performed m bytes start.call (Value variable) lent called.result lent c.in-Value.is
-    (calls_reached.value m start.values.now start.marks.now start.history.now start.n.now variable start.buffer.now called.result called.ensures)
+    let tells : seen_as told c.map-in-Value.result ≡ seen_as number called.result = search rules in
+    performed m c.type_inv.model c.args.call (Value c.in-Value.variable) (store_in lent) c.map-in-Value.result _ c.in-Value.is tells
+    (calls_reached.value m lent.values.now lent.marks.now lent.history.now lent.n c.in-Value.variable lent.buffer.now called.result called.ensures)
 
-pub returns-in-Pick : goal.returns-in-Pick
-returns-in-Pick c =
-    let start = c.args in
-    let m = start.model.now in
-    let bytes = c.shared_slice_known-1.given in
-    let lent = store (run start.values.now start.marks.now start.history.now start.n.now) start.buffer.now in
+pub returns-in-Pick-clause-performed : goal.returns-in-Pick-clause-performed
+unfolding told
+returns-in-Pick-clause-performed c =
+    let m = c.args.model.now in
+    let lent = c.args.store.now in
     let called = c.pick in
-    performed m bytes start.call Pick lent called.result lent c.in-Pick.is
-    (calls_reached.pick m start.values.now start.marks.now start.history.now start.n.now start.buffer.now called.result called.ensures)
+    let tells : seen_as told c.map-in-Pick.result ≡ seen_as picked called.result = search rules in
+    performed m c.type_inv.model c.args.call Pick (store_in lent) c.map-in-Pick.result _ c.in-Pick.is tells
+    (calls_reached.pick m lent.values.now lent.marks.now lent.history.now lent.n lent.buffer.now called.result called.ensures)
 
-pub returns-in-FirstOutside : goal.returns-in-FirstOutside
-returns-in-FirstOutside c =
-    let start = c.args in
-    let m = start.model.now in
-    let bytes = c.shared_slice_known-1.given in
-    let lent = store (run start.values.now start.marks.now start.history.now start.n.now) start.buffer.now in
+pub returns-in-FirstOutside-clause-performed : goal.returns-in-FirstOutside-clause-performed
+unfolding told
+returns-in-FirstOutside-clause-performed c =
+    let m = c.args.model.now in
+    let lent = c.args.store.now in
     let called = c.first_outside in
-    performed m bytes start.call FirstOutside lent called.result lent c.in-FirstOutside.is
-    (calls_reached.first_outside m start.values.now start.marks.now start.history.now start.n.now start.buffer.now called.result called.ensures)
+    let tells : seen_as told c.map-in-FirstOutside.result ≡ seen_as told_outside called.result = search rules in
+    performed m c.type_inv.model c.args.call FirstOutside (store_in lent) c.map-in-FirstOutside.result _ c.in-FirstOutside.is tells
+    (calls_reached.first_outside m lent.values.now lent.marks.now lent.history.now lent.n lent.buffer.now called.result called.ensures)

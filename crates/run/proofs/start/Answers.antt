@@ -2,23 +2,25 @@
 use Rattle.model.specs.Check.{verdict}
 use Rattle.run.proofs.Following.{start_counted, start_kept}
 use Rattle.run.proofs.Promised.{start_promised}
-use borrow.Enum.Refused.{opened}
+use Rattle.std.proofs.Common.{Ok, Err}
+use Rattle.std.proofs.lemmas.Result.{err_from_is_err_and}
 use Rattle.run.proofs.start.Goals as goal
 
-pub returns-in-Rounds : goal.returns-in-Rounds
-returns-in-Rounds c =
+pub returns-in_err-rounds : goal.returns-in_err-rounds
+returns-in_err-rounds c =
     let start = c.args in
-    let called = c.advance-answer in
-    start_promised start.model.now c.shared_slice_known-1.given
-    start.values.now start.marks.now start.n.now called.result called.new.values called.new.marks 0 (λ history.
-    start_counted (verdict start.model.now) start.values.now start.marks.now history start.n.now called.result called.new.values called.new.marks called.ensures
-    c.in-Rounds.field-0 c.in-Rounds.is)
+    let called = c.advance in
+    let p = err_from_is_err_and c.from_residual.result c.from_residual.ensures.1 in
+    rw (p.1, p.2) (start_promised start.model.now c.shared_slice_known-1.given
+    start.values.now start.marks.now start.n.now (Err _) called.new.values called.new.marks start.n.now (λ history.
+    start_kept (verdict start.model.now) start.values.now start.marks.now history start.n.now called.new.values called.new.marks called.result called.ensures
+    _ c.in_err-rounds.was))
 
-pub returns-in_default : goal.returns-in_default
-returns-in_default c =
+pub returns : goal.returns
+returns c =
     let start = c.args in
-    let called = c.advance-answer in
+    let called = c.advance in
     start_promised start.model.now c.shared_slice_known-1.given
-    start.values.now start.marks.now start.n.now called.result called.new.values called.new.marks start.n.now (λ history.
-    start_kept (verdict start.model.now) start.values.now start.marks.now history start.n.now called.result called.new.values called.new.marks called.ensures
-    (opened c.in_default.in_default-own.keys2))
+    start.values.now start.marks.now start.n.now (Ok c.in_ok-rounds.rounds) called.new.values called.new.marks 0 (λ history.
+    start_counted (verdict start.model.now) start.values.now start.marks.now history start.n.now called.new.values called.new.marks called.result called.ensures
+    c.in_ok-rounds.rounds c.in_ok-rounds.was)

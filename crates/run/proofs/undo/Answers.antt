@@ -1,34 +1,32 @@
 -- `undo` meets its contract.
-use mathlib.Core.Path.{ap}
 use native.Mathlib.Omega.{arith}
 use Rattle.model.specs.Check.{verdict}
-use Rattle.steps.specs.Answers.{seen}
 use Rattle.run.proofs.Following.{undo_counted, undo_kept}
 use Rattle.run.proofs.Promised.{undo_allowed}
-use borrow.Enum.Refused.{opened}
+use Rattle.std.proofs.lemmas.Result.{err_from_is_err_and}
 use Rattle.run.proofs.undo.Goals as goal
 
 pub overflow_sub-n : goal.overflow_sub-n
-unfolding seen
 overflow_sub-n c =
     let start = c.args in
-    let called = c.advance-answer in
+    let called = c.advance in
     omega (
       arith,
-      undo_allowed start.model.now start.values.now start.marks.now start.history.now start.n.now (seen called.result) called.new.values called.new.marks
-          (ap seen c.in-Done.is) called.ensures,
+      undo_allowed start.model.now start.values.now start.marks.now start.history.now start.n.now called.result called.new.values called.new.marks
+          _ c.in_ok-advance.was called.ensures,
     )
 
-pub returns-in-Done : goal.returns-in-Done
-returns-in-Done c =
+pub returns-in_err-advance : goal.returns-in_err-advance
+returns-in_err-advance c =
     let start = c.args in
-    let called = c.advance-answer in
-    undo_counted (verdict start.model.now) start.values.now start.marks.now start.history.now start.n.now called.result called.new.values called.new.marks
-    called.ensures c.in-Done.is
+    let called = c.advance in
+    let p = err_from_is_err_and c.from_residual.result c.from_residual.ensures.1 in
+    rw (p.1, p.2) (undo_kept (verdict start.model.now) start.values.now start.marks.now start.history.now start.n.now called.new.values called.new.marks
+    called.result called.ensures _ c.in_err-advance.was)
 
-pub returns-in_default : goal.returns-in_default
-returns-in_default c =
+pub returns : goal.returns
+returns c =
     let start = c.args in
-    let called = c.advance-answer in
-    undo_kept (verdict start.model.now) start.values.now start.marks.now start.history.now start.n.now called.result called.new.values called.new.marks
-    called.ensures (opened c.in_default.in_default-own.keys2)
+    let called = c.advance in
+    undo_counted (verdict start.model.now) start.values.now start.marks.now start.history.now start.n.now called.new.values called.new.marks
+    called.result called.ensures _ c.in_ok-advance.was

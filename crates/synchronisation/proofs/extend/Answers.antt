@@ -17,44 +17,56 @@ returns-then-not-may_fit c = λ j held.
     not_fitting t (together t.events j.members.mandatory j.members.optional) c.args.out.now
     (sizes_full j (sym c.may_fit.ensures ∙ not-true _ (not_from_false _ c.if-not-may_fit.true)))
 
-pub put_system-count-requires : goal.put_system-count-requires
-put_system-count-requires c =
-    let given = c.args in
-    let few = may_fit_lem given.model.sizes (length given.mandatory.now) (length given.optional.now) (sym c.may_fit.ensures ∙ not-false _ (not_from_true _ c.if-not-may_fit.false)) in
+pub put_system-requires : goal.put_system-requires
+put_system-requires c =
+    let ms = c.args.members.now in
+    let few = may_fit_lem c.args.tables.now.model.sizes (length ms.mandatory.now) (length ms.optional.now)
+    (sym c.may_fit.ensures ∙ not-false _ (not_from_true _ c.if-not-may_fit.false)) in
     (few.mandatory, few.optional, c.requires.0)
 
 pub returns-then-count-gt-MAX_NODES : goal.returns-then-count-gt-MAX_NODES
 returns-then-count-gt-MAX_NODES c = λ j held.
     let t = j.loaded.decoded.system in
     not_fitting t (together t.events j.members.mandatory j.members.optional) c.args.out.now
-    (nodes_many j (c.put_system-count.ensures j) c.if-count-gt-MAX_NODES.true)
+    (nodes_many j (c.put_system.ensures j) c.if-count-gt-MAX_NODES.true)
 
 pub overflow_add-sizes : goal.overflow_add-sizes
 overflow_add-sizes c =
-    let given = c.args in
-    omega (arith, may_fit_lem given.model.sizes (length given.mandatory.now) (length given.optional.now) (sym c.may_fit.ensures ∙ not-false _ (not_from_true _ c.if-not-may_fit.false)))
+    let ms = c.args.members.now in
+    omega (
+      arith,
+      may_fit_lem c.args.tables.now.model.sizes (length ms.mandatory.now) (length ms.optional.now)
+          (sym c.may_fit.ensures ∙ not-false _ (not_from_true _ c.if-not-may_fit.false)),
+    )
 
 pub overflow_add-sizes-2 : goal.overflow_add-sizes-2
 overflow_add-sizes-2 c =
-    let given = c.args in
-    omega (arith, may_fit_lem given.model.sizes (length given.mandatory.now) (length given.optional.now) (sym c.may_fit.ensures ∙ not-false _ (not_from_true _ c.if-not-may_fit.false)))
+    let ms = c.args.members.now in
+    omega (
+      arith,
+      may_fit_lem c.args.tables.now.model.sizes (length ms.mandatory.now) (length ms.optional.now)
+          (sym c.may_fit.ensures ∙ not-false _ (not_from_true _ c.if-not-may_fit.false)),
+    )
 
-pub slice_bounds-new_kinds-end : goal.slice_bounds-new_kinds-end
-slice_bounds-new_kinds-end c = part_within _ _ (kinds_counted c.requires.0 (c.put_system-count.ensures c.requires.0) c.if-count-gt-MAX_NODES.false)
+pub slice_bounds-tree-end : goal.slice_bounds-tree-end
+slice_bounds-tree-end c = part_within _ _ (kinds_counted c.requires.0 (c.put_system.ensures c.requires.0) c.if-count-gt-MAX_NODES.false)
 
-pub slice_bounds-write-end : goal.slice_bounds-write-end
-slice_bounds-write-end c = kinds_counted c.requires.0 (c.put_system-count.ensures c.requires.0) c.if-count-gt-MAX_NODES.false
+pub slice_bounds-tree-end-2 : goal.slice_bounds-tree-end-2
+slice_bounds-tree-end-2 c = kinds_counted c.requires.0 (c.put_system.ensures c.requires.0) c.if-count-gt-MAX_NODES.false
 
-pub slice_bounds-new_parameters-end : goal.slice_bounds-new_parameters-end
-slice_bounds-new_parameters-end c = part_within _ _ (parameters_counted c.requires.0 (c.put_system-count.ensures c.requires.0) c.if-count-gt-MAX_NODES.false)
+pub slice_bounds-tree-end-3 : goal.slice_bounds-tree-end-3
+slice_bounds-tree-end-3 c = part_within _ _ (parameters_counted c.requires.0 (c.put_system.ensures c.requires.0) c.if-count-gt-MAX_NODES.false)
 
-pub slice_bounds-write-end-2 : goal.slice_bounds-write-end-2
-slice_bounds-write-end-2 c = parameters_counted c.requires.0 (c.put_system-count.ensures c.requires.0) c.if-count-gt-MAX_NODES.false
+pub slice_bounds-tree-end-4 : goal.slice_bounds-tree-end-4
+slice_bounds-tree-end-4 c = parameters_counted c.requires.0 (c.put_system.ensures c.requires.0) c.if-count-gt-MAX_NODES.false
 
 pub write-requires : goal.write-requires
 write-requires c =
-    extension c.requires.0 (c.put_system-count.ensures c.requires.0) c.if-count-gt-MAX_NODES.false (sym c.may_fit.ensures ∙ not-false _ (not_from_true _ c.if-not-may_fit.false)) c.requires.1
+    extension c.requires.0 (c.put_system.ensures c.requires.0) c.if-count-gt-MAX_NODES.false
+    (sym c.may_fit.ensures ∙ not-false _ (not_from_true _ c.if-not-may_fit.false)) c.requires.1
 
 pub returns : goal.returns
 returns c = λ j held.
-    c.write.ensures (extension j (c.put_system-count.ensures j) c.if-count-gt-MAX_NODES.false (sym c.may_fit.ensures ∙ not-false _ (not_from_true _ c.if-not-may_fit.false)) held)
+    c.write.ensures
+    (extension j (c.put_system.ensures j) c.if-count-gt-MAX_NODES.false
+    (sym c.may_fit.ensures ∙ not-false _ (not_from_true _ c.if-not-may_fit.false)) held)

@@ -1,4 +1,5 @@
 -- `write_nodes` meets its contract: the model's refusal, or the text over the sorts that were decoded.
+use mathlib.Core.Path.{sym}
 use native.Mathlib.Omega.{arith}
 use Rattle.std.proofs.lemmas.Result.{err_from_is_err_and}
 use Rattle.model.specs.declared.Sizes.{Sizes}
@@ -47,4 +48,6 @@ returns c =
     let sizes : Sizes = c.in_ok-sizes.sizes in
     let used : SortsInUse c.args.model.now sizes c.sorts_of.new.sorts =
     sorts_in_use c.args.model.now c.type_inv.model _ c.sorts_of.new.sorts sizes c.sorts_of.result c.sorts_of.ensures c.in_ok-sizes.was in
-    model_accepted c.args.model.now c.args.text.now c.sorts_of.new.sorts (slices c.args.kinds.now c.args.parameters.now) sizes _ used c.write_over.ensures
+    let same = c.write_over.ensures.same in
+    rw (c.kinds-1.given.1.1 (sym same.kinds), c.parameters-1.given.1.1 (sym same.parameters))
+    (model_accepted c.args.model.now c.args.text.now c.sorts_of.new.sorts (slices c.args.kinds.now c.args.parameters.now) sizes _ used c.write_over.ensures.typed)

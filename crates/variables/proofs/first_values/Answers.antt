@@ -1,34 +1,20 @@
-use mathlib.Core.Path.{refl, ◌∙◌}
+-- The first value of one row more is stored.
+use Rattle.std.proofs.Common.{slice_index_or, rules}
+use mathlib.Core.Path.{sym}
 use native.Mathlib.Omega.{arith}
-use lib.ListN.{length-set}
+use lib.ListN.{get_or-map}
+use mir.Syntax.{w32}
+use mir.Val.{SFits}
 use Rattle.variables.specs.Rows.{firsts_in}
-use Rattle.variables.proofs.Columns.{column_length}
-use Rattle.variables.proofs.Storing.{store_one, store_all}
+use Rattle.variables.proofs.Columns.{blank, column_length}
+use Rattle.variables.proofs.Storing.{store_one}
 use Rattle.variables.proofs.first_values.Goals as goal
-
-pub loop-x-init : goal.loop-x-init
-loop-x-init c = (refl, refl)
-
-pub offset_bounds-values-x : goal.offset_bounds-values-x
-offset_bounds-values-x c = record { fits = omega (arith, c.well_formed) }
 
 pub loop-x-preserved : goal.loop-x-preserved
 loop-x-preserved c =
     let rows = c.args.variables.now in
-    let old = c.args.values.now in
-    let loop = c.loop-x in
-    let read = c.first in (
-      length-set loop.values loop.x _ ∙ loop.invariant.0,
-      store_one (firsts_in rows) old (omega (arith, column_length 2 rows, c.requires)) loop.values loop.x
-          (omega (arith, column_length 2 rows, c.loop-x-test.true)) loop.invariant.1 read.result read.type_inv read.ensures,
-    )
-
-pub shape_of-values : goal.shape_of-values
-shape_of-values c = c.loop-x.invariant.0
-
-pub returns : goal.returns
-returns c =
-    let rows = c.args.variables.now in
-    let loop = c.loop-x in
-    store_all (firsts_in rows) c.args.values.now loop.values loop.x
-    (omega (arith, column_length 2 rows, c.loop-x-test.false)) (omega (arith, column_length 2 rows)) loop.invariant.1
+    let turn = c.loop-x in
+    let long = column_length (λ row. row.first) rows in
+    let fits : SFits w32 (slice_index_or rows turn.x blank).first = search rules in
+    store_one (firsts_in rows) c.args.values.now (omega (arith, long, c.requires)) turn.values turn.x (omega (arith, long, c.loop-x-test.true)) turn.invariant
+    (slice_index_or rows turn.x blank).first fits.sfits (sym (get_or-map (λ row. row.first) rows turn.x blank))

@@ -2,7 +2,9 @@
 use mathlib.Core.Path.{sym, ap, ◌∙◌}
 use mathlib.Core.Bool.{not, ◌&&◌}
 use native.Mathlib.Omega.{arith}
+use lib.ListN.{length}
 use lib.Seq.{length-take-le}
+use Rattle.std.proofs.Math.Nat.{min-le_right}
 use Rattle.results.specs.Results.{answered}
 use Rattle.lines.specs.Lines.{written_into}
 use Rattle.replies.specs.Replies.{opening, is_started}
@@ -11,21 +13,21 @@ use Rattle.dialogue.proofs.FirstCells.{lent, returned, kept_past}
 use Rattle.dialogue.proofs.exchange.open_first.Goals as goal
 
 pub slice_bounds-open-end-2 : goal.slice_bounds-open-end-2
-slice_bounds-open-end-2 c = sym (length-take-le c.at_most-variables.result c.args.values.now (omega (arith, c.at_most-variables.ensures.upper_bound)))
+slice_bounds-open-end-2 c = sym (length-take-le c.min-variables.result c.args.values.now (omega (arith, c.min-variables.ensures, min-le_right c.args.dimensions.variables (length c.args.values.now))))
 
 pub slice_bounds-open-end-4 : goal.slice_bounds-open-end-4
-slice_bounds-open-end-4 c = sym (length-take-le c.at_most-held.result c.args.marks.now (omega (arith, c.at_most-held.ensures.upper_bound)))
+slice_bounds-open-end-4 c = sym (length-take-le c.min-held.result c.args.marks.now (omega (arith, c.min-held.ensures, min-le_right c.args.dimensions.transitions (length c.args.marks.now))))
 
 pub slice_bounds-open-end-6 : goal.slice_bounds-open-end-6
-slice_bounds-open-end-6 c = sym (length-take-le c.at_most-copied.result c.args.buffer.now (omega (arith, c.at_most-copied.ensures.upper_bound)))
+slice_bounds-open-end-6 c = sym (length-take-le c.min-copied.result c.args.buffer.now (omega (arith, c.min-copied.ensures, min-le_right c.args.dimensions.transitions (length c.args.buffer.now))))
 
 pub returns : goal.returns
 returns c =
     let a = c.args in
     let r = c.open in
-    let e = c.at_most-variables.ensures.value in
-    let f = c.at_most-held.ensures.value in
-    let g = c.at_most-copied.ensures.value in
+    let e = c.min-variables.ensures in
+    let f = c.min-held.ensures in
+    let g = c.min-copied.ensures in
     let values = r.new.values in
     let marks = r.new.marks in
     let buffer = r.new.buffer in

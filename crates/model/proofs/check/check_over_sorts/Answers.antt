@@ -7,25 +7,25 @@ use Rattle.model.specs.Check.{max_depth}
 use Rattle.model.proofs.Verdicts.{lengths_differ, expression_refused, nodes_left_over, expression_accepted}
 use Rattle.model.proofs.check.check_over_sorts.Goals as goal
 
-pub returns-then-kinds-parameters : goal.returns-then-kinds-parameters
-returns-then-kinds-parameters c =
-    let a = c.args in lengths_differ a.kinds.now a.parameters.now a.sorts.now (Some a.wanted) c.if-kinds-parameters.true
+pub returns-then-tree : goal.returns-then-tree
+returns-then-tree c =
+    let a = c.args in lengths_differ a.tree.now.kinds.now a.tree.now.parameters.now a.sorts.now (Some a.wanted) c.if-tree.true
 
 pub returns-in_err-next : goal.returns-in_err-next
 returns-in_err-next c =
-    let answer : outcome (expression_at c.args.kinds.now c.args.parameters.now c.args.sorts.now max_depth (Some c.args.wanted) 0) ≡ c.expression.result = rw (← c.empty.ensures) (sym c.expression.ensures) in
+    let answer : outcome (expression_at c.args.tree.now.kinds.now c.args.tree.now.parameters.now c.args.sorts.now max_depth (Some c.args.wanted) 0) ≡ c.expression.result = rw (← c.empty.ensures) (sym c.expression.ensures) in
     let a = c.args in
     let p = err_from_is_err_and c.from_residual.result c.from_residual.ensures.1 in
-    rw (p.1, p.2) (expression_refused a.kinds.now a.parameters.now a.sorts.now (Some a.wanted) c.if-kinds-parameters.false (answer ∙ c.in_err-next.was))
+    rw (p.1, p.2) (expression_refused a.tree.now.kinds.now a.tree.now.parameters.now a.sorts.now (Some a.wanted) c.if-tree.false (answer ∙ c.in_err-next.was))
 
-pub returns-then-next-kinds : goal.returns-then-next-kinds
-returns-then-next-kinds c =
-    let answer : outcome (expression_at c.args.kinds.now c.args.parameters.now c.args.sorts.now max_depth (Some c.args.wanted) 0) ≡ c.expression.result = rw (← c.empty.ensures) (sym c.expression.ensures) in
+pub returns-then-next-tree : goal.returns-then-next-tree
+returns-then-next-tree c =
+    let answer : outcome (expression_at c.args.tree.now.kinds.now c.args.tree.now.parameters.now c.args.sorts.now max_depth (Some c.args.wanted) 0) ≡ c.expression.result = rw (← c.empty.ensures) (sym c.expression.ensures) in
     let a = c.args in
-    nodes_left_over a.kinds.now a.parameters.now a.sorts.now (Some a.wanted) c.if-kinds-parameters.false (answer ∙ c.in_ok-next.was) c.if-next-kinds.true
+    nodes_left_over a.tree.now.kinds.now a.tree.now.parameters.now a.sorts.now (Some a.wanted) c.if-tree.false (answer ∙ c.in_ok-next.was) c.if-next-tree.true
 
 pub returns : goal.returns
 returns c =
-    let answer : outcome (expression_at c.args.kinds.now c.args.parameters.now c.args.sorts.now max_depth (Some c.args.wanted) 0) ≡ c.expression.result = rw (← c.empty.ensures) (sym c.expression.ensures) in
+    let answer : outcome (expression_at c.args.tree.now.kinds.now c.args.tree.now.parameters.now c.args.sorts.now max_depth (Some c.args.wanted) 0) ≡ c.expression.result = rw (← c.empty.ensures) (sym c.expression.ensures) in
     let a = c.args in
-    expression_accepted a.kinds.now a.parameters.now a.sorts.now (Some a.wanted) c.if-kinds-parameters.false (answer ∙ c.in_ok-next.was) c.if-next-kinds.false
+    expression_accepted a.tree.now.kinds.now a.tree.now.parameters.now a.sorts.now (Some a.wanted) c.if-tree.false (answer ∙ c.in_ok-next.was) c.if-next-tree.false

@@ -9,4 +9,4 @@ pub returns : goal.returns
 returns c =
     let given = c.args in
     c.transitions.ensures
-    ∙ sym (row_of_one (transition_at given.kinds.now given.parameters.now given.events (scope_of given.sorts.now 0 given.states) max_depth) given.at)
+    ∙ sym (row_of_one (transition_at given.tree.now.kinds.now given.tree.now.parameters.now given.events (scope_of given.sorts.now 0 given.states) max_depth) given.at)

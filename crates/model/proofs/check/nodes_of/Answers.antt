@@ -5,7 +5,7 @@ use native.Mathlib.Omega.{arith}
 use lib.IntN.{ℤ, pos}
 use lib.ListN.{drop, replicate}
 use Rattle.model.specs.Sizes.{byte_layout}
-use Rattle.model.proofs.Bytes.{Whole, whole, few_variables, prefix_within, prefix_same, prefix_length, walked_parts}
+use Rattle.model.proofs.Bytes.{Whole, whole, few_variables, prefix_within, prefix_length}
 use Rattle.model.proofs.check.nodes_of.Goals as goal
 
 pub overflow_add-past : goal.overflow_add-past
@@ -37,10 +37,3 @@ pub system-requires : goal.system-requires
 system-requires c =
     let read : Whole byte_layout c.args.model.now c.args.sizes = whole byte_layout c.args.model.now c.args.sizes c.requires in
     few_variables read c.shared_slice_known-1.given
-
-pub returns : goal.returns
-returns c =
-    let rest : List ℤ = drop c.args.sizes.nodes (replicate 4000 (pos 0)) in
-    walked_parts c.args.model.now c.args.sizes
-    (prefix_same c.args.model.now (6 + c.args.sizes.nodes) c.args.sizes.nodes rest c.parameters_in.ensures)
-    c.system.ensures

@@ -1,11 +1,11 @@
--- The parameters, stored one after the other.
+-- The parameters, stored one after the other, and the place of the next.
 use mathlib.Core.Path.{◌≡◌}
 use mathlib.Core.List.{◌++◌}
-use Prim.Native.Nat.{◌≤◌}
-use lib.ListN.{length, drop}
+use Prim.Native.Nat.{◌+◌, ◌*◌}
+use lib.ListN.{drop}
 use Rattle.model.specs.Check.{parameters_at}
 use Rattle.model.proofs.header.parameters_in.Given as goal
 
-abbrev pub invariant-loop-i : goal.invariant-loop-i
-invariant-loop-i l =
-    (l.i ≤ l.count) × (length l.parameters ≡ length l.initial.parameters) × (l.parameters ≡ parameters_at l.model l.from l.i ++ drop l.i l.initial.parameters)
+abbrev pub invariant-loop-parameter : goal.invariant-loop-parameter
+invariant-loop-parameter l =
+    (l.at ≡ l.from + 4 * l.parameter-index) × (l.parameter-items ≡ parameters_at l.model l.from l.parameter-index ++ drop l.parameter-index l.initial.parameter-items)

@@ -4,5 +4,5 @@ use Rattle.model.proofs.header.sizes_in.Goals as goal
 
 pub returns : goal.returns
 returns c =
-    sizes_read c.args.layout c.args.model.now c.little.ensures c.little-2.ensures
-    c.little-3.ensures c.little-4.ensures c.little-5.ensures
+    sizes_read c.args.layout c.args.model.now c.number.ensures.value c.number-2.ensures.value
+    c.number-3.ensures.value c.number-4.ensures.value c.number-5.ensures.value

@@ -11,10 +11,10 @@ returns-in_err-second c =
 pub returns-in_err-next : goal.returns-in_err-next
 returns-in_err-next c =
     let e = err_from_is_err_and c.from_residual-in_err-next.result c.from_residual-in_err-next.ensures.1 in
-    rw (e.1, e.2) (assertion_refused _ _ _ _ _ c.transitions.ensures c.in_ok-second.was c.instruction.ensures c.in_err-next.was)
+    rw (e.1, e.2) (assertion_refused _ _ _ _ _ c.transitions.ensures c.in_ok-second.was (rw c.variables.ensures at c.instruction.ensures) c.in_err-next.was)
 
 pub returns-then-next-sizes : goal.returns-then-next-sizes
-returns-then-next-sizes c = nodes_over _ _ _ _ _ c.transitions.ensures c.in_ok-second.was c.instruction.ensures c.in_ok-next.was c.if-next-sizes.true
+returns-then-next-sizes c = nodes_over _ _ _ _ _ c.transitions.ensures c.in_ok-second.was (rw c.variables.ensures at c.instruction.ensures) c.in_ok-next.was c.if-next-sizes.true
 
 pub returns : goal.returns
-returns c = nodes_used _ _ _ _ _ c.transitions.ensures c.in_ok-second.was c.instruction.ensures c.in_ok-next.was c.if-next-sizes.false
+returns c = nodes_used _ _ _ _ _ c.transitions.ensures c.in_ok-second.was (rw c.variables.ensures at c.instruction.ensures) c.in_ok-next.was c.if-next-sizes.false

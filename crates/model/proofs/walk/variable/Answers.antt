@@ -1,4 +1,5 @@
 -- A Boolean's one node, or the three of a number.
+use mathlib.Core.Path.{sym, ◌∙◌}
 use native.Mathlib.Omega.{arith}
 use Rattle.evaluation.proofs.Signed.{read_back}
 use Rattle.std.proofs.lemmas.Result.{err_from_is_err_and}
@@ -10,10 +11,10 @@ returns-in_err-node c =
     let p = err_from_is_err_and c.from_residual.result c.from_residual.ensures.1 in
     rw (p.1, p.2) (variable_refused _ _ c.args.cursor.at c.variable_node.ensures c.in_err-node.was)
 
-pub returns-then-node : goal.returns-then-node
-returns-then-node c =
-    number_walked _ _ c.args.cursor.at c.variable_node.ensures c.in_ok-node.was c.if-node.true (rw (read_back c.in_ok-node.node.parameter (omega arith)) at c.range.ensures)
+pub returns-then-not-stands_for : goal.returns-then-not-stands_for
+returns-then-not-stands_for c =
+    number_walked _ _ c.args.cursor.at c.variable_node.ensures c.in_ok-node.was (sym c.stands_for.ensures ∙ c.if-not-stands_for.true) (rw (read_back c.in_ok-node.node.parameter (omega arith)) at c.range.ensures)
 
 pub returns : goal.returns
 returns c =
-    rw (read_back c.in_ok-node.node.parameter (omega arith)) (boolean_walked _ _ c.args.cursor.at c.variable_node.ensures c.in_ok-node.was c.if-node.false)
+    rw (read_back c.in_ok-node.node.parameter (omega arith)) (boolean_walked _ _ c.args.cursor.at c.variable_node.ensures c.in_ok-node.was (sym c.stands_for.ensures ∙ c.if-not-stands_for.false))

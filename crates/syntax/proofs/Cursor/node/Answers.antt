@@ -2,7 +2,8 @@
 use Rattle.std.proofs.Common.{◌≡◌, get_or, pos, rules}
 use Rattle.evaluation.proofs.Signed.{read_back}
 use borrow.Author.Tests.{le-leb, lt-leb, eq-eqb, ne_eqb}
-use Rattle.syntax.specs.Readings.{due_at, refusal_at, reading_at}
+use Rattle.syntax.specs.Nodes.{due_at}
+use Rattle.syntax.specs.Readings.{refusal_at, reading_at}
 use Rattle.syntax.proofs.Cursor.node.Goals as goal
 
 pub returns-then-tree-at : goal.returns-then-tree-at

@@ -1,5 +1,5 @@
 -- By two tests.
-use Rattle.syntax.specs.Readings.{checked}
+use Rattle.syntax.specs.Nodes.{checked}
 use Rattle.syntax.proofs.Node.checked.Goals as goal
 
 pub returns-then-not-allowed : goal.returns-then-not-allowed

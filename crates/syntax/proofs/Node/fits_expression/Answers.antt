@@ -1,26 +1,34 @@
 -- The parameter of an expression, by its kind.
+use mathlib.Core.Path.{sym}
 use native.Mathlib.Omega.{arith}
-use borrow.Author.Tests.{eq-eqb, ne_eqb}
+use Rattle.std.proofs.Common.{rules}
+use Rattle.kinds.specs.declared.kind.Kind.TheVariants as kind
+use Rattle.kinds.proofs.Bytes.{other_kind, no_kind}
 use Rattle.syntax.specs.Readings.{expression_fits}
 use Rattle.syntax.proofs.Parameters.{is_zero}
 use Rattle.syntax.proofs.Node.fits_expression.Goals as goal
+use Rattle.syntax.proofs.Node.fits_expression.Goals.{in_default-via-in-Ok+in_default, in_default-via-in_default}
 
-pub returns-then-self : goal.returns-then-self
+pub returns-in-Ok-Numeral : goal.returns-in-Ok-Numeral
 unfolding expression_fits
-returns-then-self c = rw (eq-eqb _ 32 c.if-self.true)
+returns-in-Ok-Numeral c = rw (sym (rw c.in-Ok-Numeral.field-0-is at c.in-Ok-Numeral.ensures))
 
-pub returns-then-self-2 : goal.returns-then-self-2
+pub returns-in-Ok-Truth : goal.returns-in-Ok-Truth
 unfolding expression_fits
-returns-then-self-2 c =
-    rw (ne_eqb _ 32 c.if-self.false, eq-eqb _ 33 c.if-self-2.true) (c.is_truth.ensures)
+returns-in-Ok-Truth c = rw (sym (rw c.in-Ok-Truth.field-0-is at c.in-Ok-Truth.ensures)) (c.is_truth.ensures)
 
-pub returns-then-self-3 : goal.returns-then-self-3
+pub returns-in-Ok-Variable : goal.returns-in-Ok-Variable
 unfolding expression_fits
-returns-then-self-3 c =
-    rw (ne_eqb _ 32 c.if-self.false, ne_eqb _ 33 c.if-self-2.false, eq-eqb _ 34 c.if-self-3.true)
-    (c.has_sort.ensures)
+returns-in-Ok-Variable c = rw (sym (rw c.in-Ok-Variable.field-0-is at c.in-Ok-Variable.ensures)) (c.has_sort.ensures)
 
-pub returns-else-self-3 : goal.returns-else-self-3
+pub returns-in_default : goal.returns-in_default
 unfolding expression_fits
-returns-else-self-3 c =
-    rw (ne_eqb _ 32 c.if-self.false, ne_eqb _ 33 c.if-self-2.false, ne_eqb _ 34 c.if-self-3.false) (is_zero (record { sfits = omega arith }))
+returns-in_default c = elim c.in_default.branch [
+  | in_default-via-in-Ok+in_default w ↦
+      let differs = other_kind _ _ _ c.try_from.ensures w.in_default.is in
+      rw (differs kind.Numeral (search rules), differs kind.Truth (search rules), differs kind.Variable (search rules))
+      (is_zero (record { sfits = omega arith }))
+  | in_default-via-in_default w ↦
+      let differs = no_kind _ _ _ c.try_from.ensures w.in_default.is in
+      rw (differs kind.Numeral, differs kind.Truth, differs kind.Variable) (is_zero (record { sfits = omega arith }))
+]

@@ -1,19 +1,30 @@
 -- The parameter of an instruction, by its kind.
+use mathlib.Core.Path.{sym}
 use native.Mathlib.Omega.{arith}
-use borrow.Author.Tests.{eq-eqb, ne_eqb}
+use Rattle.std.proofs.Common.{rules}
+use Rattle.kinds.specs.declared.kind.Kind.TheVariants as kind
+use Rattle.kinds.proofs.Bytes.{other_kind, no_kind}
 use Rattle.syntax.specs.Readings.{instruction_fits}
 use Rattle.syntax.proofs.Parameters.{is_zero, at_least_zero}
 use Rattle.syntax.proofs.Node.fits_instruction.Goals as goal
+use Rattle.syntax.proofs.Node.fits_instruction.Goals.{in_default-via-in-Ok+in_default, in_default-via-in_default}
 
-pub returns-then-self : goal.returns-then-self
+pub returns-in-Ok-Assignment : goal.returns-in-Ok-Assignment
 unfolding instruction_fits
-returns-then-self c =
-    rw (eq-eqb _ 17 c.if-self.true) (c.is_between.ensures)
+returns-in-Ok-Assignment c = rw (sym (rw c.in-Ok-Assignment.field-0-is at c.in-Ok-Assignment.ensures)) (c.is_between.ensures)
 
-pub returns-then-self-2 : goal.returns-then-self-2
+pub returns-in-Ok-Block : goal.returns-in-Ok-Block
 unfolding instruction_fits
-returns-then-self-2 c = rw (ne_eqb _ 17 c.if-self.false, eq-eqb _ 19 c.if-self-2.true) (at_least_zero (record { sfits = omega arith }))
+returns-in-Ok-Block c =
+    rw (sym (rw c.in-Ok-Block.field-0-is at c.in-Ok-Block.ensures)) (at_least_zero (record { sfits = omega arith }))
 
-pub returns-else-self-2 : goal.returns-else-self-2
+pub returns-in_default : goal.returns-in_default
 unfolding instruction_fits
-returns-else-self-2 c = rw (ne_eqb _ 17 c.if-self.false, ne_eqb _ 19 c.if-self-2.false) (is_zero (record { sfits = omega arith }))
+returns-in_default c = elim c.in_default.branch [
+  | in_default-via-in-Ok+in_default w ↦
+      let differs = other_kind _ _ _ c.try_from.ensures w.in_default.is in
+      rw (differs kind.Assignment (search rules), differs kind.Block (search rules)) (is_zero (record { sfits = omega arith }))
+  | in_default-via-in_default w ↦
+      let differs = no_kind _ _ _ c.try_from.ensures w.in_default.is in
+      rw (differs kind.Assignment, differs kind.Block) (is_zero (record { sfits = omega arith }))
+]

@@ -1,34 +1,43 @@
 -- The place of an expression, and the wanted sort.
 use mathlib.Core.Path.{◌≡◌, sym, ap, ◌∙◌}
-use mathlib.Core.Bool.{true}
-use borrow.Author.Tests.{eq-eqb, ne_eqb}
+use mathlib.Core.Bool.{true, ◌||◌}
+use lib.Dec.{eqb}
+use Rattle.std.proofs.Common.{rules}
+use Rattle.std.specs.Prelude.{Option}
+use Rattle.kinds.specs.declared.kind.Kind.TheVariants as kind
 use Rattle.kinds.specs.declared.Place.TheVariants.{Expression}
-use Rattle.kinds.specs.Kinds.{row_of, same_sort}
+use Rattle.kinds.specs.Kinds.{row_of, code_of}
+use Rattle.kinds.specs.Sameness.{same_sort}
 use Rattle.kinds.specs.declared.Row.{Row}
 use Rattle.kinds.specs.declared.Sort.{Sort}
-use Rattle.std.specs.Prelude.{Option}
+use Rattle.kinds.proofs.Bytes.{other_kind, no_kind}
 use Rattle.syntax.specs.Readings.{stands_at, expression_allowed}
 use Rattle.syntax.proofs.Parameters.{sorts_equal}
 use Rattle.syntax.proofs.nodes.expression_allowed.Goals as goal
-use Rattle.syntax.proofs.nodes.expression_allowed.Goals.{then-kind-via-then-kind, then-kind-via-else-kind+then-kind-2}
+use Rattle.syntax.proofs.nodes.expression_allowed.Goals.{in_default-via-in-Ok+in_default, in_default-via-in_default}
 
 pub returns-then-not-stands_at : goal.returns-then-not-stands_at
 unfolding expression_allowed
 returns-then-not-stands_at c = rw (sym c.stands_at.ensures ∙ c.if-not-stands_at.true)
 
-pub returns-then-kind : goal.returns-then-kind
+pub returns-in-Ok-Variable : goal.returns-in-Ok-Variable
 unfolding expression_allowed
-returns-then-kind c =
+returns-in-Ok-Variable c =
     let here : stands_at Expression c.args.kind ≡ true = sym c.stands_at.ensures ∙ c.if-not-stands_at.false in
-    elim c.then-kind.branch [
-      | then-kind-via-then-kind w ↦ rw (here, eq-eqb _ 34 w.if-kind.true)
-      | then-kind-via-else-kind+then-kind-2 w ↦ rw (here, ne_eqb _ 34 w.if-kind.false, eq-eqb _ 46 w.if-kind-2.true)
-    ]
+    let its : eqb (code_of c.in-Ok-Variable.field-0) 34 || eqb (code_of c.in-Ok-Variable.field-0) 46 ≡ true = search rules in
+    rw (here, ap (λ k. eqb k 34 || eqb k 46) (sym (c.in-Ok-Variable.ensures)) ∙ its)
 
-pub returns : goal.returns
+pub returns-in_default : goal.returns-in_default
 unfolding expression_allowed
-returns c =
+returns-in_default c =
     let here : stands_at Expression c.args.kind ≡ true = sym c.stands_at.ensures ∙ c.if-not-stands_at.false in
     let row : c.row_of.result.result ≡ (row_of c.args.kind).result = ap (λ (r : Row). r.result) c.row_of.ensures in
-    rw (here, ne_eqb _ 34 c.if-kind.false, ne_eqb _ 46 c.if-kind-2.false)
-    (c.eq.ensures ∙ (sorts_equal c.row_of.result.result c.args.wanted ∙ ap (λ (o : Option Sort). same_sort o c.args.wanted) row))
+    let wanted = c.eq.ensures ∙ (sorts_equal c.row_of.result.result c.args.wanted ∙ ap (λ (o : Option Sort). same_sort o c.args.wanted) row) in
+    elim c.in_default.branch [
+      | in_default-via-in-Ok+in_default w ↦
+          let differs = other_kind _ _ _ c.try_from.ensures w.in_default.is in
+          rw (here, differs kind.Variable (search rules), differs kind.Conditional (search rules)) wanted
+      | in_default-via-in_default w ↦
+          let differs = no_kind _ _ _ c.try_from.ensures w.in_default.is in
+          rw (here, differs kind.Variable, differs kind.Conditional) wanted
+    ]

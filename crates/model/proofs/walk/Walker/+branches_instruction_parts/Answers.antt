@@ -1,13 +1,10 @@
-use mathlib.Core.Path.{◌∙◌}
+use mathlib.Core.Path.{sym, ◌∙◌}
 use native.Mathlib.Omega.{arith}
 use Rattle.std.proofs.lemmas.Result.{err_from_is_err_and, IfOk-at_ok}
-use Rattle.model.proofs.Walking.{looked_up, branches_row, row_begun, row_refused, row_next_at, row_done}
+use Rattle.model.proofs.Walking.{looked_up, branches_row, row_refused, row_next_at, row_done}
 use Rattle.model.proofs.Instructions.{instruction_refused, instruction_block, instruction_parts, no_parts, assigned, test_refused, guarded}
 use Rattle.model.specs.Walk.{scope_of}
 use Rattle.model.proofs.walk.Walker.+branches_instruction_parts.Goals as goal
-
-pub branches-loop-init : goal.branches-loop-init
-branches-loop-init t c = row_begun (branches_row _ _ _) _ _
 
 pub branches-returns-in_err-here : goal.branches-returns-in_err-here
 branches-returns-in_err-here t c =
@@ -26,17 +23,17 @@ instruction-returns-in_err-node t c =
     let e = err_from_is_err_and c.from_residual.result c.from_residual.ensures.1 in
     rw (e.1, e.2) (instruction_refused _ _ (scope_of a.sorts.now a.from a.past) _ _ c.instruction_node.ensures.reading c.in_err-node.was)
 
-pub instruction-returns-then-node : goal.instruction-returns-then-node
-instruction-returns-then-node t c =
+pub instruction-returns-then-stands_for : goal.instruction-returns-then-stands_for
+instruction-returns-then-stands_for t c =
     let a = c.args.self.now in
     instruction_block _ _ (scope_of a.sorts.now a.from a.past) _ _ c.instruction_node.ensures.reading c.in_ok-node.was
-    (IfOk-at_ok _ c.in_ok-node.was c.instruction_node.ensures.depth) c.magnitude-number.ensures c.if-node.true c.branches.ensures
+    (IfOk-at_ok _ c.in_ok-node.was c.instruction_node.ensures.depth) c.magnitude-number.ensures (sym c.stands_for.ensures ∙ c.if-stands_for.true) c.branches.ensures
 
 pub instruction-returns : goal.instruction-returns
 instruction-returns t c =
     let a = c.args.self.now in
     instruction_parts _ _ (scope_of a.sorts.now a.from a.past) _ _ c.instruction_node.ensures.reading c.in_ok-node.was
-    (IfOk-at_ok _ c.in_ok-node.was c.instruction_node.ensures.depth) c.magnitude-number.ensures c.if-node.false (c.copied-sort.ensures ∙ looked_up _ _ c.get.result c.get.ensures.lookup.0 c.get.ensures.lookup.1) c.parts.ensures
+    (IfOk-at_ok _ c.in_ok-node.was c.instruction_node.ensures.depth) c.magnitude-number.ensures (sym c.stands_for.ensures ∙ c.if-stands_for.false) (c.copied-sort.ensures ∙ looked_up _ _ c.get.result c.get.ensures.lookup.0 c.get.ensures.lookup.1) c.parts.ensures
 
 pub parts-returns-then-children-eq0 : goal.parts-returns-then-children-eq0
 parts-returns-then-children-eq0 t c = λ p. no_parts _ _ _ _ _ _ p _ c.row_of-children.ensures c.if-children-eq0.true

@@ -1,10 +1,7 @@
 use native.Mathlib.Omega.{arith}
 use Rattle.std.proofs.lemmas.Result.{err_from_is_err_and}
-use Rattle.model.proofs.Walking.{list_row, row_begun, row_refused, row_next_at, row_done}
+use Rattle.model.proofs.Walking.{list_row, row_refused, row_next_at, row_done}
 use Rattle.model.proofs.walk.Walker.transitions.Goals as goal
-
-pub loop-init : goal.loop-init
-loop-init c = row_begun (list_row _) _ _
 
 pub returns-in_err-here : goal.returns-in_err-here
 returns-in_err-here c =

@@ -7,7 +7,8 @@ use mathlib.Core.Bool.{true}
 use Prim.Native.Nat.{suc}
 use Rattle.grammar.specs.Phrases.{is_sign, is_relation, is_chained}
 use lib.Dec.{lit≤, lit<}
-use lib.ListN.{length, take}
+use lib.ListN.{length}
+use Rattle.composition.specs.Parts.{written}
 use Rattle.grammar.specs.declared.Token.TheVariants.{Open, Close, Comma, Then, Else, Not}
 use Rattle.grammar.specs.Phrases.Phrase.{enclosed, prefixed, operation, call as callPhrase, conditional as conditionalPhrase}
 use Rattle.grammar.specs.Reading.Parse.{parsed}
@@ -16,7 +17,7 @@ use Rattle.grammar.proofs.Fuel.{after_comma, after_then, after_else}
 use Rattle.parser.specs.Levels.{operand_level}
 use Rattle.parser.proofs.Steps.{reader, words_at, then_failed, then_parsed, next_is, next_word, expected, missing, nothing_read, sign_ordinal, relation_ordinal, call_called, sign_first, sign_none, not_first, not_none, if_first, if_none, relation_first, relation_none, relation_end}
 use Rattle.parser.proofs.Grouping.{chained_ordinal, operand_low, chain_end, chain_other, grouped_product, grouped_sum, grouped_conjunction, grouped_disjunction}
-use Rattle.parser.proofs.Places.{further, handed_read, place_next, before_length, part_within, one_stands, two_stand, three_stand, enclosed_stands, stands_earlier}
+use Rattle.parser.proofs.Places.{further, handed_read, place_next, one_stands, two_stand, three_stand, enclosed_stands, stands_earlier}
 use Rattle.parser.proofs.Loops.{groups_failed, groups_read, grouped_ends, grouped_refused, grouped_again}
 use Rattle.parser.proofs.Forms.{is_function, refused_as, read_as, reached_as, composed_read, enclosed_refused, enclosed_read, no_opening, opened, no_first, first_read, no_second, second_read, no_condition, condition_read, no_branch_lem, branch_read, no_last, last_read}
 use Rattle.parser.proofs.source.Source.+reading.Goals as goal
@@ -71,13 +72,12 @@ arguments-returns t c =
     let source = c.args.self.now in
     let function = c.args.function in
     let place = c.requires in
-    let long = before_length source place in
     let opening = c.in_ok-opened.ensures in
     let first = c.in_ok-first.ensures in
     let comma = c.in_ok-comma.ensures in
     let second = c.in_ok-second.ensures in
     let closing = c.in_ok-closed.ensures in
-    let one = handed_read source (place_next source place refl opening.after opening.within) c.whole.auto.nodes first.stands in
+    let one = handed_read source (place_next source place opening.after opening.within) first.stands in
     let phrase = callPhrase function first.phrase second.phrase in
     let reads = opened source function c.args.at opening ∙ first_read source function c.in_ok-opened.opened first
     ∙ expected source.text.now (after_comma reader function first.phrase) comma
@@ -85,9 +85,9 @@ arguments-returns t c =
     ∙ expected source.text.now (λ us. parsed phrase us) closing in
     let made = c.called.ensures in
     composed_read source phrase reads made.composed.ends
-    (two_stand source one comma.after comma.within c.whole-2.auto.nodes second.stands phrase long (omega (arith, closing.after)) closing.within
+    (two_stand source one comma.after comma.within second.stands phrase (omega (arith, closing.after)) closing.within
     (stands_earlier source (omega (arith, opening.after)) first.stands) made.composed
-    (made.holds source.sorts.now first.phrase second.phrase (take c.args.end c.args.nodes.now) c.whole.new.nodes long first.stands.holds second.stands.holds))
+    (made.holds source.sorts.now first.phrase second.phrase (written c.args.nodes.now) c.whole.new.nodes first.stands.holds second.stands.holds))
 
 -- ---- single words, parentheses, calls
 
@@ -142,7 +142,7 @@ operand-returns-in_ok-factor-in-Sum t c =
     let first = c.in_ok-factor-in-Sum.ensures in
     rw c.in-Sum.is
     (reached_as source _ _ c.product.result (groups_read source c.args.at 1 0 (grouped_product source.text.now c.args.at) first) (le_refl c.args.at)
-    (c.product.ensures c.args.at (take c.args.end c.args.nodes.now) first.phrase (before_length source c.requires) first.stands))
+    (c.product.ensures c.args.at (written c.args.nodes.now) first.phrase first.stands))
 
 pub operand-returns-in_err-first-in-Disjunction : goal.operand-returns-in_err-first-in-Disjunction
 operand-returns-in_err-first-in-Disjunction t c =
@@ -156,20 +156,20 @@ operand-returns-in_ok-first-in-Disjunction t c =
     let first = c.in_ok-first-in-Disjunction.ensures in
     rw c.in-Disjunction.is
     (reached_as source _ _ c.conjunction.result (groups_read source c.args.at 6 5 (grouped_conjunction source.text.now c.args.at) first) (le_refl c.args.at)
-    (c.conjunction.ensures c.args.at (take c.args.end c.args.nodes.now) first.phrase (before_length source c.requires) first.stands))
+    (c.conjunction.ensures c.args.at (written c.args.nodes.now) first.phrase first.stands))
 
-pub chain-returns-in_default : goal.chain-returns-in_default
-chain-returns-in_default t c =
+pub chain-returns : goal.chain-returns
+chain-returns t c =
     let source = c.args.self.now in
     let below = operand_level c.args.level in
-    grouped_ends below source c.args.from c.args.nodes.now c.args.first c.loop-word.invariant
+    grouped_ends below source c.args.nodes.now c.args.first c.loop-word.invariant
     (λ q. chain_end source.text.now c.loop-word.left.next below q c.in_default.ensures)
 
 pub chain-returns-then-not-groups : goal.chain-returns-then-not-groups
 chain-returns-then-not-groups t c =
     let source = c.args.self.now in
     let below = operand_level c.args.level in
-    grouped_ends below source c.args.from c.args.nodes.now c.args.first c.loop-word.invariant
+    grouped_ends below source c.args.nodes.now c.args.first c.loop-word.invariant
     (λ q. chain_other source.text.now c.loop-word.left.next below q c.in-Some.ensures (sym c.groups.ensures ∙ c.if-not-groups.true))
 
 pub chain-returns-in_err-right : goal.chain-returns-in_err-right
@@ -179,9 +179,9 @@ chain-returns-in_err-right t c =
     let token = c.in-Some.word.token in
     let groups : is_chained (suc (operand_level level)) token ≡ true = sym c.groups.ensures ∙ c.if-not-groups.false in
     let next = next_word source.text.now c.in-Some.ensures (chained_ordinal level token groups) in
-    λ at before p e s. refused_as source _ _ _ _ c.from_residual.ensures
-    (grouped_refused (operand_level level) source c.args.from c.args.nodes.now c.args.first c.loop-word.invariant token c.in-Some.word.next (operand_low level) next groups
-    c.in_err-right.ensures at before p e s)
+    λ at before p s. refused_as source _ _ _ _ c.from_residual.ensures
+    (grouped_refused (operand_level level) source c.args.nodes.now c.args.first c.loop-word.invariant token c.in-Some.word.next (operand_low level) next groups
+    c.in_err-right.ensures at before p s)
 
 pub chain-loop-word-preserved : goal.chain-loop-word-preserved
 chain-loop-word-preserved t c =
@@ -190,8 +190,8 @@ chain-loop-word-preserved t c =
     let token = c.in-Some.word.token in
     let groups : is_chained (suc (operand_level level)) token ≡ true = sym c.groups.ensures ∙ c.if-not-groups.false in
     let next = next_word source.text.now c.in-Some.ensures (chained_ordinal level token groups) in
-    grouped_again (operand_level level) source c.args.from c.args.nodes.now c.args.first c.loop-word.invariant token c.in-Some.word.next (operand_low level) next groups
-    c.in_ok-right.ensures c.operand.auto.nodes c.operated-left.auto.nodes c.operated-left.ensures.composed c.operated-left.ensures.holds
+    grouped_again (operand_level level) source c.args.nodes.now c.args.first c.loop-word.invariant token c.in-Some.word.next (operand_low level) next groups
+    c.in_ok-right.ensures c.operated-left.ensures.composed c.operated-left.ensures.holds
 
 -- ---- signs
 
@@ -225,7 +225,7 @@ signed-returns-then-is_sign t c =
     (words_at source.text.now c.in_ok-operand.operand.next) operand.reads)
     made.composed.ends
     (one_stands source phrase c.requires next.after operand.stands made.composed
-    (made.holds source.sorts.now operand.phrase (take c.args.end c.args.nodes.now) (before_length source c.requires) operand.stands.holds))
+    (made.holds source.sorts.now operand.phrase (written c.args.nodes.now) operand.stands.holds))
 
 -- no sign: a sum
 pub signed-returns-in_err-factor : goal.signed-returns-in_err-factor
@@ -244,11 +244,10 @@ signed-returns-in_err-term t c =
     let at = c.args.at in
     let none = sign_none text c.in_ok-word.ensures (sym c.is_sign.ensures ∙ c.if-is_sign.false) in
     let factor = c.in_ok-factor.ensures in
-    let long = before_length source c.requires in
     let product = groups_read source at 1 0 (grouped_product text at) factor in
     refused_as source _ _ _ _ c.from_residual-in_err-term.ensures
     (none ∙ groups_failed text at 2 1 (grouped_sum text at)
-    (product ∙ c.in_err-term.ensures at (take c.args.end c.args.nodes.now) factor.phrase long factor.stands))
+    (product ∙ c.in_err-term.ensures at (written c.args.nodes.now) factor.phrase factor.stands))
 
 pub signed-sum-requires : goal.signed-sum-requires
 signed-sum-requires t c =
@@ -256,9 +255,9 @@ signed-sum-requires t c =
     let text = source.text.now in
     let at = c.args.at in
     let factor = c.in_ok-factor.ensures in
-    let term = c.in_ok-term.ensures at (take c.args.end c.args.nodes.now) factor.phrase (before_length source c.requires) factor.stands in (
+    let term = c.in_ok-term.ensures at (written c.args.nodes.now) factor.phrase factor.stands in (
       further (length text) at c.in_ok-term.term.next 3 3 t c.decreases term.stands.after term.stands.within (lit≤ tt),
-      handed_read source c.requires (c.product.auto.nodes ∙ c.call.auto.nodes) term.stands,
+      handed_read source c.requires term.stands,
     )
 
 pub signed-returns : goal.signed-returns
@@ -268,28 +267,27 @@ signed-returns t c =
     let at = c.args.at in
     let none = sign_none text c.in_ok-word.ensures (sym c.is_sign.ensures ∙ c.if-is_sign.false) in
     let factor = c.in_ok-factor.ensures in
-    let long = before_length source c.requires in
-    let before = take c.args.end c.args.nodes.now in
+    let before = written c.args.nodes.now in
     let product = groups_read source at 1 0 (grouped_product text at) factor in
-    let term = c.in_ok-term.ensures at before factor.phrase long factor.stands in
+    let term = c.in_ok-term.ensures at before factor.phrase factor.stands in
     let read = read_as source product term in
     let sum = groups_read source at 2 1 (grouped_sum text at) read in
-    reached_as source _ _ c.sum.result (none ∙ sum) (le_refl at) (c.sum.ensures at before read.phrase long read.stands)
+    reached_as source _ _ c.sum.result (none ∙ sum) (le_refl at) (c.sum.ensures at before read.phrase read.stands)
 
 -- ---- relations
 
 pub relation-returns-in_default : goal.relation-returns-in_default
-relation-returns-in_default t c = λ at before p e s.
+relation-returns-in_default t c = λ at before p s.
     let source = c.args.self.now in
     record { phrase = p; reads = relation_end source.text.now c.args.first.next p c.in_default.ensures; stands = s }
 
 pub relation-returns-then-not-is_relation : goal.relation-returns-then-not-is_relation
-relation-returns-then-not-is_relation t c = λ at before p e s.
+relation-returns-then-not-is_relation t c = λ at before p s.
     let source = c.args.self.now in
     record { phrase = p; reads = relation_none source.text.now c.in-Some.ensures p (sym c.is_relation.ensures ∙ c.if-not-is_relation.true); stands = s }
 
 pub relation-returns-in_err-right : goal.relation-returns-in_err-right
-relation-returns-in_err-right t c = λ at before p e s.
+relation-returns-in_err-right t c = λ at before p s.
     let source = c.args.self.now in
     let word = c.in-Some.word in
     let is : is_relation word.token ≡ true = sym c.is_relation.ensures ∙ c.if-not-is_relation.false in
@@ -299,7 +297,7 @@ relation-returns-in_err-right t c = λ at before p e s.
     ∙ then_failed (read_level 3 (words_at source.text.now word.next)) (λ q us. parsed (operation word.token p q) us) c.in_err-right.ensures)
 
 pub relation-returns : goal.relation-returns
-relation-returns t c = λ at before p e s.
+relation-returns t c = λ at before p s.
     let source = c.args.self.now in
     let word = c.in-Some.word in
     let is : is_relation word.token ≡ true = sym c.is_relation.ensures ∙ c.if-not-is_relation.false in
@@ -312,8 +310,8 @@ relation-returns t c = λ at before p e s.
     ∙ then_parsed (read_level 3 (words_at source.text.now word.next)) (λ q us. parsed (operation word.token p q) us) right.phrase
     (words_at source.text.now c.in_ok-right.right.next) right.reads)
     made.composed.ends
-    (two_stand source c.requires next.after next.within c.signed.auto.nodes right.stands phrase e (le_refl c.in_ok-right.right.next) right.stands.within s made.composed
-    (made.holds source.sorts.now p right.phrase before c.args.nodes.now e (part_within source c.requires) s.holds right.stands.holds))
+    (two_stand source c.requires next.after next.within right.stands phrase (le_refl c.in_ok-right.right.next) right.stands.within s made.composed
+    (made.holds source.sorts.now p right.phrase before c.args.nodes.now s.holds right.stands.holds))
 
 -- ---- not
 
@@ -338,7 +336,7 @@ negation-returns-in-Some t c =
     ∙ then_parsed (read_level 5 (words_at text c.in-Some.next)) (λ p us. parsed (prefixed Not p) us) operand.phrase (words_at text c.in_ok-operand.operand.next) operand.reads)
     made.composed.ends
     (one_stands source phrase c.requires next.after operand.stands made.composed
-    (made.holds source.sorts.now operand.phrase (take c.args.end c.args.nodes.now) (before_length source c.requires) operand.stands.holds))
+    (made.holds source.sorts.now operand.phrase (written c.args.nodes.now) operand.stands.holds))
 
 pub negation-returns-in_err-first : goal.negation-returns-in_err-first
 negation-returns-in_err-first t c =
@@ -357,7 +355,7 @@ negation-returns t c =
     reached_as source _ _ c.relation.result
     (not_none text at c.in_default.ensures
     ∙ then_parsed (read_level 3 (words_at text at)) (λ p us. related_by reader p us) first.phrase (words_at text c.in_ok-first.first.next) first.reads)
-    (le_refl at) (c.relation.ensures at (take c.args.end c.args.nodes.now) first.phrase (before_length source c.requires) first.stands)
+    (le_refl at) (c.relation.ensures at (written c.args.nodes.now) first.phrase first.stands)
 
 -- ---- the whole
 
@@ -382,11 +380,10 @@ whole-returns-in_err-first t c =
     let text = source.text.now in
     let at = c.args.at in
     let operand = c.in_ok-operand.ensures in
-    let long = before_length source c.requires in
     let conjunction = groups_read source at 6 5 (grouped_conjunction text at) operand in
     refused_as source _ _ _ _ c.from_residual-in_err-first.ensures
     (if_none text at c.in_default.ensures ∙ groups_failed text at 7 6 (grouped_disjunction text at)
-    (conjunction ∙ c.in_err-first.ensures at (take c.args.end c.args.nodes.now) operand.phrase long operand.stands))
+    (conjunction ∙ c.in_err-first.ensures at (written c.args.nodes.now) operand.phrase operand.stands))
 
 pub whole-disjunction-requires : goal.whole-disjunction-requires
 whole-disjunction-requires t c =
@@ -394,9 +391,9 @@ whole-disjunction-requires t c =
     let text = source.text.now in
     let at = c.args.at in
     let operand = c.in_ok-operand.ensures in
-    let first = c.in_ok-first.ensures at (take c.args.end c.args.nodes.now) operand.phrase (before_length source c.requires) operand.stands in (
+    let first = c.in_ok-first.ensures at (written c.args.nodes.now) operand.phrase operand.stands in (
       further (length text) at c.in_ok-first.first.next 8 8 t c.decreases first.stands.after first.stands.within (lit≤ tt),
-      handed_read source c.requires (c.conjunction.auto.nodes ∙ c.negation.auto.nodes) first.stands,
+      handed_read source c.requires first.stands,
     )
 
 pub whole-returns : goal.whole-returns
@@ -405,14 +402,13 @@ whole-returns t c =
     let text = source.text.now in
     let at = c.args.at in
     let operand = c.in_ok-operand.ensures in
-    let long = before_length source c.requires in
-    let before = take c.args.end c.args.nodes.now in
+    let before = written c.args.nodes.now in
     let conjunction = groups_read source at 6 5 (grouped_conjunction text at) operand in
-    let first = c.in_ok-first.ensures at before operand.phrase long operand.stands in
+    let first = c.in_ok-first.ensures at before operand.phrase operand.stands in
     let read = read_as source conjunction first in
     let disjunction = groups_read source at 7 6 (grouped_disjunction text at) read in
     reached_as source _ _ c.disjunction.result (if_none text at c.in_default.ensures ∙ disjunction) (le_refl at)
-    (c.disjunction.ensures at before read.phrase long read.stands)
+    (c.disjunction.ensures at before read.phrase read.stands)
 
 -- ---- if-then-else
 
@@ -462,13 +458,12 @@ pub conditional-returns : goal.conditional-returns
 conditional-returns t c =
     let source = c.args.self.now in
     let place = c.requires in
-    let long = before_length source place in
     let condition = c.in_ok-condition.ensures in
     let then = c.in_ok-then.ensures in
     let first = c.in_ok-first.ensures in
     let otherwise = c.in_ok-otherwise.ensures in
     let second = c.in_ok-second.ensures in
-    let one = handed_read source place c.whole.auto.nodes condition.stands in
+    let one = handed_read source place condition.stands in
     let phrase = conditionalPhrase condition.phrase first.phrase second.phrase in
     let made = c.chosen.ensures in
     composed_read source phrase
@@ -477,7 +472,7 @@ conditional-returns t c =
     ∙ expected source.text.now (after_else reader condition.phrase first.phrase) otherwise
     ∙ last_read source c.in_ok-otherwise.otherwise condition.phrase first.phrase second)
     made.composed.ends
-    (three_stand source one then.after then.within c.whole-2.auto.nodes first.stands otherwise.after otherwise.within c.whole-3.auto.nodes second.stands
-    phrase long condition.stands made.composed
-    (made.holds source.sorts.now condition.phrase first.phrase second.phrase (take c.args.end c.args.nodes.now) c.whole.new.nodes c.whole-2.new.nodes long
+    (three_stand source one then.after then.within first.stands otherwise.after otherwise.within second.stands
+    phrase condition.stands made.composed
+    (made.holds source.sorts.now condition.phrase first.phrase second.phrase (written c.args.nodes.now) c.whole.new.nodes c.whole-2.new.nodes
     condition.stands.holds first.stands.holds second.stands.holds))

@@ -33,7 +33,7 @@ abbrev pub decreases-whole : goal.decreases-whole
 decreases-whole l = 9 * (length l.self.now.text.now - l.at) + 8
 
 abbrev pub invariant-chain-loop-word : goal.invariant-chain-loop-word
-invariant-chain-loop-word l = Grouped (operand_level l.level) l.self l.from l.initial.nodes l.initial.left l.nodes l.left
+invariant-chain-loop-word l = Grouped (operand_level l.level) l.self l.initial.nodes l.initial.left l.nodes l.left
 
 abbrev pub decreases-chain-loop-word : goal.decreases-chain-loop-word
 decreases-chain-loop-word l = length l.self.text.now - l.left.next

@@ -1,0 +1,2 @@
+-- Proofs of crate `moving`: what the functions are proved by.
+pub mod Parts

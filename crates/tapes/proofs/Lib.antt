@@ -1,0 +1,2 @@
+-- Proofs of crate `tapes`.
+pub mod Tapes
