@@ -1,6 +1,6 @@
 -- The states of a transition are made: where its guard is true the old ones are stored in cells of their own, and its action over
 -- the values of all variables changes them.
-use Rattle.std.specs.Prelude.{Result, Ok, Err}
+use Rattle.std.specs.Prelude.{Result, Ok, Err, Option}
 use mathlib.Core.Path.{◌≡◌, refl, sym, ap, ◌∙◌}
 use mathlib.Core.Bool.{Bool, true, false, true≢false}
 use mathlib.Core.List.{List, ◌++◌}
@@ -73,7 +73,7 @@ module _ {model : Model} {kinds : List ℕ} {parameters : List ℤ} {rows : List
       short = omega (arith, length_all d, rows_count d, all_rows d)
 
   -- the guard was evaluated over the values of all variables, held as cells
-  module _ (fits : model.sizes.states + model.sizes.flows ≤ length old) (cells : List ℤ)
+  module _ (fits : model.sizes.states + model.sizes.flows ≤ length old) (cells : List (Option ℤ))
       (held : length rows ≤ length old → AllHeld (length rows) old cells) (x : Evaluation)
       (guarded : x ≡ guard_over d.decoded.system k (valuation_of cells)) (stage : Result (Unit {0}) NotFired) (admitted : stage ≡ admission x) where
     pub length_rows : length rows ≡ model.sizes.states + model.sizes.flows
@@ -85,7 +85,7 @@ module _ {model : Model} {kinds : List ℕ} {parameters : List ℤ} {rows : List
     by_guard_lem : left_by_guard (meaning_of d.decoded.system) k old x ≡ fired (meaning_of d.decoded.system) k old
     unfolding fired meaning_of
     by_guard_lem =
-        rw (guarded, known_values cells (held room).known, (held room).held, all_rows d, le-ltb (length old) (length (variables d.decoded.system)) (omega (arith, length_all d)))
+        rw (guarded, (held room).held, known_values (take (length rows) old), all_rows d, le-ltb (length old) (length (variables d.decoded.system)) (omega (arith, length_all d)))
 
     pub over_by_guard : (r : NotFired) → stage ≡ Err r → LeftByChanging (meaning_of d.decoded.system) k old blank (Err r)
     unfolding LeftByChanging
@@ -138,6 +138,7 @@ module _ {model : Model} {kinds : List ℕ} {parameters : List ℤ} {rows : List
         abbrev pub action_stands : ActionStands kinds parameters nexts rows cells (take model.sizes.states array) (get_or nexts (get_or guards k 0) 0)
         action_stands =
             record {
+              values = take (length rows) old;
               system = d.decoded.system;
               action = transition.0.action;
               well_formed = loaded_well_formed d;
@@ -145,26 +146,26 @@ module _ {model : Model} {kinds : List ℕ} {parameters : List ℤ} {rows : List
               stands = loaded_action d k transition.0 transition.1;
               places = loaded_places d;
               rows_held = d.decoded.variables_decoded;
-              known = (held room).known;
-              long = ap length (held room).held ∙ simp length-take (omega (arith, room, all_rows d));
+              held = (held room).held;
+              long = simp length-take (omega (arith, room, all_rows d));
               states =
                   old_states
-                  ∙ rw (← loaded_states d, (held room).held) (sym (take-take model.sizes.states (length rows) old (omega (arith, length_rows))));
+                  ∙ rw (← loaded_states d) (sym (take-take model.sizes.states (length rows) old (omega (arith, length_rows))));
             }
 
-        same : cells ≡ take (length (variables d.decoded.system)) old
-        same = (held room).held ∙ ap (λ n. take n old) (all_rows d)
+        same : take (length rows) old ≡ take (length (variables d.decoded.system)) old
+        same = ap (λ n. take n old) (all_rows d)
 
-        acted : left_by_acting (meaning_of d.decoded.system) old (act d.decoded.system transition.0.action cells) ≡ fired (meaning_of d.decoded.system) k old
+        acted : left_by_acting (meaning_of d.decoded.system) old (act d.decoded.system transition.0.action (take (length rows) old)) ≡ fired (meaning_of d.decoded.system) k old
         unfolding meaning_of
         acted =
             ap (left_by_acting (meaning_of d.decoded.system) old)
-            (action_of d.decoded.system k transition.0 transition.1 cells ∙ ap ((meaning_of d.decoded.system).action k) same)
+            (action_of d.decoded.system k transition.0 transition.1 (take (length rows) old) ∙ ap ((meaning_of d.decoded.system).action k) same)
             ∙ left_open (meaning_of d.decoded.system) k old x (sym going ∙ admitted)
             ∙ by_guard_lem
 
         module _ (new : List ℤ) (kept : length new ≡ length (take model.sizes.states array)) (r : Result (Unit {0}) Fault)
-            (left : answered r new ≡ states_by_acting (take model.sizes.states array) (act d.decoded.system transition.0.action cells)) where
+            (left : answered r new ≡ states_by_acting (take model.sizes.states array) (act d.decoded.system transition.0.action (take (length rows) old))) where
           length_new : length new ≡ model.sizes.states
           length_new = kept ∙ sym length_old
 

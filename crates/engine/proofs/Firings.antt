@@ -1,5 +1,5 @@
 -- Starting and firing on a loaded model: what the code answers and leaves is as the definitions `begun` and `fired` have it.
-use Rattle.std.specs.Prelude.{Err, Result, Ok}
+use Rattle.std.specs.Prelude.{Err, Result, Ok, Option}
 use Rattle.std.specs.Result.{is_ok, MatchResult}
 use Rattle.std.proofs.lemmas.Result.{MatchResult-at_ok}
 use mathlib.Core.Bool.{true, false, true≢false}
@@ -108,12 +108,12 @@ module _ {model : Model} {kinds : List ℕ} {parameters : List ℤ} {rows : List
 
   -- ---- firing
 
-  module _ (k : ℕ) (old : List ℤ) {nodes : ℕ} {states blank given : List ℤ} {queue waits : List ℕ}
+  module _ (k : ℕ) (old : List ℤ) {nodes : ℕ} {states : List ℤ} {blank given : List (Option ℤ)} {queue waits : List ℕ}
       (b : BlankFiring (length rows) nodes states blank given queue waits) where
     length_blank : length blank ≡ length rows
     length_blank = ap length b.valuation.nothing_known ∙ length-replicate (length rows) unknown_cell
 
-    pub nothing_known_lem : (cells forgotten : List ℤ) → length cells ≡ length blank → forgotten ≡ replicate (length cells) unknown_cell
+    pub nothing_known_lem : (cells forgotten : List (Option ℤ)) → length cells ≡ length blank → forgotten ≡ replicate (length cells) unknown_cell
         → forgotten ≡ replicate (length rows) unknown_cell
     nothing_known_lem cells forgotten l e = e ∙ ap (λ n. replicate n unknown_cell) (l ∙ length_blank)
 

@@ -2,11 +2,13 @@
 use Rattle.std.specs.Prelude.{Result, Ok, Err}
 use mathlib.Core.Path.{◌≡◌, refl, ap, ◌∙◌}
 use mathlib.Core.Bool.{Bool, true, false, cond, true≢false}
-use mathlib.Core.List.{List}
-use Prim.Native.Nat.{ℕ, ◌+◌, ◌≤◌, ◌<◌, ◌^◌}
+use mathlib.Core.List.{List, [], ◌∷◌}
+use mathlib.Core.Option.{none}
+use Prim.Native.Nat.{ℕ, zero, suc, ◌+◌, ◌≤◌, ◌<◌, ◌^◌}
+use native.Mathlib.Nat.{not-suc-le-zero, le_of_suc-le-suc}
 use native.Mathlib.Omega.{arith}
 use lib.IntN.{ℤ, pos}
-use lib.ListN.{length, take, get_or, length-append}
+use lib.ListN.{length, take, get_or, get_elem?, length-append}
 use lib.Signed.{mag}
 use mir.Syntax.{w32}
 use mir.Val.{of_z}
@@ -20,7 +22,6 @@ use Rattle.model.specs.Standing.{ExpressionAt, size_of_expression}
 use Rattle.expressions.specs.declared.Evaluated.{Evaluated}
 use Rattle.expressions.specs.Expressions.{Valuation, evaluate}
 use Rattle.expressions.specs.Cells.{evaluated_as, ExpressionStands}
-use Rattle.expressions.proofs.Cells.{no_element}
 use Rattle.semantics.specs.declared.NotFired.TheVariants.{Disabled, GuardFailed}
 use Rattle.semantics.specs.declared.NotFired.{NotFired}
 use Rattle.semantics.specs.Meanings.{Meaning, guard_in, guard_over}
@@ -31,6 +32,11 @@ use Rattle.variables.proofs.Columns.{row_count}
 use Rattle.engine.specs.Cells.{Loaded, admission}
 use Rattle.engine.proofs.Loading.{loaded_well_formed, loaded_states, loaded_flows, loaded_guards, loaded_guard}
 use Rattle.variables.specs.declared.VariableRow.{VariableRow}
+
+no_element : {A : Type 0} (l : List A) (x : ℕ) → length l ≤ x → get_elem? l x ≡ none
+no_element [] x h = refl
+no_element (a ∷ l) zero h = absurd (not-suc-le-zero h)
+no_element (a ∷ l) (suc x) h = no_element l x (le_of_suc-le-suc h)
 
 module _ {model : Model} {kinds : List ℕ} {parameters : List ℤ} {rows : List VariableRow} {nexts guards : List ℕ}
     (d : Loaded model kinds parameters rows nexts guards) where

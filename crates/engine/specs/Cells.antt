@@ -1,12 +1,12 @@
 -- What the functions on a decoded model are lent, what they may ask of it, and how a firing goes on from one of them to the next.
-use Rattle.std.specs.Prelude.{◌≡◌, true, cond, List, ℕ, ◌≤◌, ℤ, pos, length, take, replicate, Err, Result, Ok}
+use Rattle.std.specs.Prelude.{◌≡◌, true, cond, List, ℕ, ◌≤◌, ℤ, pos, length, take, replicate, Err, Result, Ok, Option}
 use Rattle.evaluation.specs.declared.Evaluation.{Evaluation}
 use Rattle.evaluation.specs.declared.Evaluation.TheVariants.{Unknown, Failed, Value}
 use Rattle.evaluation.specs.Numbers.{eq_z, boolean}
 use Rattle.model.specs.declared.Model.{Model}
 use Rattle.model.specs.Theorems.{Bytes}
 use Rattle.decoding.specs.Decoding.{Decoded}
-use Rattle.propagation.specs.Cells.{AllRepresentable}
+use Rattle.propagation.specs.Cells.{cells_of}
 use Rattle.results.specs.Results.{answered}
 use Rattle.semantics.specs.declared.NotFired.{NotFired}
 use Rattle.semantics.specs.declared.NotFired.TheVariants.{Disabled, GuardFailed}
@@ -15,10 +15,9 @@ use Rattle.semantics.specs.Firing.{left_by_settling, fired}
 use Rattle.variables.specs.declared.VariableRow.{VariableRow}
 
 -- the values of so many variables, the first of those lent, are held as cells
-pub record AllHeld (count : ℕ) (values cells : List ℤ) : Type 0 where
+pub record AllHeld (count : ℕ) (values : List ℤ) (cells : List (Option ℤ)) : Type 0 where
   pub room : count ≤ length values
-  pub held : cells ≡ take count values
-  pub known : AllRepresentable cells
+  pub held : cells ≡ cells_of (take count values)
 
 -- by the guard: why nothing is fired where it is not true
 unfoldable pub admission : Evaluation → Result (Unit {0}) NotFired

@@ -1,5 +1,5 @@
 -- The same of what is lent: the tables, the index of the assertion, and what a firing works in.
-use Rattle.std.specs.Prelude.{List, ℤ, length}
+use Rattle.std.specs.Prelude.{List, ℤ, length, Option}
 use Rattle.tables.specs.declared.Tables.{Tables}
 use Rattle.scratch.specs.Blank.{BlankFiring}
 use Rattle.semantics.specs.Meanings.{Meaning}
@@ -16,5 +16,5 @@ module _ (t : Tables) where
   OnLoadedIn = OnLoaded t.model t.kinds.now t.parameters.now t.variables.now t.nexts.now t.guards.now
 
   -- the cells that a firing works in are blank
-  abbrev pub BlankFiringIn : List ℤ → List ℤ → Gathering → Type 0
+  abbrev pub BlankFiringIn : List ℤ → List (Option ℤ) → Gathering → Type 0
   BlankFiringIn states cells g = BlankFiring (length t.variables.now) (length t.kinds.now) states cells g.given.now g.queue.now g.waits.now

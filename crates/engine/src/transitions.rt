@@ -22,7 +22,7 @@ use syntax::Cursor;
 const TRUE: i32 = 1;
 
 // The guard of a transition over cells.
-pub fn guard(decoded: &DecodedModel<'_>, cells: &[i64], transition: usize) -> Evaluation
+pub fn guard(decoded: &DecodedModel<'_>, cells: &[Option<i32>], transition: usize) -> Evaluation
     ensures { (d : LoadedIn decoded.now.tables) → result ≡ guard_over d.decoded.system transition (valuation_of cells.now) }
 {
     let tables = &decoded.tables;
@@ -34,7 +34,7 @@ pub fn guard(decoded: &DecodedModel<'_>, cells: &[i64], transition: usize) -> Ev
 }
 
 // As many of the values lent as there are cells are held as cells; nothing is done where they are too few.
-fn hold(values: &[i32], cells: &mut [i64])
+fn hold(values: &[i32], cells: &mut [Option<i32>])
     ensures { length cells.old ≤ length values.now → AllHeld (length cells.old) values.now cells.new }
 {
     let n = cells.len();
@@ -60,7 +60,7 @@ fn admit(guard: Evaluation) -> Result<(), NotFired>
 fn change_states(
     decoded: &DecodedModel<'_>,
     values: &[i32],
-    cells: &[i64],
+    cells: &[Option<i32>],
     gathering: &mut Gathering<'_>,
     states: &mut [i32],
     transition: usize,
@@ -96,7 +96,7 @@ fn change_states(
 pub fn begin(
     loaded: &LoadedModel<'_>,
     states: &[i32],
-    cells: &mut [i64],
+    cells: &mut [Option<i32>],
     gathering: &mut Gathering<'_>,
     values: &mut [i32],
 ) -> Firing
@@ -130,7 +130,7 @@ pub fn begin(
 pub fn fire(
     loaded: &LoadedModel<'_>,
     states: &mut [i32],
-    cells: &mut [i64],
+    cells: &mut [Option<i32>],
     gathering: &mut Gathering<'_>,
     values: &mut [i32],
     transition: usize,

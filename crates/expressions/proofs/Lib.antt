@@ -1,5 +1,4 @@
 -- Proofs of crate `expressions`: what the functions are proved by.
-pub mod Cells
 pub mod OperandCounts
 pub mod Evaluating
 pub mod Skipping

@@ -1,9 +1,7 @@
 -- How the code goes about it: how it holds the valuations and evaluations that 01 speaks of (cell_value, valuation_of, evaluated_as), and
 -- what its functions ask of the nodes lent to them (the rest). No definition here is 01's own.
-use Rattle.std.specs.Prelude.{cond, List, ◌≡◌, ℕ, ◌+◌, ◌≤◌, ℤ}
-use Rattle.std.proofs.Math.Option.{Option, some, none}
-use Rattle.std.proofs.Math.ListN.{get_elem?}
-use Rattle.evaluation.specs.Numbers.{representable}
+use Rattle.std.specs.Prelude.{List, ◌≡◌, ℕ, ◌+◌, ◌≤◌, ℤ, get_or, Option, Some, None}
+use Rattle.std.proofs.Math.Option.{Option as Known, some, none}
 use Rattle.evaluation.specs.declared.Evaluation.{Evaluation}
 use Rattle.kinds.specs.declared.table.TheConstants.{ROWS}
 use Rattle.kinds.specs.Kinds.{children_of, row_in}
@@ -12,13 +10,14 @@ use Rattle.model.specs.Standing.{ExpressionAt, size_of_expression}
 use Rattle.expressions.specs.declared.Evaluated.{Evaluated}
 use Rattle.expressions.specs.Expressions.{Valuation}
 
--- a cell of 64 bits holds a number of 32 bits; any other number there stands for unknown
-unfoldable pub cell_value : Option ℤ → Option ℤ
-cell_value none = none
-cell_value (some v) = cond (representable v) (some v) none
+-- what a cell holds
+unfoldable pub cell_value : Option ℤ → Known ℤ
+cell_value None = none
+cell_value (Some v) = some v
 
-abbrev pub valuation_of : List ℤ → Valuation
-valuation_of cells x = cell_value (get_elem? cells x)
+-- a variable without a cell is unknown
+abbrev pub valuation_of : List (Option ℤ) → Valuation
+valuation_of cells x = cell_value (get_or cells x None)
 
 -- an evaluation with the cursor after the expression
 abbrev pub evaluated_as : Evaluation → ℕ → Evaluated

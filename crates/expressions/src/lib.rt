@@ -3,14 +3,12 @@
 #![tactic(auto)]
 
 ghost use Rattle.std.specs.Prelude.{◌≡◌, List, ◌+◌, ◌<◌, ℤ, get_or};
-ghost use Rattle.evaluation.specs.Numbers.{representable};
 ghost use Rattle.evaluation.specs.Meaning.{chosen};
 ghost use Rattle.model.specs.Trees.{Expression};
 ghost use Rattle.model.specs.Standing.{ExpressionAt, size_of_expression};
 ghost use Rattle.expressions.specs.Expressions.{evaluation_of};
 ghost use Rattle.expressions.specs.Expressions as expressions;
-ghost use Rattle.std.proofs.Math.Option.{some};
-ghost use Rattle.expressions.specs.Cells.{cell_value, valuation_of, evaluated_as, negation_kind, ExpressionStands, KindsStand, BranchesStand};
+ghost use Rattle.expressions.specs.Cells.{valuation_of, evaluated_as, negation_kind, ExpressionStands, KindsStand, BranchesStand};
 
 use evaluation::Evaluation;
 use kinds::Kind;
@@ -31,35 +29,19 @@ const NEGATION: u8 = Kind::Negation as u8;
 
 const CONDITIONAL: u8 = Kind::Conditional as u8;
 
-// Does the cell hold a number of 32 bits.
-pub fn is_number(cell: i64) -> bool
-    ensures { result ≡ representable cell }
-{
-    i32::try_from(cell).is_ok()
-}
-
-// What a cell holds: a number of 32 bits, or unknown.
-fn held(cell: i64) -> Evaluation
-    ensures { result ≡ evaluation_of (cell_value (some cell)) }
-{
-    match i32::try_from(cell) {
-        Ok(v) => Evaluation::Value(v),
-        Err(_) => Evaluation::Unknown,
-    }
-}
-
 // The variable with this number.
-fn variable(cells: &[i64], number: usize) -> Evaluation
+#[tactic(auto, unfolding(crate::specs::Cells::cell_value, crate::specs::Expressions::evaluation_of))]
+fn variable(cells: &[Option<i32>], number: usize) -> Evaluation
     ensures { result ≡ evaluation_of (valuation_of cells.now number) }
 {
     match cells.get(number) {
-        Some(cell) => held(*cell),
-        None => Evaluation::Unknown,
+        Some(Some(value)) => Evaluation::Value(*value),
+        _ => Evaluation::Unknown,
     }
 }
 
 // An expression without children, at place `at`: a number, a truth value or a variable.
-fn leaf(kinds: &[u8], parameters: &[i32], cells: &[i64], at: usize) -> Evaluated
+fn leaf(kinds: &[u8], parameters: &[i32], cells: &[Option<i32>], at: usize) -> Evaluated
     requires { ExpressionStands kinds.now parameters.now at × (get_or kinds.now at 0 < negation_kind) }
     ensures { (e : Expression) → ExpressionAt kinds.now parameters.now e at
         → result ≡ evaluated_as (expressions.evaluate e (valuation_of cells.now)) (at + size_of_expression e) }
@@ -93,7 +75,12 @@ fn past(kinds: &[u8], at: usize) -> usize
 // as copies: a parameter that is handed on itself is copied to memory at each call, that of a leaf included. They are not lent as one: over a
 // `&Tree` an evaluation takes 2 to 5 percent more, over a struct of the three slices 12.
 #[cycle(conditional_evaluate)]
-pub fn evaluate(kinds: &[u8], parameters: &[i32], cells: &[i64], cursor: Cursor) -> Evaluated
+pub fn evaluate(
+    kinds: &[u8],
+    parameters: &[i32],
+    cells: &[Option<i32>],
+    cursor: Cursor,
+) -> Evaluated
     requires { ExpressionStands kinds.now parameters.now cursor.at }
     ensures { (e : Expression) → ExpressionAt kinds.now parameters.now e cursor.at
         → result ≡ evaluated_as (expressions.evaluate e (valuation_of cells.now)) (cursor.at + size_of_expression e) }
@@ -139,7 +126,7 @@ pub fn evaluate(kinds: &[u8], parameters: &[i32], cells: &[i64], cursor: Cursor)
 fn conditional(
     kinds: &[u8],
     parameters: &[i32],
-    cells: &[i64],
+    cells: &[Option<i32>],
     condition: Evaluation,
     cursor: Cursor,
 ) -> Evaluated

@@ -1,54 +1,37 @@
 -- An active assignment: the flags and the cell.
-use mathlib.Core.Path.{◌≡◌, sym, ap, ◌∙◌}
-use mathlib.Core.Bool.{Bool, true, false, not, ◌||◌, or-false, or-true}
+use Rattle.std.proofs.Common.{Option, Some, None, get_or, int_eq}
+use Rattle.std.specs.Option.{option_eq}
+use Rattle.std.specs.Bool.{one_answer}
+use Rattle.std.specs.Cmp.{signed_Decides}
+use mathlib.Core.Path.{◌≡◌, refl, sym, subst, ◌∙◌}
+use mathlib.Core.Bool.{Bool, true, not, ◌||◌}
 use mathlib.Core.List.{List}
-use Prim.Native.Nat.{ℕ, ◌<◌, ◌^◌}
-use borrow.Author.Tests.{eq-eqb, ne_eqb}
-use lib.Dec.{eqb}
-use lib.IntN.{ℤ, pos}
-use lib.Signed.{mag}
-use lib.ListN.{get_or, set}
-use mir.Syntax.{w32, w64}
+use Prim.Native.Nat.{ℕ}
+use lib.IntN.{ℤ}
+use mir.Syntax.{w32}
 use mir.Val.{to_z, of_z, SFits}
 use mir.ValLaws.{to_z-of_z}
-use Rattle.evaluation.specs.Numbers.{representable, eq_z}
-use Rattle.evaluation.proofs.Laws.{eq_z_comm}
-use Rattle.evaluation.proofs.Signed.{read_one, wide_fits, same_bits}
+use Rattle.evaluation.specs.Numbers.{eq_z}
+use Rattle.evaluation.proofs.Laws.{eq_z_refl, eq_z_true}
+use Rattle.evaluation.proofs.Signed.{read_one}
 use Rattle.variables.specs.Rows.{within_ends}
 use Rattle.interpreter.specs.declared.Gathered.{Gathered}
 use Rattle.interpreter.specs.Instructions.Effect.{gives}
-use Rattle.interpreter.specs.Gathering.{gathering, gather}
+use Rattle.interpreter.specs.Gathering.{gathering, gather, taken}
 
-module _ (lows highs given : List ℤ) (x : ℕ) {v : ℤ} (f : SFits w32 v) (found : Gathered) (g : mag (get_or given x (pos 0)) < 2 ^ 63)
-    {within : Bool} (told : within ≡ within_ends lows highs x (to_z w32 (of_z w32 v)))
-    {r : Bool} (test : r ≡ representable (to_z w64 (of_z w64 (get_or given x (pos 0)))))
-    {w : ℤ} (same : w ≡ to_z w32 (of_z w32 v)) where
+-- the equality of numbers that the code asks, and ours
+same_test : (w v : ℤ) → int_eq w v ≡ eq_z v w
+same_test w v =
+    one_answer (int_eq w v) (eq_z v w) (signed_Decides w v) (λ h. sym (eq_z_true v w h), λ e. subst (λ z. eq_z z w ≡ true) e (eq_z_refl w))
+
+module _ (lows highs : List ℤ) (given : List (Option ℤ)) (x : ℕ) {v : ℤ} (f : SFits w32 v) (found : Gathered)
+    {within : Bool} (told : within ≡ within_ends lows highs x (to_z w32 (of_z w32 v))) where
   inside : within ≡ within_ends lows highs x v
   inside = told ∙ read_one (within_ends lows highs x) f
 
-  number : {t : Bool} → r ≡ t → representable (get_or given x (pos 0)) ≡ t
-  number e = sym (ap representable (to_z-of_z w64 (get_or given x (pos 0)) (record { sfits = g }))) ∙ sym test ∙ e
-
-  bits : eqb (of_z w64 (get_or given x (pos 0))) (of_z w64 w) ≡ eq_z v (get_or given x (pos 0))
-  bits =
-      rw (same)
-      (same_bits w64 (record { sfits = g }) (wide_fits f) ∙ read_one (eq_z (get_or given x (pos 0))) f ∙ eq_z_comm (get_or given x (pos 0)) v)
-
-  pub takes : r ≡ false
-      → gathering (record { failed = found.failed; outside = found.outside || not within; conflict = found.conflict; fresh = true }) (set given x (to_z w64 (of_z w64 w)))
+  pub keeps : (c : Option ℤ) → get_or given x None ≡ c → (c ≡ None → ⊥) → {t : Bool} → t ≡ not (option_eq int_eq c (Some (to_z w32 (of_z w32 v))))
+      → gathering (record { failed = found.failed; outside = found.outside || not within; conflict = found.conflict || t; fresh = found.fresh }) given
       ≡ gather lows highs (gives x v) (gathering found given)
-  unfolding gather
-  takes e = rw (inside, number e, same, to_z-of_z w64 _ (wide_fits f), to_z-of_z w32 v f)
-
-  -- the value held is another one
-  pub differs : r ≡ true → (of_z w64 (get_or given x (pos 0)) ≡ of_z w64 w → ⊥)
-      → gathering (record { failed = found.failed; outside = found.outside || not within; conflict = true; fresh = found.fresh }) given
-      ≡ gather lows highs (gives x v) (gathering found given)
-  unfolding gather
-  differs e n = rw (inside, number e, ← bits, ne_eqb _ _ n, or-true found.conflict)
-
-  pub agrees : r ≡ true → of_z w64 (get_or given x (pos 0)) ≡ of_z w64 w
-      → gathering (record { failed = found.failed; outside = found.outside || not within; conflict = found.conflict; fresh = found.fresh }) given
-      ≡ gather lows highs (gives x v) (gathering found given)
-  unfolding gather
-  agrees e k = rw (inside, number e, ← bits, eq-eqb _ _ k, or-false found.conflict)
+  unfolding gather taken
+  keeps None e n t = absurd (n refl)
+  keeps (Some w) e n t = rw (inside, e, t, to_z-of_z w32 v f, same_test w v)

@@ -1,9 +1,9 @@
 -- How the code goes over an instruction: once, in walk order, folding its effects into flags and cells.
-use Rattle.std.specs.Prelude.{true, false, cond, not, ◌||◌, List, [], ◌∷◌, ℤ, pos, get_or, set}
+use Rattle.std.specs.Prelude.{true, false, cond, not, ◌||◌, List, [], ◌∷◌, ℕ, ℤ, get_or, set, Option as Optional, Some, None}
 use Rattle.std.proofs.Math.Option.{Option, some, none}
 use Rattle.evaluation.specs.declared.Evaluation.{Evaluation}
 use Rattle.evaluation.specs.declared.Evaluation.TheVariants.{Unknown, Failed, Value}
-use Rattle.evaluation.specs.Numbers.{representable, eq_z, boolean}
+use Rattle.evaluation.specs.Numbers.{eq_z, boolean}
 use Rattle.model.specs.Trees.{Instruction, Instructions}
 use Rattle.model.specs.Trees.Instruction.{skip, assign, if_then, block}
 use Rattle.model.specs.Trees.Instructions.{none as no_branch, more}
@@ -18,9 +18,9 @@ use Rattle.interpreter.specs.Instructions.Effect.{fails, gives}
 -- the flags found so far, with the values given so far
 pub record Gathering : Type 0 where
   pub found : Gathered
-  pub given : List ℤ
+  pub given : List (Optional ℤ)
 
-abbrev pub gathering : Gathered → List ℤ → Gathering
+abbrev pub gathering : Gathered → List (Optional ℤ) → Gathering
 gathering f g = record { found = f; given = g }
 
 abbrev pub nothing_found : Gathered
@@ -30,27 +30,31 @@ nothing_found = record { failed = false; outside = false; conflict = false; fres
 abbrev pub failing : Gathered → Gathered
 failing f = record { failed = true; outside = f.outside; conflict = f.conflict; fresh = f.fresh }
 
--- a variable that has a value keeps it, and a value that differs is a conflict; one that has none takes the value given
-unfoldable pub gather : List ℤ → List ℤ → Effect → Gathering → Gathering
-gather lows highs fails g = gathering (failing g.found) g.given
-gather lows highs (gives x v) g =
-    cond (representable (get_or g.given x (pos 0)))
-    (gathering
+-- a value for a variable whose cell holds this: one that has a value keeps it, and a value that differs is a conflict; one that has none
+-- takes the value given
+unfoldable pub taken : List ℤ → List ℤ → ℕ → ℤ → Optional ℤ → Gathering → Gathering
+taken lows highs x v (Some held) g =
+    gathering
     (record {
       failed = g.found.failed;
       outside = g.found.outside || not (within_ends lows highs x v);
-      conflict = g.found.conflict || not (eq_z v (get_or g.given x (pos 0)));
+      conflict = g.found.conflict || not (eq_z v held);
       fresh = g.found.fresh;
     })
-    g.given)
-    (gathering
+    g.given
+taken lows highs x v None g =
+    gathering
     (record {
       failed = g.found.failed;
       outside = g.found.outside || not (within_ends lows highs x v);
       conflict = g.found.conflict;
       fresh = true;
     })
-    (set g.given x v))
+    (set g.given x (Some v))
+
+unfoldable pub gather : List ℤ → List ℤ → Effect → Gathering → Gathering
+gather lows highs fails g = gathering (failing g.found) g.given
+gather lows highs (gives x v) g = taken lows highs x v (get_or g.given x None) g
 
 unfoldable pub gather_all : List ℤ → List ℤ → List Effect → Gathering → Gathering
 gather_all lows highs [] g = g

@@ -37,10 +37,11 @@ impl Gathered {
     }
 
     // An active assignment gives the variable a value.
+    #[tactic(auto, unfolding(crate::specs::Gathering::gather, crate::specs::Gathering::taken))]
     pub fn give(
         &mut self,
         variables: &[VariableRow],
-        given: &mut [i64],
+        given: &mut [Option<i32>],
         variable: usize,
         value: i32,
     )
@@ -48,12 +49,12 @@ impl Gathered {
         ensures { gathering self.new given.new ≡ specs.gather (lows_in variables.now) (highs_in variables.now) (gives variable value) (gathering self.old given.old) }
     {
         self.outside |= !variables[variable].is_within(value);
-        let held = given[variable];
-        if !expressions::is_number(held) {
-            given[variable] = i64::from(value);
-            self.fresh = true;
-        } else if held != i64::from(value) {
-            self.conflict = true;
+        match given[variable] {
+            None => {
+                given[variable] = Some(value);
+                self.fresh = true;
+            }
+            held => self.conflict |= held != Some(value),
         }
     }
 }

@@ -6,13 +6,16 @@ use native.Mathlib.Numerals.{add-one}
 use native.Mathlib.Omega.{arith}
 use lib.IntN.{ℤ}
 use lib.ListN.{length, get_or, take, drop, set, replicate, length-replicate, length-take, drop_of_length-le}
-use lib.Seq.{length-take-le, take_at, take_all, set_at, drop-cons, append_snoc}
+use lib.Seq.{length-take-le, set_at, drop-cons, append_snoc}
 use Rattle.evaluation.specs.declared.Evaluation.{Evaluation}
 use Rattle.results.specs.Results.{over}
 use Rattle.scratch.specs.Blank.{unknown_cell}
 use Rattle.expressions.specs.Cells.{valuation_of}
 use Rattle.model.specs.declared.Model.{Model}
-use Rattle.propagation.specs.Cells.{AllRepresentable}
+use Rattle.std.specs.Prelude.{Option}
+use Rattle.propagation.specs.Cells.{cells_of}
+use Rattle.propagation.proofs.Overwriting.{cell_count}
+use Rattle.propagation.proofs.Finishing.{over_all}
 use Rattle.propagation.proofs.Valuations.{known_values}
 use Rattle.semantics.specs.Meanings.{Meaning, guard_over, meaning_of}
 use Rattle.engine.specs.Cells.{Loaded}
@@ -65,29 +68,21 @@ module _ (m : Meaning) (values : List ℤ) (old : List ℕ) where
 
 module _ {model : Model} {kinds : List ℕ} {parameters : List ℤ} {rows : List VariableRow} {nexts guards : List ℕ}
     (d : Loaded model kinds parameters rows nexts guards) (values : List ℤ) (enough : length rows ≤ length values)
-    (cells array : List ℤ) (is : cells ≡ over (take (length rows) values) array) where
-  cells_hold : take (length rows) cells ≡ take (length rows) values
-  cells_hold = ap (take (length rows)) is ∙ take_at (take (length rows) values) _ (length rows) (length-take-le (length rows) values enough)
+    (cells array : List (Option ℤ)) (long : length array ≡ length rows) (is : cells ≡ over (cells_of (take (length rows) values)) array) where
+  cells_hold : cells ≡ cells_of (take (length rows) values)
+  cells_hold =
+      is ∙ over_all (cells_of (take (length rows) values)) array (omega (arith, cell_count (take (length rows) values), length-take-le (length rows) values enough, long))
 
   -- the guard over the cells is the guard over the values
-  pub guard_marked : AllRepresentable (take (length rows) values) → (i : ℕ) (g : Evaluation)
-      → g ≡ guard_over d.decoded.system i (valuation_of (take (length rows) cells))
+  pub guard_held : (i : ℕ) (g : Evaluation) → g ≡ guard_over d.decoded.system i (valuation_of cells)
       → (x : ℕ) → x ≡ mark_of g → x ≡ mark_of ((meaning d).guard i (take (length rows) values))
   unfolding meaning_of
-  guard_marked known i g e x marked =
+  guard_held i g e x marked =
       marked ∙ ap mark_of (e ∙ ap (λ l. guard_over d.decoded.system i (valuation_of l)) cells_hold
-      ∙ ap (guard_over d.decoded.system i) (known_values (take (length rows) values) known))
-
-  -- so it is over as many cells as variables
-  pub guard_held : AllRepresentable (take (length rows) values) → length cells ≡ length rows → (i : ℕ) (g : Evaluation)
-      → g ≡ guard_over d.decoded.system i (valuation_of cells)
-      → (x : ℕ) → x ≡ mark_of g → x ≡ mark_of ((meaning d).guard i (take (length rows) values))
-  guard_held known long i g e =
-      guard_marked known i g
-      (e ∙ ap (λ l. guard_over d.decoded.system i (valuation_of l)) (sym (take_all (length rows) cells (omega (arith, long)))))
+      ∙ ap (guard_over d.decoded.system i) (known_values (take (length rows) values)))
 
 -- ---- the cells are blank again
 
-module _ (n : ℕ) (blank : List ℤ) (unknown : blank ≡ replicate n unknown_cell) where
+module _ (n : ℕ) (blank : List (Option ℤ)) (unknown : blank ≡ replicate n unknown_cell) where
   pub length_blank : length blank ≡ n
   length_blank = ap length unknown ∙ length-replicate n unknown_cell

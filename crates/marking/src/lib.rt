@@ -22,7 +22,12 @@ pub fn mark_of(guard: Evaluation) -> u8
 }
 
 // The mark of each guard over the values, into its cell; the cells past the last transition's stay.
-pub fn refresh(decoded: &DecodedModel<'_>, values: &[i32], cells: &mut [i64], marks: &mut [u8])
+pub fn refresh(
+    decoded: &DecodedModel<'_>,
+    values: &[i32],
+    cells: &mut [Option<i32>],
+    marks: &mut [u8],
+)
     requires variables_in_bounds { (length decoded.now.tables.variables.now ≤ length values.now) × (length decoded.now.tables.guards.now ≤ length marks.old)
         × (cells.old ≡ replicate (length decoded.now.tables.variables.now) unknown_cell) }
     ensures marked { OnLoadedIn decoded.now.tables (λ m. marks.new ≡ marks_over m values.now marks.old) }

@@ -21,7 +21,6 @@ use interpreter::Gathered;
 use reading::Gathering;
 use replaying::Move;
 use results::Refusal;
-use scratch::Blank;
 use semantics::Firing;
 use standing::Run;
 use steps::moves;
@@ -29,7 +28,7 @@ use steps::moves;
 // The move over these values, worked out in arrays that are declared here.
 fn replay_within<const NODES: usize, const VARIABLES: usize>(
     loaded: &LoadedModel<'_>,
-    cells: &mut [i64],
+    cells: &mut [Option<i32>],
     values: &mut [i32],
     run: &Run<'_>,
     step: Move,
@@ -41,7 +40,7 @@ fn replay_within<const NODES: usize, const VARIABLES: usize>(
     ensures blank { cells.new ≡ cells.old }
 {
     let mut states = [0i32; VARIABLES];
-    let mut given = [Blank::CELL; VARIABLES];
+    let mut given = [None; VARIABLES];
     let mut queue = [0u16; VARIABLES];
     let mut waits = [0u16; NODES];
     let count = loaded.decoded.tables.variables.len();
@@ -62,7 +61,7 @@ fn conclude(
     firing: Firing,
     decoded: &DecodedModel<'_>,
     new: &[i32],
-    cells: &mut [i64],
+    cells: &mut [Option<i32>],
     values: &mut [i32],
     marks: &mut [u8],
 )
@@ -102,7 +101,7 @@ pub fn dispatch<const NODES: usize, const VARIABLES: usize>(
     };
     moves::test(tables.guards.len(), tables.variables, &lent, step)?;
     let count = tables.variables.len();
-    let mut cells = [Blank::CELL; VARIABLES];
+    let mut cells = [None; VARIABLES];
     let mut copy = [0i32; VARIABLES];
     let cells = &mut cells[..count];
     let copy = &mut copy[..count];

@@ -22,7 +22,7 @@ use variables::VariableRow;
 fn pick_loaded(
     decoded: &DecodedModel<'_>,
     run: &Run<'_>,
-    cells: &mut [i64],
+    cells: &mut [Option<i32>],
 ) -> Result<Option<usize>, Refusal>
     requires { length cells.old ≡ length decoded.now.tables.variables.now }
     ensures { OnLoadedIn decoded.now.tables (λ m. seen_as picked result ≡ queries.pick m (run_in run.now)) }
@@ -52,7 +52,7 @@ pub fn pick(model: &[u8], run: &Run<'_>) -> Result<Option<usize>, Refusal>
     let mut variables = [VariableRow::BLANK; Model::MAX_VARIABLES];
     let mut nexts = [0u16; Model::MAX_NODES];
     let mut guards = [0u16; Model::MAX_TRANSITIONS];
-    let mut cells = [0i64; Model::MAX_VARIABLES];
+    let mut cells = [None; Model::MAX_VARIABLES];
     let loaded = decoding::prepare(
         model,
         &mut parameters,

@@ -1,4 +1,5 @@
 -- What the code makes of an action: gathered over blank cells, its values replace the old states.
+use Rattle.std.specs.Prelude.{Option as Optional}
 use Rattle.std.specs.Prelude.{Result, Ok, Err}
 use mathlib.Core.Path.{◌≡◌, refl, sym, ap, ap₂, ◌∙◌, fun_ext}
 use mathlib.Core.List.{List, [], ◌∷◌}
@@ -30,9 +31,8 @@ use Rattle.waiting.proofs.Reading.{Gathers, gathers}
 use Rattle.reading.specs.Readings.{held, read_by}
 use Rattle.rounds.specs.Cells.{finding_of}
 use Rattle.rounds.proofs.Propagating.{finding_faulty, finding_clear, length_variables}
-use Rattle.propagation.specs.Cells.{changed_by, states_by_acting, ActionStands}
-use Rattle.propagation.proofs.Overwriting.{replaced_by}
-use Rattle.propagation.proofs.Valuations.{nothing_held, known_values, filled_cells}
+use Rattle.propagation.specs.Cells.{held_or, changed_by, states_by_acting, ActionStands}
+use Rattle.propagation.proofs.Valuations.{nothing_held, known_values, held_cells}
 
 element_of_take : {A : Type 0} (n : ℕ) (l : List A) (k : ℕ) → k < n → get_elem? (take n l) k ≡ get_elem? l k
 element_of_take zero l k h = absurd (not-suc-le-zero h)
@@ -42,22 +42,22 @@ element_of_take (suc n) (a ∷ l) (suc k) h = element_of_take n l k (le_of_suc-l
 
 -- ---- the states after the test of the fault
 
-module _ (o : Option Fault) (old given : List ℤ) (x : Result (Unit {0}) Fault) (found : x ≡ finding_of o) where
+module _ (o : Option Fault) (old : List ℤ) (given : List (Optional ℤ)) (x : Result (Unit {0}) Fault) (found : x ≡ finding_of o) where
   pub changed_faulty : (f : Fault) → x ≡ Err f → answered (Err f) old ≡ changed_by o old given
   unfolding changed_by
   changed_faulty f e = rw (finding_faulty o f (sym found ∙ e))
 
-  pub changed_clear : (new : List ℤ) → new ≡ replaced_by given old → x ≡ Ok tt → answered (Ok tt) new ≡ changed_by o old given
+  pub changed_clear : (new : List ℤ) → new ≡ held_or given old → x ≡ Ok tt → answered (Ok tt) new ≡ changed_by o old given
   unfolding changed_by
   changed_clear new e c = rw (finding_clear o (sym found ∙ c), e)
 
 -- ---- the action where it stands
 
-module _ {ks : List ℕ} {ps : List ℤ} {nexts : List ℕ} {rows : List VariableRow} {values old : List ℤ} {at : ℕ} (a : ActionStands ks ps nexts rows values old at) where
+module _ {ks : List ℕ} {ps : List ℤ} {nexts : List ℕ} {rows : List VariableRow} {cells₀ : List (Optional ℤ)} {old : List ℤ} {at : ℕ} (a : ActionStands ks ps nexts rows cells₀ old at) where
   rows_counted : length rows ≡ length a.system.states + length a.system.flows
   rows_counted = row_count (variables a.system) a.rows_held ∙ length_variables a.system
 
-  pub may_act : (given : List ℤ) → length given ≡ length rows → InstructionStands ks ps nexts (length rows) (length given) at
+  pub may_act : (given : List (Optional ℤ)) → length given ≡ length rows → InstructionStands ks ps nexts (length rows) (length given) at
   may_act given h =
       record {
         instruction = a.action;
@@ -79,46 +79,49 @@ module _ {ks : List ℕ} {ps : List ℤ} {nexts : List ℕ} {rows : List Variabl
   pub few_states : length old ≤ length rows
   few_states = omega (arith, length_old, rows_counted)
 
-  module _ (nf : Gathered) (nothing : nf ≡ nothing_found) (blank : List ℤ) (empty : blank ≡ replicate (length rows) unknown_cell) (queue₀ waits₀ : List ℕ)
-      (r : Gathered) (given : List ℤ) (queued : ℕ) (queue waits : List ℕ)
+  module _ (nf : Gathered) (nothing : nf ≡ nothing_found) (blank : List (Optional ℤ)) (empty : blank ≡ replicate (length rows) unknown_cell) (queue₀ waits₀ : List ℕ)
+      (r : Gathered) (given : List (Optional ℤ)) (queued : ℕ) (queue waits : List ℕ)
       (told : (i : Instruction) → InstructionAt ks ps i at
-      → held r given queued queue waits ≡ read_by (lows_in rows) (highs_in rows) (valuation_of values) at 1 i (held nf blank 0 queue₀ waits₀))
+      → held r given queued queue waits ≡ read_by (lows_in rows) (highs_in rows) (valuation_of cells₀) at 1 i (held nf blank 0 queue₀ waits₀))
       (long : length given ≡ length rows) where
     gathered : gathering r given
-        ≡ gather_all (lows_in rows) (highs_in rows) (effects a.action (valuation_of values)) (gathering nothing_found (replicate (length rows) unknown_cell))
+        ≡ gather_all (lows_in rows) (highs_in rows) (effects a.action (valuation_of cells₀)) (gathering nothing_found (replicate (length rows) unknown_cell))
     unfolding read_by
     gathered =
         ap (λ h. h.gathered) (told a.action a.stands)
-        ∙ ap₂ (λ f g. gather_all (lows_in rows) (highs_in rows) (effects a.action (valuation_of values)) (gathering f g)) nothing empty
+        ∙ ap₂ (λ f g. gather_all (lows_in rows) (highs_in rows) (effects a.action (valuation_of cells₀)) (gathering f g)) nothing empty
 
     unknown : valuation_of (replicate (length rows) unknown_cell) ≡ nothing_known
     unknown = fun_ext (nothing_held (length rows) 0)
 
-    read : Gathers (variables a.system) a.action (valuation_of values) (valuation_of (replicate (length rows) unknown_cell)) (gathering r given)
+    read : Gathers (variables a.system) a.action (valuation_of cells₀) (valuation_of (replicate (length rows) unknown_cell)) (gathering r given)
     read =
         rw (gathered, low_ends (variables a.system) a.rows_held, high_ends (variables a.system) a.rows_held)
         (gathers (variables a.system) a.action (action_scope (sizes_of a.system) (variables a.system)) a.scoped
-        (omega (arith, length_variables a.system)) values (replicate (length rows) unknown_cell) (omega (arith, rows_counted, length-replicate (length rows) unknown_cell)))
+        (omega (arith, length_variables a.system)) cells₀ (replicate (length rows) unknown_cell) (omega (arith, rows_counted, length-replicate (length rows) unknown_cell)))
 
-    fault_read : fault_in r ≡ fault_of (variables a.system) nothing_known (effects a.action (known_from values))
-    fault_read = read.fault ∙ rw (unknown, known_values values a.known)
+    all_known : valuation_of cells₀ ≡ known_from a.values
+    all_known = ap (λ l. valuation_of l) a.held ∙ known_values a.values
 
-    given_read : (k : ℕ) → valuation_of given k ≡ given_to k (effects a.action (known_from values))
+    fault_read : fault_in r ≡ fault_of (variables a.system) nothing_known (effects a.action (known_from a.values))
+    fault_read = read.fault ∙ rw (unknown, all_known)
+
+    given_read : (k : ℕ) → valuation_of given k ≡ given_to k (effects a.action (known_from a.values))
     unfolding first_of
-    given_read k = ap (λ σ. σ k) read.given ∙ rw (nothing_held (length rows) 0 k, known_values values a.known)
+    given_read k = ap (λ σ. σ k) read.given ∙ rw (nothing_held (length rows) 0 k, all_known)
 
-    new_states : cells (changed (effects a.action (known_from values)) (known_from values)) (length a.system.states) 0 ≡ replaced_by given old
+    new_states : cells (changed (effects a.action (known_from a.values)) (known_from a.values)) (length a.system.states) 0 ≡ held_or given old
     new_states =
         rw (← length_old)
-        (filled_cells (changed (effects a.action (known_from values)) (known_from values)) old given 0 (omega (arith, few_states, long))
+        (held_cells (changed (effects a.action (known_from a.values)) (known_from a.values)) given old 0 (omega (arith, few_states, long))
         (λ k l. let e : 0 + k ≡ k = omega arith in
-        rw (e, given_read k, a.states, element_of_take (length a.system.states) values k (omega (arith, length_old)))))
+        rw (e, given_read k, a.states, element_of_take (length a.system.states) a.values k (omega (arith, length_old)))))
 
-    pub acted_by_lem : changed_by (fault_in r) old given ≡ states_by_acting old (act a.system a.action values)
+    pub acted_by_lem : changed_by (fault_in r) old given ≡ states_by_acting old (act a.system a.action a.values)
     unfolding act acted_by changed_by states_by_acting
     acted_by_lem = rw (← fault_read) (by (fault_in r))
       where
         by : (o : Option Fault) → changed_by o old given
-            ≡ states_by_acting old (acted_by (length a.system.states) values (effects a.action (known_from values)) o)
+            ≡ states_by_acting old (acted_by (length a.system.states) a.values (effects a.action (known_from a.values)) o)
         by (some f) = refl
         by none = rw new_states

@@ -1,4 +1,5 @@
 -- Blank cells, and the lengths of what is left in them: how many there are, that a gathering has room in them and nothing waits, and that they are blank again once each was set.
+use Rattle.std.specs.Prelude.{Option as Optional}
 use mathlib.Core.Path.{◌≡◌, sym, ap, ◌∙◌}
 use mathlib.Core.List.{List}
 use Prim.Native.Nat.{ℕ, ◌≤◌}
@@ -13,10 +14,10 @@ use Rattle.waiting.specs.Marks.{mark_count}
 use Rattle.waiting.proofs.Counting.{none_marked}
 
 -- a queue that is no shorter than the cells has room for each of them
-pub room_for_all : (given : List ℤ) (queue : List ℕ) → length given ≤ length queue → Room given 0 queue
+pub room_for_all : (given : List (Optional ℤ)) (queue : List ℕ) → length given ≤ length queue → Room given 0 queue
 room_for_all given queue h = omega (arith, h, unknowns_bounded (valuation_of given) (length given) 0)
 
-module _ {n m : ℕ} {given : List ℤ} {queue waits : List ℕ} (b : BlankGathering n m given queue waits) where
+module _ {n m : ℕ} {given : List (Optional ℤ)} {queue waits : List ℕ} (b : BlankGathering n m given queue waits) where
   pub length_given : length given ≡ n
   length_given = ap length b.nothing_given ∙ length-replicate n unknown_cell
 
@@ -29,6 +30,6 @@ module _ {n m : ℕ} {given : List ℤ} {queue waits : List ℕ} (b : BlankGathe
   pub nothing_waits : 0 ≡ mark_count waits
   nothing_waits = sym (ap mark_count b.nothing_marked ∙ none_marked m)
 
-module _ {n m : ℕ} {cells given : List ℤ} {queue waits : List ℕ} (b : BlankCells n m cells given queue waits) where
+module _ {n m : ℕ} {cells given : List (Optional ℤ)} {queue waits : List ℕ} (b : BlankCells n m cells given queue waits) where
   pub length_cells : length cells ≡ n
   length_cells = ap length b.nothing_known ∙ length-replicate n unknown_cell

@@ -1,4 +1,5 @@
 -- The reading after the reset, over what still waits.
+use Rattle.std.specs.Prelude.{Option as Optional}
 use Rattle.std.specs.Prelude.{Result}
 use mathlib.Core.Path.{◌≡◌, refl, sym, ap, ◌∙◌}
 use mathlib.Core.Bool.{false}
@@ -45,12 +46,12 @@ use Rattle.waiting.proofs.Waking.{positive, woken_begins, enough_read}
 use Rattle.rounds.specs.Cells.{AssertionStands, finding_of}
 use Rattle.rounds.specs.Rounds.{Done, Waking, SomeWaking, StillWaking, Resting}
 use Rattle.rounds.proofs.Propagating.{length_variables}
-use Rattle.propagation.specs.Cells.{AllRepresentable, filled}
+use Rattle.propagation.specs.Cells.{cells_of, held_or}
 use Rattle.propagation.proofs.Valuations.{filled_known}
 
 -- ---- lists
 
-pub over_all : (new old : List ℤ) → length new ≡ length old → over new old ≡ new
+pub over_all : {A : Type 0} (new old : List A) → length new ≡ length old → over new old ≡ new
 over_all new old e =
     let z : length old ≤ length new = omega (arith, e) in
     ap (λ l. new ++ l) (drop_of_length-le old z) ∙ append-nil new
@@ -61,7 +62,7 @@ all_append P [] m h k = k
 all_append P (a ∷ l) m h k = (h.0, all_append P l m h.1 k)
 
 -- the effects of what was read
-each_admissible : (cells : List ℤ) (sc : Scope) (read : List Spot) → ((s : Spot) → Memᴰ s read → Scoped s.instruction sc) → {n m : ℕ} → sc.past ≤ n → sc.past ≤ m
+each_admissible : (cells : List (Optional ℤ)) (sc : Scope) (read : List Spot) → ((s : Spot) → Memᴰ s read → Scoped s.instruction sc) → {n m : ℕ} → sc.past ≤ n → sc.past ≤ m
     → All (Admissible n m) (effects_of_each (instructions_of read) (valuation_of cells))
 unfolding effects_of_each instructions_of All
 each_admissible cells sc [] f p q = tt
@@ -100,14 +101,14 @@ first_some v o = refl
 
 -- ---- the reading
 
-module _ (ks : List ℕ) (ps : List ℤ) (nexts : List ℕ) (rows : List VariableRow) (at : ℕ) (cells cells' : List ℤ) (count pending : ℕ) (waits : List ℕ)
-    (reset : cells' ≡ filled (firsts_in rows) cells) (numbers : AllRepresentable (firsts_in rows)) (fits : length (firsts_in rows) ≤ length cells) (long : length waits ≡ length ks) where
+module _ (ks : List ℕ) (ps : List ℤ) (nexts : List ℕ) (rows : List VariableRow) (at : ℕ) (cells cells' : List (Optional ℤ)) (count pending : ℕ) (waits : List ℕ)
+    (reset : cells' ≡ over (cells_of (held_or cells (firsts_in rows))) cells) (fits : length (firsts_in rows) ≤ length cells) (long : length waits ≡ length ks) where
   larger : Extends (valuation_of cells) (valuation_of cells')
   larger x v k =
-      ap (λ l. valuation_of l x) reset ∙ filled_known (firsts_in rows) cells fits numbers x ∙ ap (λ o. first_of o (get_elem? (firsts_in rows) x)) k
+      ap (λ l. valuation_of l x) reset ∙ filled_known cells (firsts_in rows) fits x ∙ ap (λ o. first_of o (get_elem? (firsts_in rows) x)) k
       ∙ first_some v (get_elem? (firsts_in rows) x)
 
-  module _ (nf : Gathered) (nothing : nf ≡ nothing_found) (given : List ℤ) (same : given ≡ cells') (queue : List ℕ)
+  module _ (nf : Gathered) (nothing : nf ≡ nothing_found) (given : List (Optional ℤ)) (same : given ≡ cells') (queue : List ℕ)
       (a : AssertionStands ks ps nexts rows at) (b : Resting ks ps nexts rows at a cells waits count pending) where
     begins : Waking ks ps nexts rows at cells' (count + 1) a (valuation_of cells) [] nf given 0 queue waits
     unfolding effects_of_each instructions_of gather_all news_of
@@ -126,7 +127,7 @@ module _ (ks : List ℕ) (ps : List ℤ) (nexts : List ℕ) (rows : List Variabl
     pub scan_begins : SomeWaking ks ps nexts rows at cells' (count + 1) nf given 0 queue waits
     scan_begins = record { stands = a; valuation = valuation_of cells; before = []; waking = begins }
 
-    module _ (room : length rows ≤ length cells') (found' : Gathered) (given' : List ℤ) (queued' : ℕ) (queue' waits' : List ℕ) (pending' : ℕ)
+    module _ (room : length rows ≤ length cells') (found' : Gathered) (given' : List (Optional ℤ)) (queued' : ℕ) (queue' waits' : List ℕ) (pending' : ℕ)
         (still : StillWaking ks ps nexts rows at cells' (count + 1) nf given 0 queue waits found' given' queued' queue' waits' pending')
         (passed : (p : ℕ) → at ≤ p → p < length ks → Done (count + 1) waits' p) where
       after : Waking ks ps nexts rows at cells' (count + 1) a (valuation_of cells) [] found' given' queued' queue' waits'

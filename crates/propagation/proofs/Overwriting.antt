@@ -1,25 +1,24 @@
 -- A loop that goes over a list from the front, and makes each element that of another list, in place. After i turns the list is
 -- `partly new old i`. Then the lists that the loops of this crate make: values over cells, and `filled`.
-use mathlib.Core.Path.{◌≡◌, refl, sym, ap, ◌∙◌, subst}
-use mathlib.Core.Bool.{Bool, true, false, cond}
+use mathlib.Core.Path.{◌≡◌, refl, sym, ap, ◌∙◌}
+use mathlib.Core.Bool.{true, false, true≢false}
 use mathlib.Core.List.{List, [], ◌∷◌, ◌++◌}
-use Prim.Native.Nat.{ℕ, zero, suc, ◌+◌, ◌≤◌, ◌<◌, ◌^◌}
+use Prim.Native.Nat.{ℕ, zero, suc, ◌+◌, ◌≤◌, ◌<◌}
 use native.Mathlib.Nat.{not-suc-le-zero, le_of_suc-le-suc}
 use native.Mathlib.Numerals.{add-one}
 use native.Mathlib.Omega.{arith}
+use borrow.Author.Tests.{le-leb}
 use lib.Dec.{T}
-use lib.IntN.{ℤ, pos}
-use lib.Signed.{mag}
-use lib.ListN.{length, take, drop, get_or, set, take-append-drop, length-append, length-take, length-drop, get_or-append}
-use lib.Seq.{get_or-take, take-suc, drop-cons, set_at, get_or_at, append_snoc, drop-append_seam}
-use mir.Syntax.{w32, w64}
-use mir.Val.{to_z, of_z, SFits}
-use mir.ValLaws.{to_z-of_z}
+use lib.IntN.{ℤ, pos, negsuc}
+use lib.ListN.{length, take, drop, get_or, set, take-append-drop, length-append, length-take, length-drop, get_or-append, drop_of_length-le}
+use lib.Seq.{take-suc, drop-cons, set_at, get_or_at, append_snoc, drop-append_seam}
+use mir.Syntax.{w32}
+use mir.Val.{SFits}
 use Rattle.evaluation.specs.Numbers.{representable}
-use Rattle.evaluation.proofs.Signed.{wide_fits}
 use Rattle.results.specs.Results.{over}
-use Rattle.propagation.specs.Cells.{filled}
-use Rattle.expressions.proofs.Cells.{fits_representable}
+use Rattle.propagation.specs.Cells.{cells_of, held_or}
+use Rattle.std.specs.Prelude.{Option, Some, None, unwrap_or, is_some}
+use Rattle.std.proofs.lemmas.List.{get_or-map, length-map}
 
 module _ {A : Type 0} (new old : List A) where
   abbrev pub partly : ℕ → List A
@@ -57,115 +56,114 @@ module _ {A : Type 0} (new old : List A) (long : length new ≡ length old) wher
 
 -- ---- values over the first cells
 
-module _ (values cells : List ℤ) (fits : length values ≤ length cells) where
+module _ {A : Type 0} (values cells : List A) (fits : length values ≤ length cells) where
   pub length_over : length (over values cells) ≡ length cells
   length_over = simp (length-append, length-drop) (omega arith)
 
-  pub drop_over : (i : ℕ) → length values ≤ i → i ≤ length values → drop i (over values cells) ≡ drop i cells
+  drop_over : (i : ℕ) → length values ≤ i → i ≤ length values → drop i (over values cells) ≡ drop i cells
   drop_over i l u = rw e (drop-append_seam values (drop (length values) cells))
     where
       e : i ≡ length values
       e = omega arith
 
-module _ (values cells₀ cells : List ℤ) (i : ℕ) (fits : length values ≤ length cells₀) (is : cells ≡ partly (over values cells₀) cells₀ i) where
-  pub over_again : i < length values → (x : ℤ) → x ≡ get_or values i (pos 0) → set cells i x ≡ partly (over values cells₀) cells₀ (i + 1)
-  over_again h x e =
-      rw is
-      (partly_set (over values cells₀) cells₀ (length_over values cells₀ fits) i (pos 0) (omega arith) x
-      (e ∙ sym (get_or-append values (drop (length values) cells₀) (pos 0) i h)))
-
+module _ {A : Type 0} (values cells₀ cells : List A) (i : ℕ) (fits : length values ≤ length cells₀) (is : cells ≡ partly (over values cells₀) cells₀ i) where
   pub over_done : length values ≤ i → i ≤ length values → cells ≡ over values cells₀
   over_done l u =
       is ∙ partly_done (over values cells₀) cells₀ (length_over values cells₀ fits) i (drop_over values cells₀ fits i l u)
 
--- a number of 32 bits, as the bits of 64 have it
-module _ (z : ℤ) (f : mag z < 2 ^ 31) where
-  pub number_wide : SFits w64 (to_z w32 (of_z w32 z))
-  number_wide = wide_fits {x = z} (record { sfits = f })
+  module _ (h : i < length values) (d : A) where
+    -- the cell is as it was
+    pub over_here : get_or cells i d ≡ get_or cells₀ i d
+    over_here = rw is (partly_here (over values cells₀) cells₀ (length_over values cells₀ fits) i d (omega arith))
 
-  pub number_read : to_z w32 (of_z w32 z) ≡ z
-  number_read = to_z-of_z w32 _ (record { sfits = f })
+    over_there : get_or (over values cells₀) i d ≡ get_or values i d
+    over_there = get_or-append values (drop (length values) cells₀) d i h
 
-  pub number_same : to_z w64 (of_z w64 (to_z w32 (of_z w32 z))) ≡ z
-  number_same = to_z-of_z w64 _ number_wide ∙ number_read
+    pub over_set : (x : A) → x ≡ get_or values i d → set cells i x ≡ partly (over values cells₀) cells₀ (i + 1)
+    over_set x e = rw is (partly_set (over values cells₀) cells₀ (length_over values cells₀ fits) i d (omega arith) x (e ∙ sym over_there))
 
-  pub number_held : T (representable z)
-  number_held = subst T (sym (fits_representable z (record { sfits = f }))) tt
+    pub over_keep : get_or cells i d ≡ get_or values i d → cells ≡ partly (over values cells₀) cells₀ (i + 1)
+    over_keep e =
+        is ∙ partly_keep (over values cells₀) cells₀ (length_over values cells₀ fits) i d (omega arith) (sym over_here ∙ e ∙ sym over_there)
+
+-- ---- cells that hold values
+
+pub cell_of : (values : List ℤ) (i : ℕ) → i < length values → get_or (cells_of values) i None ≡ Some (get_or values i (pos 0))
+cell_of values i h = get_or-map Some values i (pos 0) None h
+
+pub cell_count : (values : List ℤ) → length (cells_of values) ≡ length values
+cell_count values = length-map values Some
+
+pub number_held : (z : ℤ) → SFits w32 z → T (representable z)
+number_held (pos n) f = rw (le-leb n 2147483647 (omega (arith, f.sfits))) tt
+number_held (negsuc n) f = rw (le-leb n 2147483647 (omega (arith, f.sfits))) tt
 
 -- every element below a number is a number of 32 bits
 abbrev pub NumbersBelow : ℕ → List ℤ → Type 0
 NumbersBelow i values = (k : ℕ) → k < i → T (representable (get_or values k (pos 0)))
 
--- ---- filled cells
+-- ---- what cells hold, in place of values
 
-pub length_filled : (values cells : List ℤ) → length (filled values cells) ≡ length cells
-unfolding filled
-length_filled [] cells = refl
-length_filled (v ∷ values) [] = refl
-length_filled (v ∷ values) (z ∷ cells) = ap suc (length_filled values cells)
+pub length_held_or : (cells : List (Option ℤ)) (values : List ℤ) → length (held_or cells values) ≡ length values
+unfolding held_or
+length_held_or [] values = refl
+length_held_or (c ∷ cells) [] = refl
+length_held_or (c ∷ cells) (v ∷ values) = ap suc (length_held_or cells values)
 
-pub get_d_filled : (values cells : List ℤ) (i : ℕ) → i < length values → i < length cells
-    → get_or (filled values cells) i (pos 0) ≡ cond (representable (get_or cells i (pos 0))) (get_or cells i (pos 0)) (get_or values i (pos 0))
-unfolding filled
-get_d_filled [] cells i l h = absurd (not-suc-le-zero l)
-get_d_filled (v ∷ values) [] i l h = absurd (not-suc-le-zero h)
-get_d_filled (v ∷ values) (z ∷ cells) zero l h = refl
-get_d_filled (v ∷ values) (z ∷ cells) (suc i) l h = get_d_filled values cells i (le_of_suc-le-suc l) (le_of_suc-le-suc h)
+pub get_held_or : (cells : List (Option ℤ)) (values : List ℤ) (i : ℕ) → i < length values
+    → get_or (held_or cells values) i (pos 0) ≡ unwrap_or (get_or cells i None) (get_or values i (pos 0))
+unfolding held_or
+get_held_or [] values i h = refl
+get_held_or (c ∷ cells) [] i h = absurd (not-suc-le-zero h)
+get_held_or (c ∷ cells) (v ∷ values) zero h = refl
+get_held_or (c ∷ cells) (v ∷ values) (suc i) h = get_held_or cells values i (le_of_suc-le-suc h)
 
-pub drop_filled : (values cells : List ℤ) (i : ℕ) → length values ≤ i → drop i (filled values cells) ≡ drop i cells
-unfolding filled
-drop_filled [] cells i l = refl
-drop_filled (v ∷ values) [] i l = refl
-drop_filled (v ∷ values) (z ∷ cells) zero l = absurd (not-suc-le-zero l)
-drop_filled (v ∷ values) (z ∷ cells) (suc i) l = drop_filled values cells i (le_of_suc-le-suc l)
+module _ (cells : List (Option ℤ)) (values₀ values : List ℤ) (i : ℕ) (is : values ≡ partly (held_or cells values₀) values₀ i) where
+  pub held_done : length values₀ ≤ i → values ≡ held_or cells values₀
+  held_done l =
+      is ∙ partly_done (held_or cells values₀) values₀ (length_held_or cells values₀) i
+      (drop_of_length-le (held_or cells values₀) (omega (arith, length_held_or cells values₀)) ∙ sym (drop_of_length-le values₀ l))
 
--- the loop that fills cells
-module _ (values cells₀ cells : List ℤ) (i : ℕ) (is : cells ≡ partly (filled values cells₀) cells₀ i) where
-  pub filled_done : length values ≤ i → cells ≡ filled values cells₀
-  filled_done l =
-      is ∙ partly_done (filled values cells₀) cells₀ (length_filled values cells₀) i (drop_filled values cells₀ i l)
+  module _ (h : i < length values₀) where
+    pub held_set : (x : ℤ) → get_or cells i None ≡ Some x → set values i x ≡ partly (held_or cells values₀) values₀ (i + 1)
+    held_set x e =
+        ap (λ l. set l i x) is ∙ partly_set (held_or cells values₀) values₀ (length_held_or cells values₀) i (pos 0) h x (sym (get_held_or cells values₀ i h ∙ rw e))
 
-  module _ (h : i < length values) (within : i < length cells₀) where
-    filled_here : get_or cells i (pos 0) ≡ get_or cells₀ i (pos 0)
-    filled_here = rw is (partly_here (filled values cells₀) cells₀ (length_filled values cells₀) i (pos 0) within)
+    pub held_keep : get_or cells i None ≡ None → values ≡ partly (held_or cells values₀) values₀ (i + 1)
+    held_keep e =
+        is ∙ partly_keep (held_or cells values₀) values₀ (length_held_or cells values₀) i (pos 0) h (sym (get_held_or cells values₀ i h ∙ rw e))
 
-    pub filled_set : representable (get_or cells i (pos 0)) ≡ false → (x : ℤ) → x ≡ get_or values i (pos 0)
-        → set cells i x ≡ partly (filled values cells₀) cells₀ (i + 1)
-    filled_set n x e =
-        ap (λ l. set l i x) is
-        ∙ partly_set (filled values cells₀) cells₀ (length_filled values cells₀) i (pos 0) within x
-        (e ∙ sym (get_d_filled values cells₀ i h within ∙ rw (← filled_here, n)))
+-- the loop that fills cells which hold nothing
+module _ (values : List ℤ) (cells₀ cells : List (Option ℤ)) (i : ℕ) (fits : length values ≤ length cells₀)
+    (is : cells ≡ partly (over (cells_of (held_or cells₀ values)) cells₀) cells₀ i) (h : i < length values) where
+  enough : length (cells_of (held_or cells₀ values)) ≤ length cells₀
+  enough = omega (arith, cell_count (held_or cells₀ values), length_held_or cells₀ values)
 
-    pub filled_keep : representable (get_or cells i (pos 0)) ≡ true → cells ≡ partly (filled values cells₀) cells₀ (i + 1)
-    filled_keep n =
-        is ∙ partly_keep (filled values cells₀) cells₀ (length_filled values cells₀) i (pos 0) within
-        (sym (get_d_filled values cells₀ i h within ∙ rw (← filled_here, n)))
+  below_end : i < length (cells_of (held_or cells₀ values))
+  below_end = omega (arith, cell_count (held_or cells₀ values), length_held_or cells₀ values)
 
-pub read_cell : (cells : List ℤ) (i : ℕ) → mag (get_or cells i (pos 0)) < 2 ^ 63 → to_z w64 (of_z w64 (get_or cells i (pos 0))) ≡ get_or cells i (pos 0)
-read_cell cells i f = to_z-of_z w64 (get_or cells i (pos 0)) (record { sfits = f })
+  same : get_or cells i None ≡ get_or cells₀ i None
+  same = over_here (cells_of (held_or cells₀ values)) cells₀ cells i enough is below_end None
 
-module _ (cells : List ℤ) (i : ℕ) (f : mag (get_or cells i (pos 0)) < 2 ^ 63) {r : Bool} (e : r ≡ representable (to_z w64 (of_z w64 (get_or cells i (pos 0))))) where
-  pub cell_tested : (t : Bool) → r ≡ t → representable (get_or cells i (pos 0)) ≡ t
-  cell_tested t h = ap representable (sym (read_cell cells i f)) ∙ sym e ∙ h
+  wanted : get_or (cells_of (held_or cells₀ values)) i None ≡ Some (unwrap_or (get_or cells i None) (get_or values i (pos 0)))
+  wanted =
+      cell_of (held_or cells₀ values) i (omega (arith, length_held_or cells₀ values))
+      ∙ ap Some (get_held_or cells₀ values i h ∙ ap (λ c. unwrap_or c (get_or values i (pos 0))) (sym same))
 
--- the loop that replaces values: the values are the first of the filled cells
-abbrev pub replaced_by : List ℤ → List ℤ → List ℤ
-replaced_by cells values = take (length values) (filled values cells)
+  pub filled_set : is_some (get_or cells i None) ≡ false → (x : ℤ) → x ≡ get_or values i (pos 0)
+      → set cells i (Some x) ≡ partly (over (cells_of (held_or cells₀ values)) cells₀) cells₀ (i + 1)
+  filled_set n x e =
+      over_set (cells_of (held_or cells₀ values)) cells₀ cells i enough is below_end None (Some x)
+      (by (get_or cells i None) n ∙ sym wanted)
+    where
+      by : (c : Option ℤ) → is_some c ≡ false → Some x ≡ Some (unwrap_or c (get_or values i (pos 0)))
+      by None m = ap Some e
+      by (Some w) m = absurd (true≢false m)
 
-module _ (cells values₀ values : List ℤ) (i : ℕ) (fits : length values₀ ≤ length cells) where
-  length_replaced : length (replaced_by cells values₀) ≡ length values₀
-  length_replaced = simp (length-take, length_filled) (omega arith)
-
-  get_d_replaced : i < length values₀
-      → get_or (replaced_by cells values₀) i (pos 0) ≡ cond (representable (get_or cells i (pos 0))) (get_or cells i (pos 0)) (get_or values₀ i (pos 0))
-  get_d_replaced h = get_or-take (length values₀) (filled values₀ cells) i (pos 0) h ∙ get_d_filled values₀ cells i h (omega arith)
-
-  module _ (is : values ≡ partly (replaced_by cells values₀) values₀ i) where
-    module _ (h : i < length values₀) where
-      pub replaced_set : representable (get_or cells i (pos 0)) ≡ true → (x : ℤ) → x ≡ get_or cells i (pos 0)
-          → set values i x ≡ partly (replaced_by cells values₀) values₀ (i + 1)
-      replaced_set n x e =
-          ap (λ l. set l i x) is ∙ partly_set (replaced_by cells values₀) values₀ length_replaced i (pos 0) h x (e ∙ sym (get_d_replaced h ∙ rw n))
-
-      pub replaced_keep : representable (get_or cells i (pos 0)) ≡ false → values ≡ partly (replaced_by cells values₀) values₀ (i + 1)
-      replaced_keep n = is ∙ partly_keep (replaced_by cells values₀) values₀ length_replaced i (pos 0) h (sym (get_d_replaced h ∙ rw n))
+  pub filled_keep : is_some (get_or cells i None) ≡ true → cells ≡ partly (over (cells_of (held_or cells₀ values)) cells₀) cells₀ (i + 1)
+  filled_keep n =
+      over_keep (cells_of (held_or cells₀ values)) cells₀ cells i enough is below_end None (by (get_or cells i None) n ∙ sym wanted)
+    where
+      by : (c : Option ℤ) → is_some c ≡ true → c ≡ Some (unwrap_or c (get_or values i (pos 0)))
+      by None m = absurd (true≢false (sym m))
+      by (Some w) m = refl

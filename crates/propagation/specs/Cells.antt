@@ -1,5 +1,5 @@
 -- How the code holds the states and flows of actions and of the assertion, and what it may ask of the nodes lent to it.
-use Rattle.std.specs.Prelude.{◌≡◌, cond, List, [], ◌∷◌, ℕ, suc, ◌≤◌, ◌<◌, ℤ, pos, T, length, get_or, take, drop, Result, Ok, Err}
+use Rattle.std.specs.Prelude.{◌≡◌, List, [], ◌∷◌, map, ℕ, suc, ◌≤◌, ◌<◌, ℤ, pos, T, length, get_or, take, drop, Result, Ok, Err, Option as Optional, Some, unwrap_or}
 use Rattle.std.proofs.Math.Option.{Option, some, none}
 use Rattle.evaluation.specs.Numbers.{representable}
 use Rattle.results.specs.Results.{Answered, answered}
@@ -18,19 +18,23 @@ use Rattle.semantics.specs.Propagation.Settled.{refused, settled}
 use Rattle.rounds.specs.Cells.{AssertionStands}
 
 -- one cell for each variable, a mark for each node
-abbrev pub Fits : ℕ → ℕ → List ℤ → List ℤ → List ℕ → List ℕ → Type 0
+abbrev pub Fits : ℕ → ℕ → List (Optional ℤ) → List (Optional ℤ) → List ℕ → List ℕ → Type 0
 Fits variables nodes cells given queue waits =
     (length cells ≡ variables) × (length given ≡ variables) × (length queue ≡ variables) × (length waits ≡ nodes)
 
--- every cell holds a number of 32 bits
+-- every value is a number of 32 bits
 abbrev pub AllRepresentable : List ℤ → Type 0
-AllRepresentable cells = (x : ℕ) → x < length cells → T (representable (get_or cells x (pos 0)))
+AllRepresentable values = (x : ℕ) → x < length values → T (representable (get_or values x (pos 0)))
 
--- the cells that hold a number, and these values in place of the others
-unfoldable pub filled : List ℤ → List ℤ → List ℤ
-filled [] cells = cells
-filled (v ∷ values) [] = []
-filled (v ∷ values) (z ∷ cells) = cond (representable z) z v ∷ filled values cells
+-- the cells of variables that have these values
+abbrev pub cells_of : List ℤ → List (Optional ℤ)
+cells_of values = map Some values
+
+-- what the cells hold, and these values where they hold nothing
+unfoldable pub held_or : List (Optional ℤ) → List ℤ → List ℤ
+held_or [] values = values
+held_or (c ∷ cells) [] = []
+held_or (c ∷ cells) (v ∷ values) = unwrap_or c v ∷ held_or cells values
 
 -- the answer with the flows as they are left: those after so many states, the old ones where it is refused
 unfoldable pub flows_by_settling : ℕ → List ℤ → Settling → Answered (Result ℕ Fault) (List ℤ)
@@ -43,9 +47,9 @@ CountWithin flows (Err f) = Unit {0}
 CountWithin flows (Ok count) = (1 ≤ count) × (count ≤ suc flows)
 
 -- the answer with the states as they are left: where there is no fault those take their values that have one
-unfoldable pub changed_by : Option Fault → List ℤ → List ℤ → Answered (Result (Unit {0}) Fault) (List ℤ)
+unfoldable pub changed_by : Option Fault → List ℤ → List (Optional ℤ) → Answered (Result (Unit {0}) Fault) (List ℤ)
 changed_by (some f) old given = answered (Err f) old
-changed_by none old given = answered (Ok tt) (take (length old) (filled old given))
+changed_by none old given = answered (Ok tt) (held_or given old)
 
 -- the answer with the states as they are left
 unfoldable pub states_by_acting : List ℤ → Acted → Answered (Result (Unit {0}) Fault) (List ℤ)
@@ -60,7 +64,8 @@ module _ (ks : List ℕ) (ps : List ℤ) where
     pub flow_cells : flows ≡ length assertion.system.flows
 
   -- an action of a well-formed system stands at the place, over the values of all variables, and with the old states
-  pub record ActionStands (nexts : List ℕ) (rows : List VariableRow) (values old : List ℤ) (at : ℕ) : Type 0 where
+  pub record ActionStands (nexts : List ℕ) (rows : List VariableRow) (cells : List (Optional ℤ)) (old : List ℤ) (at : ℕ) : Type 0 where
+    pub values : List ℤ
     pub system : System
     pub action : Instruction
     pub well_formed : WellFormed system
@@ -68,6 +73,6 @@ module _ (ks : List ℕ) (ps : List ℤ) where
     pub stands : InstructionAt ks ps action at
     pub places : NextPlaces ks ps nexts
     pub rows_held : rows ≡ variable_rows (variables system)
-    pub known : AllRepresentable values
+    pub held : cells ≡ cells_of values
     pub long : length values ≡ length (variables system)
     pub states : old ≡ take (length system.states) values

@@ -2,7 +2,7 @@
 
 #![tactic(auto)]
 
-ghost use Rattle.std.specs.Prelude.{◌≡◌, ◌≤◌, length, replicate, take};
+ghost use Rattle.std.specs.Prelude.{◌≡◌, ◌≤◌, length, replicate};
 ghost use Rattle.results.specs.Results.{answered, over};
 ghost use Rattle.scratch.specs.Blank.{unknown_cell};
 ghost use Rattle.model.specs.Trees as trees;
@@ -14,12 +14,11 @@ ghost use Rattle.semantics.specs.Propagation.{settled_from, settle};
 ghost use Rattle.semantics.specs.Propagation.Reached.{reached};
 ghost use Rattle.reading.specs.Readings.{SameCells};
 ghost use Rattle.rounds.specs.Lent.{AssertionHeld, IndexHeld, RestingIn};
-ghost use Rattle.propagation.specs.Cells.{AllRepresentable, filled, flows_by_settling, CountWithin, changed_by, states_by_acting};
+ghost use Rattle.propagation.specs.Cells.{AllRepresentable, cells_of, held_or, flows_by_settling, CountWithin, changed_by, states_by_acting};
 ghost use Rattle.propagation.specs.Lent.{Emptied, FitsIn, BlankIn, BlankCellsIn, PropagationHeld, ActionHeld};
 
 use interpreter::{Fault, Gathered};
 use reading::Gathering;
-use scratch::Blank;
 use tables::{Index, Tables};
 use variables::VariableRow;
 
@@ -32,42 +31,41 @@ pub fn store(from: &[i32], to: &mut [i32])
 }
 
 // The first cells become these values.
-pub fn overwrite(values: &[i32], cells: &mut [i64])
+pub fn overwrite(values: &[i32], cells: &mut [Option<i32>])
     requires { length values.now ≤ length cells.old }
-    ensures { (cells.new ≡ over values.now cells.old) × AllRepresentable values.now }
+    ensures { (cells.new ≡ over (cells_of values.now) cells.old) × AllRepresentable values.now }
 {
     for (i, value) in values.iter().enumerate() {
-        cells[i] = i64::from(*value);
+        cells[i] = Some(*value);
     }
 }
 
-// Cells that hold no number take the variables' first values.
-fn fill(variables: &[VariableRow], cells: &mut [i64])
+// Variables that are unknown take their first values.
+fn fill(variables: &[VariableRow], cells: &mut [Option<i32>])
     requires { length variables.now ≤ length cells.old }
-    ensures { (cells.new ≡ filled (firsts_in variables.now) cells.old) × AllRepresentable (firsts_in variables.now) }
+    ensures { cells.new ≡ over (cells_of (held_or cells.old (firsts_in variables.now))) cells.old }
 {
     for (i, row) in variables.iter().enumerate() {
-        let value = i64::from(row.first);
-        if !expressions::is_number(cells[i]) {
-            cells[i] = value;
+        if cells[i].is_none() {
+            cells[i] = Some(row.first);
         }
     }
 }
 
-// Values whose cells hold a number become that number.
-fn replace(cells: &[i64], values: &mut [i32])
+// Values become what their cells hold, where they hold anything.
+fn replace(cells: &[Option<i32>], values: &mut [i32])
     requires { length values.old ≤ length cells.now }
-    ensures { values.new ≡ take (length values.old) (filled values.old cells.now) }
+    ensures { values.new ≡ held_or cells.now values.old }
 {
     for (i, value) in values.iter_mut().enumerate() {
-        if let Ok(number) = i32::try_from(cells[i]) {
+        if let Some(number) = cells[i] {
             *value = number;
         }
     }
 }
 
 // The states take the values given to them, unless there is a fault.
-fn change(found: Gathered, given: &[i64], states: &mut [i32]) -> Result<(), Fault>
+fn change(found: Gathered, given: &[Option<i32>], states: &mut [i32]) -> Result<(), Fault>
     requires { length states.old ≤ length given.now }
     ensures { answered result states.new ≡ changed_by (fault_in found) states.old given.now }
 {
@@ -84,7 +82,7 @@ fn clear(gathering: &mut Gathering<'_>)
     ensures same { SameCells gathering.old gathering.new }
 {
     gathering.found = Gathered::default();
-    gathering.given.fill(Blank::CELL);
+    gathering.given.fill(None);
     gathering.queue.fill(0);
     gathering.queued = 0;
     gathering.waits.fill(0);
@@ -96,7 +94,7 @@ fn clear(gathering: &mut Gathering<'_>)
 fn finish(
     tables: &Tables<'_>,
     states: usize,
-    cells: &mut [i64],
+    cells: &mut [Option<i32>],
     gathering: &mut Gathering<'_>,
     flows: &mut [i32],
     count: usize,
@@ -122,7 +120,7 @@ fn settle_flows(
     tables: &Tables<'_>,
     index: &Index<'_>,
     states: &[i32],
-    cells: &mut [i64],
+    cells: &mut [Option<i32>],
     gathering: &mut Gathering<'_>,
     flows: &mut [i32],
 ) -> Result<usize, Fault>
@@ -143,7 +141,7 @@ pub fn propagate(
     tables: &Tables<'_>,
     index: &Index<'_>,
     states: &[i32],
-    cells: &mut [i64],
+    cells: &mut [Option<i32>],
     gathering: &mut Gathering<'_>,
     flows: &mut [i32],
 ) -> Result<usize, Fault>
@@ -156,7 +154,7 @@ pub fn propagate(
     ensures same { SameCells gathering.old gathering.new }
 {
     let settled = settle_flows(tables, index, states, cells, gathering, flows);
-    cells.fill(Blank::CELL);
+    cells.fill(None);
     clear(gathering);
     settled
 }
@@ -164,14 +162,14 @@ pub fn propagate(
 // An action over the values of all variables: the states, the old ones at first, change together.
 pub fn act(
     tables: &Tables<'_>,
-    cells: &[i64],
+    cells: &[Option<i32>],
     gathering: &mut Gathering<'_>,
     action: usize,
     states: &mut [i32],
 ) -> Result<(), Fault>
     requires { ActionHeld tables.now cells.now states.old action × BlankIn tables.now gathering.old }
     ensures acted { (a : ActionHeld tables.now cells.now states.old action)
-        → answered result states.new ≡ states_by_acting states.old (actions.act a.system a.action cells.now) }
+        → answered result states.new ≡ states_by_acting states.old (actions.act a.system a.action a.values) }
     ensures blank { BlankIn tables.now gathering.new }
     ensures emptied { Emptied gathering.new }
     ensures same { SameCells gathering.old gathering.new }

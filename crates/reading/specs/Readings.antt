@@ -1,5 +1,5 @@
 -- One reading of an instruction in a round: the effects gathered, the flows queued that become known, the marks of what waits.
-use Rattle.std.specs.Prelude.{◌≡◌, List, [], ◌∷◌, ◌++◌, ℕ, ◌+◌, ◌-◌, ℤ, length, take, set}
+use Rattle.std.specs.Prelude.{Option, ◌≡◌, List, [], ◌∷◌, ◌++◌, ℕ, ◌+◌, ◌-◌, ℤ, length, take, set}
 use Rattle.evaluation.specs.declared.Evaluation.{Evaluation}
 use Rattle.evaluation.specs.declared.Evaluation.TheVariants.{Unknown, Failed, Value}
 use Rattle.model.specs.Trees.{Instruction, count}
@@ -25,7 +25,7 @@ pub record Held : Type 0 where
   pub news : List ℕ
   pub waits : List ℕ
 
-abbrev pub held : Gathered → List ℤ → ℕ → List ℕ → List ℕ → Held
+abbrev pub held : Gathered → List (Option ℤ) → ℕ → List ℕ → List ℕ → Held
 held found given queued queue waits = record { gathered = gathering found given; news = take queued queue; waits = waits }
 
 -- the same of a gathering that is lent

@@ -31,7 +31,7 @@ const IF_THEN: u8 = Kind::IfThen as u8;
 #[derive(Drop)]
 pub struct Gathering<'a> {
     pub found: Gathered,
-    pub given: &'a mut [i64],
+    pub given: &'a mut [Option<i32>],
     pub queue: &'a mut [u16],
     pub queued: usize,
     pub waits: &'a mut [u16],
@@ -75,9 +75,9 @@ impl Gathering<'_> {
         ensures whole { Whole self.new }
         ensures same { SameCells self.old self.new }
     {
-        let known = expressions::is_number(self.given[variable]);
+        let held = self.given[variable];
         self.found.give(variables, self.given, variable, value);
-        if !known {
+        if held.is_none() {
             self.queue[self.queued] = variable as u16;
             self.queued += 1;
         }
@@ -94,7 +94,7 @@ struct Walk {
 // An assignment at place `at`.
 fn assignment(
     tables: &Tables<'_>,
-    cells: &[i64],
+    cells: &[Option<i32>],
     gathering: &mut Gathering<'_>,
     round: u16,
     at: usize,
@@ -127,7 +127,7 @@ fn assignment(
 // An if-then at place `at`: its body is due if the condition is true, and skipped if not.
 fn test(
     tables: &Tables<'_>,
-    cells: &[i64],
+    cells: &[Option<i32>],
     gathering: &mut Gathering<'_>,
     round: u16,
     at: usize,
@@ -161,7 +161,7 @@ fn test(
 // One node of an instruction.
 fn step(
     tables: &Tables<'_>,
-    cells: &[i64],
+    cells: &[Option<i32>],
     gathering: &mut Gathering<'_>,
     round: u16,
     at: usize,
@@ -188,7 +188,7 @@ fn step(
 // The instruction at place `at`, read in a round.
 pub fn gather(
     tables: &Tables<'_>,
-    cells: &[i64],
+    cells: &[Option<i32>],
     gathering: &mut Gathering<'_>,
     round: u16,
     at: usize,

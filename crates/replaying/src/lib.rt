@@ -28,7 +28,7 @@ pub enum Move {
 fn start(
     loaded: &LoadedModel<'_>,
     states: &mut [i32],
-    cells: &mut [i64],
+    cells: &mut [Option<i32>],
     gathering: &mut Gathering<'_>,
     values: &mut [i32],
 ) -> Firing
@@ -48,7 +48,7 @@ fn start(
 fn refire(
     loaded: &LoadedModel<'_>,
     states: &mut [i32],
-    cells: &mut [i64],
+    cells: &mut [Option<i32>],
     gathering: &mut Gathering<'_>,
     values: &mut [i32],
     entries: &[u8],
@@ -71,7 +71,7 @@ fn refire(
 pub fn replay(
     loaded: &LoadedModel<'_>,
     states: &mut [i32],
-    cells: &mut [i64],
+    cells: &mut [Option<i32>],
     gathering: &mut Gathering<'_>,
     values: &mut [i32],
     run: &Run<'_>,

@@ -1,5 +1,6 @@
 -- The rounds as the code makes them: each turn reads the assertion over the cells, and the rounds from there are those from the
--- beginning. A turn that gives a new value leaves fewer cells without a number.
+-- beginning. A turn that gives a new value leaves fewer cells that hold nothing.
+use Rattle.std.specs.Prelude.{Option as Optional}
 use Rattle.std.specs.Prelude.{Ok, Err}
 use mathlib.Core.Path.{◌≡◌, refl, sym, ◌∙◌}
 use mathlib.Core.Bool.{true, false, true≢false}
@@ -47,12 +48,12 @@ finding_clear (some g) e = let z : true ≡ false = cc in absurd (true≢false z
 -- ---- the rounds
 
 module _ (t : System) where
-  pub going_begins : (cells : List ℤ) → Going t cells cells 0
+  pub going_begins : (cells : List (Optional ℤ)) → Going t cells cells 0
   going_begins cells =
       record { left = length t.flows; same = refl; enough = unknowns_bounded (valuation_of cells) (length t.flows) (length t.states); bound = omega arith }
 
   -- one round, by whether it sets anything
-  module _ (well_formed : WellFormed t) (cells₀ cells : List ℤ) (count : ℕ) (going : Going t cells₀ cells count) (r : Gathered) (given : List ℤ)
+  module _ (well_formed : WellFormed t) (cells₀ cells : List (Optional ℤ)) (count : ℕ) (going : Going t cells₀ cells count) (r : Gathered) (given : List (Optional ℤ))
       (gathered : Gathers (variables t) t.assertion (valuation_of cells) (valuation_of cells) (gathering r given)) where
     pub round_rests : fault_in r ≡ none → r.fresh ≡ false
         → reached (count + 1) (valuation_of cells) ≡ rounds (variables t) t.assertion (suc (length t.flows)) 0 (valuation_of cells₀)
@@ -95,7 +96,7 @@ module _ {ks : List ℕ} {ps : List ℤ} {nexts : List ℕ} {rows : List Variabl
   pub rows_within : length rows ≤ 510
   rows_within = omega (arith, rows_counted, a.well_formed.states, a.well_formed.flows)
 
-  pub may_gather : (given : List ℤ) → length rows ≤ length given → InstructionStands ks ps nexts (length rows) (length given) at
+  pub may_gather : (given : List (Optional ℤ)) → length rows ≤ length given → InstructionStands ks ps nexts (length rows) (length given) at
   may_gather given h =
       record {
         instruction = a.system.assertion;
@@ -108,7 +109,7 @@ module _ {ks : List ℕ} {ps : List ℤ} {nexts : List ℕ} {rows : List Variabl
       below : (n : ℕ) → length a.system.states + length a.system.flows ≤ n → TargetsBelow a.system.assertion n
       below n l = targets_below a.system.assertion (assertion_scope (sizes_of a.system) (variables a.system)) a.well_formed.assertion l
 
-  pub assertion_gathers : (cells given : List ℤ) → length rows ≤ length given → (r : Gathered) (given' : List ℤ)
+  pub assertion_gathers : (cells given : List (Optional ℤ)) → length rows ≤ length given → (r : Gathered) (given' : List (Optional ℤ))
       → gathering r given' ≡ gather_all (lows_in rows) (highs_in rows) (effects a.system.assertion (valuation_of cells)) (gathering nothing_found given)
       → Gathers (variables a.system) a.system.assertion (valuation_of cells) (valuation_of given) (gathering r given')
   assertion_gathers cells given h r given' e =

@@ -1,4 +1,5 @@
 -- The rounds: one reading of all, then turns over what waits. What is known between two rounds holds again after the next.
+use Rattle.std.specs.Prelude.{Option as Optional, None}
 use mathlib.Core.Path.{◌≡◌, refl, sym, ap, ap₂, subst, fun_ext, ◌∙◌}
 use mathlib.Core.Logic.{◌⊎◌, inl, inr, ⊎_elim}
 use mathlib.Core.Bool.{true, false, true≢false}
@@ -6,7 +7,7 @@ use mathlib.Core.List.{List, [], ◌∷◌, ◌++◌, append-nil, Memᴰ}
 use mathlib.Core.Option.{some, none}
 use Prim.Native.Nat.{ℕ, zero, suc, ◌+◌, ◌-◌, ◌≤◌, ◌<◌}
 use native.Mathlib.Omega.{arith}
-use lib.IntN.{ℤ, pos}
+use lib.IntN.{ℤ}
 use lib.ListN.{length, get_or, take, drop, replicate, length-append, length-replicate, get_or-append}
 use lib.Seq.{drop-append_seam, get_or-take, length-take-le, get_or-append-add}
 use Rattle.model.specs.Trees.{Instruction, Variable, variables}
@@ -23,7 +24,6 @@ use Rattle.variables.specs.Rows.{lows_in, highs_in}
 use Rattle.variables.proofs.Columns.{low_ends, high_ends, row_count}
 use Rattle.expressions.specs.Expressions.{Valuation}
 use Rattle.expressions.specs.Cells.{valuation_of, cell_value}
-use Rattle.expressions.proofs.Cells.{element, no_element}
 use Rattle.interpreter.specs.declared.Fault.{Fault}
 use Rattle.interpreter.specs.declared.Gathered.{Gathered}
 use Rattle.interpreter.specs.Instructions.{Effect, any, effects, fault_of, first_of, given_to}
@@ -87,7 +87,7 @@ module _ (vs : List Variable) (i : Instruction) (σ τ : Valuation) (n : fault_o
 
 -- ---- the effects of what was read are admissible
 
-read_admissible : (cells : List ℤ) (sc : Scope) (read : List Spot) → ((s : Spot) → Memᴰ s read → Scoped s.instruction sc) → {n m : ℕ} → sc.past ≤ n → sc.past ≤ m
+read_admissible : (cells : List (Optional ℤ)) (sc : Scope) (read : List Spot) → ((s : Spot) → Memᴰ s read → Scoped s.instruction sc) → {n m : ℕ} → sc.past ≤ n → sc.past ≤ m
     → All (Admissible n m) (effects_of_each (instructions_of read) (valuation_of cells))
 unfolding effects_of_each instructions_of All
 read_admissible cells sc [] f p q = tt
@@ -120,13 +120,13 @@ module _ (i : Instruction) (at : ℕ) (σ : Valuation) (waits : List ℕ) (blank
 
 -- ---- the queue after a reading
 
-module _ (lows highs base : List ℤ) (es : List Effect) (old : List ℕ) (found : Gathered) (given : List ℤ) (queued : ℕ) (queue : List ℕ) (n : ℕ)
+module _ (lows highs : List ℤ) (base : List (Optional ℤ)) (es : List Effect) (old : List ℕ) (found : Gathered) (given : List (Optional ℤ)) (queued : ℕ) (queue : List ℕ) (n : ℕ)
     (gathered : gathering found given ≡ gather_all lows highs es (gathering nothing_found base)) (news : take queued queue ≡ old ++ news_of es base) where
   pending_next : length base ≡ length given → Pending queue (length old) queued base given
   pending_next l = (
     l,
     λ y. ⊎_elim (λ m. inl (subst (λ q. Memᴰ y q) (sym (ap (λ q. drop (length old) q) news ∙ drop-append_seam old (news_of es base))) m))
-        (λ e. inr (sym (ap (λ g. get_or g.given y (pos 0)) gathered ∙ e)))
+        (λ e. inr (sym (ap (λ g. get_or g.given y None) gathered ∙ e)))
         (news_changed lows highs es (gathering nothing_found base) y),
   )
 
@@ -150,14 +150,6 @@ module _ (lows highs base : List ℤ) (es : List Effect) (old : List ℕ) (found
         (le_or_lt (length old) k),
   )
 
--- ---- a cell that is as it was
-
-same_known : (cells given : List ℤ) (x : ℕ) → length cells ≡ length given → get_or cells x (pos 0) ≡ get_or given x (pos 0) → valuation_of cells x ≡ valuation_of given x
-same_known cells given x l e =
-    ⊎_elim (λ h. ap cell_value (no_element cells x h ∙ sym (no_element given x (omega (arith, h, l)))))
-    (λ h. ap cell_value (element cells x (pos 0) h ∙ ap some e ∙ sym (element given x (pos 0) (omega (arith, h, l)))))
-    (le_or_lt (length cells) x)
-
 -- ---- an instruction ends within the nodes
 
 module _ (ks : List ℕ) (ps : List ℤ) where
@@ -174,8 +166,8 @@ module _ (ks : List ℕ) (ps : List ℤ) where
 -- ---- the first reading
 
 module _ {ks : List ℕ} {ps : List ℤ} {nexts : List ℕ} {rows : List VariableRow} {at : ℕ} (some : AssertionStands ks ps nexts rows at)
-    (cells given : List ℤ) (same : given ≡ cells) (empty : Gathered) (nothing : empty ≡ nothing_found) (queue waits : List ℕ) (blank : waits ≡ replicate (length ks) 0) (room : length rows ≤ length given)
-    (found' : Gathered) (given' : List ℤ) (queued' : ℕ) (queue' waits' : List ℕ)
+    (cells given : List (Optional ℤ)) (same : given ≡ cells) (empty : Gathered) (nothing : empty ≡ nothing_found) (queue waits : List ℕ) (blank : waits ≡ replicate (length ks) 0) (room : length rows ≤ length given)
+    (found' : Gathered) (given' : List (Optional ℤ)) (queued' : ℕ) (queue' waits' : List ℕ)
     (told : (j : Instruction) → InstructionAt ks ps j at
     → held found' given' queued' queue' waits' ≡ read_by (lows_in rows) (highs_in rows) (valuation_of cells) at 1 j (held empty given 0 queue waits)) where
   module _ (a : AssertionStands ks ps nexts rows at) where
@@ -230,7 +222,7 @@ module _ {ks : List ℕ} {ps : List ℤ} {nexts : List ℕ} {rows : List Variabl
 
 -- ---- a turn: from what is known between two rounds, over what was read in the next
 
-module _ {ks : List ℕ} {ps : List ℤ} {nexts : List ℕ} {rows : List VariableRow} {at : ℕ} {cells₀ cells : List ℤ} {r : ℕ} (a : AssertionStands ks ps nexts rows at) {found : Gathered} {given : List ℤ} {waits : List ℕ}
+module _ {ks : List ℕ} {ps : List ℤ} {nexts : List ℕ} {rows : List VariableRow} {at : ℕ} {cells₀ cells : List (Optional ℤ)} {r : ℕ} (a : AssertionStands ks ps nexts rows at) {found : Gathered} {given : List (Optional ℤ)} {waits : List ℕ}
     (b : Between ks ps nexts rows at cells₀ cells r a found given waits) (clear : fault_in found ≡ none) where
   abbrev vs : List Variable
   vs = variables a.system
@@ -259,7 +251,7 @@ module _ {ks : List ℕ} {ps : List ℤ} {nexts : List ℕ} {rows : List Variabl
         news = sym (append-nil (take queued queue));
       }
 
-  module _ {before : List ℕ} {found' : Gathered} {given' : List ℤ} {queued' : ℕ} {queue' waits' : List ℕ}
+  module _ {before : List ℕ} {found' : Gathered} {given' : List (Optional ℤ)} {queued' : ℕ} {queue' waits' : List ℕ}
       (w : Waking ks ps nexts rows at given (r + 1) a (valuation_of cells) before found' given' queued' queue' waits') (room : length rows ≤ length given) where
     abbrev read_effects : List Effect
     read_effects = effects_of_each (instructions_of w.read) (valuation_of given)
@@ -311,13 +303,13 @@ module _ {ks : List ℕ} {ps : List ℤ} {nexts : List ℕ} {rows : List Variabl
 
 -- ---- the turns of the loop
 
-module _ {ks : List ℕ} {ps : List ℤ} {nexts : List ℕ} {rows : List VariableRow} {at : ℕ} {cells₀ cells given : List ℤ} {queue waits : List ℕ} {found : Gathered} {queued pending r done : ℕ}
+module _ {ks : List ℕ} {ps : List ℤ} {nexts : List ℕ} {rows : List VariableRow} {at : ℕ} {cells₀ cells given : List (Optional ℤ)} {queue waits : List ℕ} {found : Gathered} {queued pending r done : ℕ}
     (some : AssertionStands ks ps nexts rows at) (t : Turn ks ps nexts rows at cells₀ cells given queue waits found queued pending r done) where
   -- the rounds so far are counted in 16 bits, and one more
   pub round_within : r + 1 < 65536
   round_within = omega (arith, (t.between some).going.bound, (t.between some).first, some.well_formed.flows)
 
-  module _ (clear : fault_in found ≡ none) {cells' : List ℤ} (applied : cells' ≡ given) where
+  module _ (clear : fault_in found ≡ none) {cells' : List (Optional ℤ)} (applied : cells' ≡ given) where
     module _ {empty : Gathered} (nothing : empty ≡ nothing_found) (long : length waits ≡ length ks) where
       begins : (a : AssertionStands ks ps nexts rows at) → Waking ks ps nexts rows at cells' (r + 1) a (valuation_of cells) (take queued queue) empty given queued queue waits
       begins a =
@@ -328,7 +320,7 @@ module _ {ks : List ℕ} {ps : List ℤ} {nexts : List ℕ} {rows : List Variabl
       turn_wakes : SomeWaking ks ps nexts rows at cells' (r + 1) empty given queued queue waits
       turn_wakes = record { stands = some; valuation = valuation_of cells; before = take queued queue; waking = begins some }
 
-      module _ (fresh : found.fresh ≡ true) (room : length rows ≤ length given) {found' : Gathered} {given' : List ℤ} {queued' : ℕ} {queue' waits' : List ℕ} {pending' : ℕ}
+      module _ (fresh : found.fresh ≡ true) (room : length rows ≤ length given) {found' : Gathered} {given' : List (Optional ℤ)} {queued' : ℕ} {queue' waits' : List ℕ} {pending' : ℕ}
           (still : StillWaking ks ps nexts rows at cells' (r + 1) empty given queued queue waits found' given' queued' queue' waits' pending') where
         over : (a : AssertionStands ks ps nexts rows at) → Waking ks ps nexts rows at given (r + 1) a (valuation_of cells) (take queued queue) found' given' queued' queue' waits'
         over a =
@@ -351,7 +343,7 @@ module _ {ks : List ℕ} {ps : List ℤ} {nexts : List ℕ} {rows : List Variabl
               between =
                   λ a. subst (λ c. Between ks ps nexts rows at cells₀ c (r + 1) a found' given' waits') (sym applied)
                   (turned a (t.between a) clear (over a) room fresh
-                  (λ x. ⊎_elim (λ m. inr (passes x m)) (λ e. inl (same_known cells given x t.owed.0 e)) (t.owed.1 x)));
+                  (λ x. ⊎_elim (λ m. inr (passes x m)) (λ e. inl (ap cell_value e)) (t.owed.1 x)));
               owed =
                   subst (λ c. Pending queue' queued queued' c given') (sym applied)
                   (subst (λ n. Pending queue' n queued' given given') front
@@ -368,7 +360,7 @@ module _ {ks : List ℕ} {ps : List ℤ} {nexts : List ℕ} {rows : List Variabl
             }
 
   -- a turn that goes on leaves fewer cells open
-  pub turn_falls : fault_in found ≡ none → found.fresh ≡ true → {last : List ℤ} → cells ≡ last
+  pub turn_falls : fault_in found ≡ none → found.fresh ≡ true → {last : List (Optional ℤ)} → cells ≡ last
       → unknowns (valuation_of given) (length rows) 0 < unknowns (valuation_of last) (length rows) 0
   turn_falls clear fresh e =
       subst (λ l. unknowns (valuation_of given) (length rows) 0 < unknowns (valuation_of l) (length rows) 0) e
@@ -379,7 +371,7 @@ module _ {ks : List ℕ} {ps : List ℤ} {nexts : List ℕ} {rows : List Variabl
 
 -- ---- a round that is to be read: the first, or a later one
 
-module _ {ks : List ℕ} {ps : List ℤ} {nexts : List ℕ} {rows : List VariableRow} {at : ℕ} {cells₀ cells given : List ℤ} {queue waits : List ℕ} {found : Gathered} {queued pending r done : ℕ}
+module _ {ks : List ℕ} {ps : List ℤ} {nexts : List ℕ} {rows : List VariableRow} {at : ℕ} {cells₀ cells given : List (Optional ℤ)} {queue waits : List ℕ} {found : Gathered} {queued pending r done : ℕ}
     (some : AssertionStands ks ps nexts rows at) (ready : Ready ks ps nexts rows at cells₀ cells given queue waits found queued pending r done) where
   pub when_first : r ≡ 1 → Unread ks ps nexts rows at cells₀ cells given waits queued r
   when_first e = ⊎_elim (λ u. u) (λ s. absurd (omega (arith, e, s.next, (s.turn.between some).first))) ready
@@ -387,7 +379,7 @@ module _ {ks : List ℕ} {ps : List ℤ} {nexts : List ℕ} {rows : List Variabl
   pub when_later : (r ≡ 1 → ⊥) → Unsettled ks ps nexts rows at cells₀ cells given queue waits found queued pending r done
   when_later n = ⊎_elim (λ u. absurd (n u.first)) (λ s. s) ready
 
-  module _ {empty : Gathered} (nothing : empty ≡ nothing_found) (room : length rows ≤ length given) {found' : Gathered} {given' : List ℤ} {queued' : ℕ} {queue' waits' : List ℕ} {pending' : ℕ} where
+  module _ {empty : Gathered} (nothing : empty ≡ nothing_found) (room : length rows ≤ length given) {found' : Gathered} {given' : List (Optional ℤ)} {queued' : ℕ} {queue' waits' : List ℕ} {pending' : ℕ} where
     pub first_goes : r ≡ 1
         → ((j : Instruction) → InstructionAt ks ps j at
         → held found' given' queued' queue' waits' ≡ read_by (lows_in rows) (highs_in rows) (valuation_of cells) at r j (held empty given queued queue waits))
@@ -401,7 +393,7 @@ module _ {ks : List ℕ} {ps : List ℤ} {nexts : List ℕ} {rows : List Variabl
         (turn_begins some cells given u.same empty nothing queue waits u.blank room found' given' queued' queue' waits'
         (λ j h. told j h ∙ ap₂ (λ n m. read_by (lows_in rows) (highs_in rows) (valuation_of cells) at n j (held empty given m queue waits)) e u.nothing_queued) l full counted)))
 
-    pub later_goes : (r ≡ 1 → ⊥) → {cells' : List ℤ} → cells' ≡ given → length waits ≡ length ks
+    pub later_goes : (r ≡ 1 → ⊥) → {cells' : List (Optional ℤ)} → cells' ≡ given → length waits ≡ length ks
         → StillWaking ks ps nexts rows at cells' r empty given queued queue waits found' given' queued' queue' waits' pending'
         → ((x : ℕ) → Memᴰ x (drop done (take queued queue)) → Passed ks ps at r waits' x) → length given' ≡ length given
         → Turn ks ps nexts rows at cells₀ cells' given' queue' waits' found' queued' pending' r queued
@@ -412,7 +404,7 @@ module _ {ks : List ℕ} {ps : List ℤ} {nexts : List ℕ} {rows : List Variabl
         → Turn ks ps nexts rows at cells₀ cells' given' queue' waits' found' queued' pending' m queued) (sym s.next)
         (λ w f. turn_goes some s.turn s.clear applied nothing long s.fresh room w f l) still passes
 
-  pub later_wakes : (r ≡ 1 → ⊥) → {cells' : List ℤ} → cells' ≡ given → {empty : Gathered} → empty ≡ nothing_found → length waits ≡ length ks
+  pub later_wakes : (r ≡ 1 → ⊥) → {cells' : List (Optional ℤ)} → cells' ≡ given → {empty : Gathered} → empty ≡ nothing_found → length waits ≡ length ks
       → SomeWaking ks ps nexts rows at cells' r empty given queued queue waits
   later_wakes n {cells'} applied {empty} nothing long =
       let s = when_later n in
@@ -420,7 +412,7 @@ module _ {ks : List ℕ} {ps : List ℤ} {nexts : List ℕ} {rows : List Variabl
 
 -- ---- the ends of the loop
 
-module _ {ks : List ℕ} {ps : List ℤ} {nexts : List ℕ} {rows : List VariableRow} {at : ℕ} {cells₀ cells given : List ℤ} {queue waits : List ℕ} {found : Gathered} {queued pending r done : ℕ}
+module _ {ks : List ℕ} {ps : List ℤ} {nexts : List ℕ} {rows : List VariableRow} {at : ℕ} {cells₀ cells given : List (Optional ℤ)} {queue waits : List ℕ} {found : Gathered} {queued pending r done : ℕ}
     (t : Turn ks ps nexts rows at cells₀ cells given queue waits found queued pending r done) (a : AssertionStands ks ps nexts rows at) where
   pub turn_stops : (f : Fault) → fault_in found ≡ some f
       → (reached_in (Err f) cells ≡ rounds (variables a.system) a.system.assertion (suc (length a.system.flows)) 0 (valuation_of cells₀))

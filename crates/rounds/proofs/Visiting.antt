@@ -1,4 +1,5 @@
 -- One instruction that waits is read: what holds of the round so far holds after it.
+use Rattle.std.specs.Prelude.{Option as Optional, None}
 use mathlib.Core.Path.{◌≡◌, refl, sym, ap, ap₂, subst, ◌∙◌}
 use mathlib.Core.Logic.{◌⊎◌, inl, inr, ⊎_elim}
 use mathlib.Core.Bool.{Bool, true, false}
@@ -9,7 +10,7 @@ use native.Mathlib.Omega.{arith}
 use native.Mathlib.Nat.{eq-or-lt_of_le}
 use borrow.Author.Tests.{eqb-true, eqb-false}
 use lib.Dec.{eqb}
-use lib.IntN.{ℤ, pos}
+use lib.IntN.{ℤ}
 use lib.ListN.{length, get_or, set, take, drop, length-set, length-append, length-take, drop_of_length-le, get_or-append}
 use lib.Seq.{get_or-take, get_or-set_same, get_or-set_other, length-take-le, drop-cons, ext_get_or}
 use Rattle.std.proofs.lemmas.List.{drop-take, take_all, get_or-drop}
@@ -49,10 +50,10 @@ more_effects [] s τ = append-nil (effects s.instruction τ)
 more_effects (r ∷ read) s τ =
     ap (λ l. effects r.instruction τ ++ l) (more_effects read s τ) ∙ sym (append_assoc (effects r.instruction τ) (effects_of_each (instructions_of read) τ) (effects s.instruction τ))
 
-module _ {ks : List ℕ} {ps : List ℤ} {nexts : List ℕ} {rows : List VariableRow} {at : ℕ} {cells : List ℤ} {r : ℕ} where
-  module _ {f₀ f₁ : Gathered} {g₀ g₁ : List ℤ} {n₀ n₁ : ℕ} {q₀ w₀ q₁ w₁ : List ℕ} {m₁ : ℕ} where
+module _ {ks : List ℕ} {ps : List ℤ} {nexts : List ℕ} {rows : List VariableRow} {at : ℕ} {cells : List (Optional ℤ)} {r : ℕ} where
+  module _ {f₀ f₁ : Gathered} {g₀ g₁ : List (Optional ℤ)} {n₀ n₁ : ℕ} {q₀ w₀ q₁ w₁ : List ℕ} {m₁ : ℕ} where
     -- one after the other
-    pub still_then : {f₂ : Gathered} {g₂ : List ℤ} {n₂ : ℕ} {q₂ w₂ : List ℕ} {m₂ : ℕ}
+    pub still_then : {f₂ : Gathered} {g₂ : List (Optional ℤ)} {n₂ : ℕ} {q₂ w₂ : List ℕ} {m₂ : ℕ}
         → StillWaking ks ps nexts rows at cells r f₀ g₀ n₀ q₀ w₀ f₁ g₁ n₁ q₁ w₁ m₁
         → StillWaking ks ps nexts rows at cells r f₁ g₁ n₁ q₁ w₁ f₂ g₂ n₂ q₂ w₂ m₂
         → StillWaking ks ps nexts rows at cells r f₀ g₀ n₀ q₀ w₀ f₂ g₂ n₂ q₂ w₂ m₂
@@ -71,8 +72,8 @@ module _ {ks : List ℕ} {ps : List ℤ} {nexts : List ℕ} {rows : List Variabl
     some_then s t =
         record { stands = s.stands; valuation = s.valuation; before = s.before; waking = t.still s.stands s.valuation s.before s.waking }
 
-module _ (ks : List ℕ) (ps : List ℤ) (nexts : List ℕ) (rows : List VariableRow) (at : ℕ) (cells : List ℤ) (r : ℕ)
-    (found : Gathered) (given : List ℤ) (queued : ℕ) (queue waits : List ℕ) (p : ℕ) (old : Old r (get_or waits p 0)) where
+module _ (ks : List ℕ) (ps : List ℤ) (nexts : List ℕ) (rows : List VariableRow) (at : ℕ) (cells : List (Optional ℤ)) (r : ℕ)
+    (found : Gathered) (given : List (Optional ℤ)) (queued : ℕ) (queue waits : List ℕ) (p : ℕ) (old : Old r (get_or waits p 0)) where
   -- what waits there
   spotted : (a : AssertionStands ks ps nexts rows at) (σ : Valuation) (before : List ℕ) → Waking ks ps nexts rows at cells r a σ before found given queued queue waits → Spotted a.system.assertion at σ p
   spotted a σ before w = w.woken.old p old
@@ -80,7 +81,7 @@ module _ (ks : List ℕ) (ps : List ℤ) (nexts : List ℕ) (rows : List Variabl
   there : (a : AssertionStands ks ps nexts rows at) (σ : Valuation) (k : Spotted a.system.assertion at σ p) → InstructionAt ks ps k.spot.instruction p
   there a σ k = subst (λ n. InstructionAt ks ps k.spot.instruction n) k.there (spot_stands σ ks ps a.system.assertion at k.spot a.stands k.among)
 
-  module _ (found' : Gathered) (given' : List ℤ) (queued' : ℕ) (queue' waits' : List ℕ)
+  module _ (found' : Gathered) (given' : List (Optional ℤ)) (queued' : ℕ) (queue' waits' : List ℕ)
       (told : (i : Instruction) → InstructionAt ks ps i p
       → held found' given' queued' queue' waits' ≡ read_by (lows_in rows) (highs_in rows) (valuation_of cells) p r i (held found given queued queue waits)) where
     reads : (a : AssertionStands ks ps nexts rows at) (σ : Valuation) (before : List ℕ) → Waking ks ps nexts rows at cells r a σ before found given queued queue waits
@@ -141,8 +142,8 @@ module _ (ks : List ℕ) (ps : List ℤ) (nexts : List ℕ) (rows : List Variabl
           (spot_waits some.valuation some.stands.system.assertion at it.spot it.among) within)
 
 -- something waits at the place since an earlier round
-module _ {ks : List ℕ} {ps : List ℤ} {nexts : List ℕ} {rows : List VariableRow} {at : ℕ} {cells : List ℤ} {r : ℕ}
-    {found : Gathered} {given : List ℤ} {queued : ℕ} {queue waits : List ℕ} (some : SomeWaking ks ps nexts rows at cells r found given queued queue waits)
+module _ {ks : List ℕ} {ps : List ℤ} {nexts : List ℕ} {rows : List VariableRow} {at : ℕ} {cells : List (Optional ℤ)} {r : ℕ}
+    {found : Gathered} {given : List (Optional ℤ)} {queued : ℕ} {queue waits : List ℕ} (some : SomeWaking ks ps nexts rows at cells r found given queued queue waits)
     (p : ℕ) (old : Old r (get_or waits p 0)) where
   pub may_read : length rows ≤ length given → InstructionStands ks ps nexts (length rows) (length given) p
   may_read l =
@@ -160,7 +161,7 @@ module _ {ks : List ℕ} {ps : List ℤ} {nexts : List ℕ} {rows : List Variabl
         places = a.places;
       }
 
-  pub still_read : {found' : Gathered} {given' : List ℤ} {queued' : ℕ} {queue' waits' : List ℕ} {pending' : ℕ}
+  pub still_read : {found' : Gathered} {given' : List (Optional ℤ)} {queued' : ℕ} {queue' waits' : List ℕ} {pending' : ℕ}
       → ((i : Instruction) → InstructionAt ks ps i p
       → held found' given' queued' queue' waits' ≡ read_by (lows_in rows) (highs_in rows) (valuation_of cells) p r i (held found given queued queue waits))
       → Room given' queued' queue' → pending' ≡ mark_count waits' → p < length waits
@@ -202,8 +203,8 @@ entry (y ∷ queue) (suc from) (suc to) x m =
 
 -- ---- the cells of the queued flows
 
-module _ (queue : List ℕ) (queued : ℕ) (given cells : List ℤ) (k : ℕ) (within : queued ≤ length queue) where
-  pub applied_one : Pending queue k queued cells given → k < queued → get_or queue k 0 < length given → {v : ℤ} → v ≡ get_or given (get_or queue k 0) (pos 0)
+module _ (queue : List ℕ) (queued : ℕ) (given cells : List (Optional ℤ)) (k : ℕ) (within : queued ≤ length queue) where
+  pub applied_one : Pending queue k queued cells given → k < queued → get_or queue k 0 < length given → {v : Optional ℤ} → v ≡ get_or given (get_or queue k 0) None
       → Pending queue (k + 1) queued (set cells (get_or queue k 0) v) given
   applied_one pending u bound {v} e =
       (length-set cells (get_or queue k 0) v ∙ pending.0, λ y. by y (eqb y (get_or queue k 0)) refl)
@@ -211,26 +212,26 @@ module _ (queue : List ℕ) (queued : ℕ) (given cells : List ℤ) (k : ℕ) (w
       x : ℕ
       x = get_or queue k 0
 
-      here : (y : ℕ) → y ≡ x → get_or (set cells x v) y (pos 0) ≡ get_or given y (pos 0)
+      here : (y : ℕ) → y ≡ x → get_or (set cells x v) y None ≡ get_or given y None
       here y q =
-          ap (λ n. get_or (set cells x v) n (pos 0)) q ∙ get_or-set_same cells x v (pos 0) (omega (arith, bound, pending.0)) ∙ e ∙ ap (λ n. get_or given n (pos 0)) (sym q)
+          ap (λ n. get_or (set cells x v) n None) q ∙ get_or-set_same cells x v None (omega (arith, bound, pending.0)) ∙ e ∙ ap (λ n. get_or given n None) (sym q)
 
       long : k < length (take queued queue)
       long = omega (arith, u, length-take-le queued queue within)
 
-      by : (y : ℕ) (t : Bool) → eqb y x ≡ t → Memᴰ y (drop (k + 1) (take queued queue)) ⊎ (get_or (set cells x v) y (pos 0) ≡ get_or given y (pos 0))
+      by : (y : ℕ) (t : Bool) → eqb y x ≡ t → Memᴰ y (drop (k + 1) (take queued queue)) ⊎ (get_or (set cells x v) y None ≡ get_or given y None)
       by y true q = inr (here y (eqb-true y x q))
       by y false q =
           ⊎_elim
           (λ m. ⊎_elim (λ z. absurd (eqb-false y x q (z ∙ get_or-take queued queue k 0 u)))
           (λ n. let z : suc k ≡ k + 1 = omega arith in inl (subst (λ j. Memᴰ y (drop j (take queued queue))) z n))
           (Memᴰ.cases_cons (subst (λ l. Memᴰ y l) (drop-cons (take queued queue) k 0 long) m)))
-          (λ z. inr (get_or-set_other cells x y v (pos 0) (eqb-false y x q) ∙ z))
+          (λ z. inr (get_or-set_other cells x y v None (eqb-false y x q) ∙ z))
           (pending.1 y)
 
   pub applied_all : Pending queue k queued cells given → queued ≤ k → cells ≡ given
   applied_all pending u =
-      ext_get_or (pos 0) cells given pending.0
+      ext_get_or None cells given pending.0
       (λ y h. ⊎_elim
       (λ m. let z : length (take queued queue) ≤ k = omega (arith, u, length-take-le queued queue within) in absurd (Memᴰ.not-nil (subst (λ l. Memᴰ y l) (drop_of_length-le (take queued queue) z) m)))
       (λ e. e) (pending.1 y))
@@ -243,7 +244,7 @@ module _ (queue : List ℕ) (done queued : ℕ) (ordered : done ≤ queued) wher
   part_is : part ≡ drop done (take queued queue)
   part_is = sym (drop-take done (queued - done) queue) ∙ ap (λ n. drop done (take n queue)) (omega arith)
 
-  pub part_pending : (cells given : List ℤ) → Pending queue done queued cells given → Pending part 0 (length part) cells given
+  pub part_pending : (cells given : List (Optional ℤ)) → Pending queue done queued cells given → Pending part 0 (length part) cells given
   part_pending cells given p =
       (p.0, λ y. ⊎_elim (λ m. inl (subst (λ l. Memᴰ y l) (sym (take_all (length part) part (omega arith) ∙ part_is)) m)) (λ e. inr e) (p.1 y))
 

@@ -1,5 +1,5 @@
 -- How the code holds what the rounds come to, and what it may ask of the nodes lent to it.
-use Rattle.std.specs.Prelude.{◌≡◌, List, ℕ, ℤ, Result, Ok, Err}
+use Rattle.std.specs.Prelude.{◌≡◌, List, ℕ, ℤ, Result, Ok, Err, Option as Optional}
 use Rattle.std.proofs.Math.Option.{Option, some, none}
 use Rattle.model.specs.Trees.{System, variables}
 use Rattle.model.specs.Standing.{InstructionAt}
@@ -22,7 +22,7 @@ ending (Err f) = Err f
 ending (Ok count) = Ok tt
 
 -- what the rounds came to, with the cells as they are left
-unfoldable pub reached_in : Result ℕ Fault → List ℤ → Reached
+unfoldable pub reached_in : Result ℕ Fault → List (Optional ℤ) → Reached
 reached_in (Err f) cells = stopped f
 reached_in (Ok count) cells = reached count (valuation_of cells)
 

@@ -1,5 +1,5 @@
 -- What is asked and promised of the tables that are lent, of the index of the assertion, and of what the readings gather in.
-use Rattle.std.specs.Prelude.{List, ℕ, ℤ, length}
+use Rattle.std.specs.Prelude.{List, ℕ, ℤ, length, Option}
 use Rattle.tables.specs.declared.Tables.{Tables}
 use Rattle.tables.specs.declared.Index.{Index}
 use Rattle.waiting.specs.Index.{Indexed}
@@ -17,37 +17,37 @@ module _ (t : Tables) where
   IndexHeld i = Indexed t.kinds.now t.parameters.now t.model.assertion (length t.variables.now) i.heads.now i.links.now
 
   -- the cells that are worked in fit the tables, and what waits is marked and counted
-  abbrev pub FittingIn : List ℤ → Gathering → Type 0
+  abbrev pub FittingIn : List (Option ℤ) → Gathering → Type 0
   FittingIn cells g =
       Fitting t.kinds.now t.parameters.now t.nexts.now t.variables.now t.model.assertion cells g.given.now g.queued g.queue.now g.waits.now g.pending
 
   -- some waking of what waits has come so far in round r
-  abbrev pub SomeWakingIn : List ℤ → ℕ → Gathering → Type 0
+  abbrev pub SomeWakingIn : List (Option ℤ) → ℕ → Gathering → Type 0
   SomeWakingIn cells r g =
       SomeWaking t.kinds.now t.parameters.now t.nexts.now t.variables.now t.model.assertion cells r g.found g.given.now g.queued g.queue.now g.waits.now
 
   -- from the one gathering to the other it has gone on
-  abbrev pub StillWakingIn : List ℤ → ℕ → Gathering → Gathering → Type 0
+  abbrev pub StillWakingIn : List (Option ℤ) → ℕ → Gathering → Gathering → Type 0
   StillWakingIn cells r g g' =
       StillWaking t.kinds.now t.parameters.now t.nexts.now t.variables.now t.model.assertion cells r
       g.found g.given.now g.queued g.queue.now g.waits.now g'.found g'.given.now g'.queued g'.queue.now g'.waits.now g'.pending
 
   -- after so many rounds nothing wakes any more
-  abbrev pub RestingIn : AssertionHeld → List ℤ → Gathering → ℕ → Type 0
+  abbrev pub RestingIn : AssertionHeld → List (Option ℤ) → Gathering → ℕ → Type 0
   RestingIn a cells g count =
       Resting t.kinds.now t.parameters.now t.nexts.now t.variables.now t.model.assertion a cells g.waits.now count g.pending
 
   -- a turn of the rounds has begun
-  abbrev pub TurnIn : List ℤ → List ℤ → Gathering → ℕ → ℕ → Type 0
+  abbrev pub TurnIn : List (Option ℤ) → List (Option ℤ) → Gathering → ℕ → ℕ → Type 0
   TurnIn cells₀ cells g r done =
       Turn t.kinds.now t.parameters.now t.nexts.now t.variables.now t.model.assertion cells₀ cells g.given.now g.queue.now g.waits.now g.found g.queued g.pending r done
 
   -- a turn has been read, and the next can begin
-  abbrev pub ReadyIn : List ℤ → List ℤ → Gathering → ℕ → ℕ → Type 0
+  abbrev pub ReadyIn : List (Option ℤ) → List (Option ℤ) → Gathering → ℕ → ℕ → Type 0
   ReadyIn cells₀ cells g r done =
       Ready t.kinds.now t.parameters.now t.nexts.now t.variables.now t.model.assertion cells₀ cells g.given.now g.queue.now g.waits.now g.found g.queued g.pending r done
 
   -- the same, from some cells at the beginning
-  abbrev pub SomeReadyIn : List ℤ → Gathering → ℕ → ℕ → Type 0
+  abbrev pub SomeReadyIn : List (Option ℤ) → Gathering → ℕ → ℕ → Type 0
   SomeReadyIn cells g r done =
       SomeReady t.kinds.now t.parameters.now t.nexts.now t.variables.now t.model.assertion cells g.given.now g.queue.now g.waits.now g.found g.queued g.pending r done

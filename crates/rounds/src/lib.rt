@@ -2,7 +2,7 @@
 
 #![tactic(auto)]
 
-ghost use Rattle.std.specs.Prelude.{◌≡◌, IfOk, false, ℕ, suc, ◌<◌, ◌≤◌, ℤ, length, take, drop, replicate};
+ghost use Rattle.std.specs.Prelude.{◌≡◌, Option, IfOk, false, ℕ, suc, ◌<◌, ◌≤◌, ℤ, length, take, drop, replicate};
 ghost use mathlib.Core.List.{List, Memᴰ};
 ghost use Rattle.model.specs.Trees as trees;
 ghost use Rattle.interpreter.specs.Gathering.{fault_in};
@@ -36,7 +36,7 @@ pub fn fault_in(found: Gathered) -> Result<(), Fault>
 }
 
 // The cells of the flows in the queue from `done` on become what was given.
-fn apply(gathering: &Gathering<'_>, done: usize, cells: &mut [i64])
+fn apply(gathering: &Gathering<'_>, done: usize, cells: &mut [Option<i32>])
     requires { Pending gathering.now.queue.now done gathering.now.queued cells.old gathering.now.given.now
         × Queued gathering.now.queue.now gathering.now.queued (length gathering.now.given.now) × (done ≤ gathering.now.queued) }
     ensures { cells.new ≡ gathering.now.given.now }
@@ -48,7 +48,13 @@ fn apply(gathering: &Gathering<'_>, done: usize, cells: &mut [i64])
 }
 
 // The instruction at the place is read, if it waits since an earlier round.
-fn visit(tables: &Tables<'_>, cells: &[i64], gathering: &mut Gathering<'_>, round: u16, at: usize)
+fn visit(
+    tables: &Tables<'_>,
+    cells: &[Option<i32>],
+    gathering: &mut Gathering<'_>,
+    round: u16,
+    at: usize,
+)
     requires { SomeWakingIn tables.now cells.now round gathering.old × FittingIn tables.now cells.now gathering.old × (at < length tables.now.kinds.now) }
     ensures still { StillWakingIn tables.now cells.now round gathering.old gathering.new }
     ensures done { Done round gathering.new.waits.now at }
@@ -68,7 +74,7 @@ fn visit(tables: &Tables<'_>, cells: &[i64], gathering: &mut Gathering<'_>, roun
 fn wake(
     tables: &Tables<'_>,
     index: &Index<'_>,
-    cells: &[i64],
+    cells: &[Option<i32>],
     gathering: &mut Gathering<'_>,
     round: u16,
     variable: usize,
@@ -96,7 +102,7 @@ fn wake(
 fn wake_all(
     tables: &Tables<'_>,
     index: &Index<'_>,
-    cells: &[i64],
+    cells: &[Option<i32>],
     gathering: &mut Gathering<'_>,
     round: u16,
     done: usize,
@@ -115,7 +121,7 @@ fn wake_all(
 }
 
 // Everything that waits since an earlier round is read, from the assertion on.
-pub fn scan(tables: &Tables<'_>, cells: &[i64], gathering: &mut Gathering<'_>, round: u16)
+pub fn scan(tables: &Tables<'_>, cells: &[Option<i32>], gathering: &mut Gathering<'_>, round: u16)
     requires { SomeWakingIn tables.now cells.now round gathering.old × FittingIn tables.now cells.now gathering.old }
     ensures still { StillWakingIn tables.now cells.now round gathering.old gathering.new }
     ensures done { (p : ℕ) → tables.now.model.assertion ≤ p → p < length tables.now.kinds.now → Done round gathering.new.waits.now p }
@@ -133,13 +139,13 @@ pub fn scan(tables: &Tables<'_>, cells: &[i64], gathering: &mut Gathering<'_>, r
 fn read_round(
     tables: &Tables<'_>,
     index: &Index<'_>,
-    cells: &mut [i64],
+    cells: &mut [Option<i32>],
     gathering: &mut Gathering<'_>,
     round: u16,
     done: usize,
 )
     requires { SomeReadyIn tables.now cells.old gathering.old round done × FittingIn tables.now cells.old gathering.old × IndexHeld tables.now index.now }
-    ensures turn { (start : List ℤ) → ReadyIn tables.now start cells.old gathering.old round done
+    ensures turn { (start : List (Option ℤ)) → ReadyIn tables.now start cells.old gathering.old round done
         → TurnIn tables.now start cells.new gathering.new round gathering.old.queued }
     ensures applied { cells.new ≡ gathering.old.given.now }
     ensures same { SameCells gathering.old gathering.new }
@@ -157,7 +163,7 @@ fn read_round(
 pub fn rounds(
     tables: &Tables<'_>,
     index: &Index<'_>,
-    cells: &mut [i64],
+    cells: &mut [Option<i32>],
     gathering: &mut Gathering<'_>,
 ) -> Result<usize, Fault>
     requires { AssertionHeld tables.now

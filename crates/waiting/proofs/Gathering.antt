@@ -3,14 +3,16 @@ use mathlib.Core.Path.{◌≡◌, refl, sym, ap, ap₂, subst, ◌∙◌}
 use mathlib.Core.Bool.{Bool, true, false, not, ◌||◌, or_assoc, or-false, or-true}
 use mathlib.Core.List.{List, [], ◌∷◌, map}
 use mathlib.Core.Option.{Option, some, none}
+use Rattle.std.specs.Prelude.{Option as Optional, Some, None}
+use Rattle.std.proofs.lemmas.List.{get_or-set_same, get_or-set_other}
 use Prim.Native.Nat.{ℕ, zero, suc, ◌<◌}
 use native.Mathlib.Nat.{not-suc-le-zero, le_of_suc-le-suc}
 use borrow.Author.Tests.{eq-eqb, ne_eqb, eqb-true, eqb-false}
-use lib.Dec.{T, eqb}
-use lib.IntN.{ℤ, pos}
+use lib.Dec.{eqb}
+use lib.IntN.{ℤ}
 use lib.ListN.{length, get_or, set, get_elem?, drop, length-set}
 use lib.Seq.{drop-set-lt}
-use Rattle.evaluation.specs.Numbers.{representable, eq_z}
+use Rattle.evaluation.specs.Numbers.{eq_z}
 use Rattle.evaluation.proofs.Laws.{eq_z_refl, eq_z_true, eq_z_comm}
 use Rattle.model.specs.Trees.{Variable}
 use Rattle.model.specs.WellFormed.{All}
@@ -20,19 +22,14 @@ use Rattle.interpreter.specs.Instructions.Effect.{fails, gives}
 use Rattle.semantics.specs.Propagation.{is_known, is_new, extended}
 use Rattle.expressions.specs.Cells.{cell_value, valuation_of}
 use Rattle.variables.specs.Rows.{within_ends}
-use Rattle.interpreter.specs.Gathering.{Gathering, gathering, nothing_found, gather, gather_all, fault_in}
-use Rattle.expressions.proofs.Cells.{known_cell, element_set, element_set_other}
+use Rattle.interpreter.specs.Gathering.{Gathering, gathering, nothing_found, taken, gather, gather_all, fault_in}
 
--- a number of 32 bits, to a variable that has a cell and ends
+-- to a variable that has a cell and ends
 unfoldable pub Admissible : ℕ → ℕ → Effect → Type 0
 Admissible cells variables fails = Unit {0}
-Admissible cells variables (gives x v) = T (representable v) × (x < cells) × (x < variables)
+Admissible cells variables (gives x v) = (x < cells) × (x < variables)
 
 -- ---- Booleans
-
-holds : (t : Bool) → T t → t ≡ true
-holds true h = refl
-holds false h = absurd h
 
 exchange : (a b c d : Bool) → (a || b || (c || d)) ≡ (a || c || (b || d))
 exchange true b c d = refl
@@ -83,88 +80,88 @@ module _ (lows highs : List ℤ) (g : Gathering) where
   known = valuation_of g.given
 
   module _ (x : ℕ) (v : ℤ) where
-    abbrev held : ℤ
-    held = get_or g.given x (pos 0)
+    abbrev held : Optional ℤ
+    held = get_or g.given x None
 
     abbrev outside : Bool
     outside = g.found.outside || not (within_ends lows highs x v)
 
     -- the variable has a value, or takes this one
-    gather_held : representable held ≡ true
+    gather_held : {w : ℤ} → held ≡ Some w
         → gather lows highs (gives x v) g
-        ≡ gathering (record { failed = g.found.failed; outside = outside; conflict = g.found.conflict || not (eq_z v held); fresh = g.found.fresh }) g.given
-    unfolding gather
+        ≡ gathering (record { failed = g.found.failed; outside = outside; conflict = g.found.conflict || not (eq_z v w); fresh = g.found.fresh }) g.given
+    unfolding gather taken
     gather_held e = rw (e)
 
-    gather_new : representable held ≡ false
+    gather_new : held ≡ None
         → gather lows highs (gives x v) g
-        ≡ gathering (record { failed = g.found.failed; outside = outside; conflict = g.found.conflict; fresh = true }) (set g.given x v)
-    unfolding gather
+        ≡ gathering (record { failed = g.found.failed; outside = outside; conflict = g.found.conflict; fresh = true }) (set g.given x (Some v))
+    unfolding gather taken
     gather_new e = rw (e)
 
     length_after : length (gather lows highs (gives x v) g).given ≡ length g.given
-    length_after = by (representable held) refl
+    length_after = by held refl
       where
-        by : (t : Bool) → representable held ≡ t → length (gather lows highs (gives x v) g).given ≡ length g.given
-        by true e = ap (λ a. length a.given) (gather_held e)
-        by false e = ap (λ a. length a.given) (gather_new e) ∙ length-set g.given x v
+        by : (c : Optional ℤ) → held ≡ c → length (gather lows highs (gives x v) g).given ≡ length g.given
+        by (Some w) e = ap (λ a. length a.given) (gather_held e)
+        by None e = ap (λ a. length a.given) (gather_new e) ∙ length-set g.given x (Some v)
 
     -- the cells from m on, above the variable, stay
     rest_after : (m : ℕ) → x < m → drop m (gather lows highs (gives x v) g).given ≡ drop m g.given
-    rest_after m h = by (representable held) refl
+    rest_after m h = by held refl
       where
-        by : (t : Bool) → representable held ≡ t → drop m (gather lows highs (gives x v) g).given ≡ drop m g.given
-        by true e = ap (λ a. drop m a.given) (gather_held e)
-        by false e = ap (λ a. drop m a.given) (gather_new e) ∙ drop-set-lt m g.given x v h
+        by : (c : Optional ℤ) → held ≡ c → drop m (gather lows highs (gives x v) g).given ≡ drop m g.given
+        by (Some w) e = ap (λ a. drop m a.given) (gather_held e)
+        by None e = ap (λ a. drop m a.given) (gather_new e) ∙ drop-set-lt m g.given x (Some v) h
 
     failed_after : (gather lows highs (gives x v) g).found.failed ≡ g.found.failed
-    failed_after = by (representable held) refl
+    failed_after = by held refl
       where
-        by : (t : Bool) → representable held ≡ t → (gather lows highs (gives x v) g).found.failed ≡ g.found.failed
-        by true e = ap (λ a. a.found.failed) (gather_held e)
-        by false e = ap (λ a. a.found.failed) (gather_new e)
+        by : (c : Optional ℤ) → held ≡ c → (gather lows highs (gives x v) g).found.failed ≡ g.found.failed
+        by (Some w) e = ap (λ a. a.found.failed) (gather_held e)
+        by None e = ap (λ a. a.found.failed) (gather_new e)
 
     outside_after : (gather lows highs (gives x v) g).found.outside ≡ outside
-    outside_after = by (representable held) refl
+    outside_after = by held refl
       where
-        by : (t : Bool) → representable held ≡ t → (gather lows highs (gives x v) g).found.outside ≡ outside
-        by true e = ap (λ a. a.found.outside) (gather_held e)
-        by false e = ap (λ a. a.found.outside) (gather_new e)
+        by : (c : Optional ℤ) → held ≡ c → (gather lows highs (gives x v) g).found.outside ≡ outside
+        by (Some w) e = ap (λ a. a.found.outside) (gather_held e)
+        by None e = ap (λ a. a.found.outside) (gather_new e)
 
     module _ (h : x < length g.given) where
       conflict_after : (gather lows highs (gives x v) g).found.conflict ≡ (g.found.conflict || differs v (known x))
-      unfolding differs
-      conflict_after = by (representable held) refl
+      unfolding differs cell_value
+      conflict_after = by held refl
         where
-          by : (t : Bool) → representable held ≡ t → (gather lows highs (gives x v) g).found.conflict ≡ (g.found.conflict || differs v (known x))
-          by true e = ap (λ a. a.found.conflict) (gather_held e) ∙ rw (known_cell g.given x h e)
-          by false e = ap (λ a. a.found.conflict) (gather_new e) ∙ rw (known_cell g.given x h e) (sym (or-false g.found.conflict))
+          by : (c : Optional ℤ) → held ≡ c → (gather lows highs (gives x v) g).found.conflict ≡ (g.found.conflict || differs v (known x))
+          by (Some w) e = ap (λ a. a.found.conflict) (gather_held e) ∙ rw (e)
+          by None e = ap (λ a. a.found.conflict) (gather_new e) ∙ rw (e) (sym (or-false g.found.conflict))
 
       fresh_after : (gather lows highs (gives x v) g).found.fresh ≡ (g.found.fresh || is_new known (gives x v))
-      unfolding is_new is_known
-      fresh_after = by (representable held) refl
+      unfolding is_new is_known cell_value
+      fresh_after = by held refl
         where
-          by : (t : Bool) → representable held ≡ t → (gather lows highs (gives x v) g).found.fresh ≡ (g.found.fresh || is_new known (gives x v))
-          by true e = ap (λ a. a.found.fresh) (gather_held e) ∙ rw (known_cell g.given x h e) (sym (or-false g.found.fresh))
-          by false e = ap (λ a. a.found.fresh) (gather_new e) ∙ rw (known_cell g.given x h e) (sym (or-true g.found.fresh))
+          by : (c : Optional ℤ) → held ≡ c → (gather lows highs (gives x v) g).found.fresh ≡ (g.found.fresh || is_new known (gives x v))
+          by (Some w) e = ap (λ a. a.found.fresh) (gather_held e) ∙ rw (e) (sym (or-false g.found.fresh))
+          by None e = ap (λ a. a.found.fresh) (gather_new e) ∙ rw (e) (sym (or-true g.found.fresh))
 
-      given_after_lem : T (representable v) → (y : ℕ) → valuation_of (gather lows highs (gives x v) g).given y ≡ first_of (known y) (given_by y (gives x v))
+      given_after_lem : (y : ℕ) → valuation_of (gather lows highs (gives x v) g).given y ≡ first_of (known y) (given_by y (gives x v))
       unfolding first_of given_by cell_value
-      given_after_lem r y = by (representable held) (eqb y x) refl refl
+      given_after_lem y = by held (eqb y x) refl refl
         where
-          by : (t u : Bool) → representable held ≡ t → eqb y x ≡ u
+          by : (c : Optional ℤ) (u : Bool) → held ≡ c → eqb y x ≡ u
               → valuation_of (gather lows highs (gives x v) g).given y ≡ first_of (known y) (given_by y (gives x v))
-          by true true e q =
-              let k : known y ≡ some held = ap known (eqb-true y x q) ∙ known_cell g.given x h e in
+          by (Some w) true e q =
+              let k : known y ≡ some w = ap known (eqb-true y x q) ∙ ap cell_value e in
               ap (λ a. valuation_of a.given y) (gather_held e) ∙ rw (k)
-          by true false e q = ap (λ a. valuation_of a.given y) (gather_held e) ∙ rw (q) (sym (first_none (known y)))
-          by false true e q =
-              let k : known y ≡ none = ap known (eqb-true y x q) ∙ known_cell g.given x h e in
-              let l : get_elem? (set g.given x v) y ≡ some v = ap (get_elem? (set g.given x v)) (eqb-true y x q) ∙ element_set g.given x v h in
-              ap (λ a. valuation_of a.given y) (gather_new e) ∙ ap cell_value l ∙ rw (k, holds (representable v) r, q)
-          by false false e q =
+          by (Some w) false e q = ap (λ a. valuation_of a.given y) (gather_held e) ∙ rw (q) (sym (first_none (known y)))
+          by None true e q =
+              let k : known y ≡ none = ap known (eqb-true y x q) ∙ ap cell_value e in
+              let l : get_or (set g.given x (Some v)) y None ≡ Some v = ap (λ z. get_or (set g.given x (Some v)) z None) (eqb-true y x q) ∙ get_or-set_same g.given x (Some v) None h in
+              ap (λ a. valuation_of a.given y) (gather_new e) ∙ ap cell_value l ∙ rw (k, q)
+          by None false e q =
               ap (λ a. valuation_of a.given y) (gather_new e)
-              ∙ ap cell_value (element_set_other g.given x y v (eqb-false y x q))
+              ∙ ap cell_value (get_or-set_other g.given x y (Some v) None (eqb-false y x q))
               ∙ rw (q) (sym (first_none (known y)))
 
 -- ---- conflicts: the head's value is compared with what is known, the rest with what is known after it
@@ -259,7 +256,7 @@ module _ (lows highs : List ℤ) where
     unfolding gather_all gather All Admissible
     rest_all [] g a = refl
     rest_all (fails ∷ es) g a = rest_all es (gather lows highs fails g) a.1
-    rest_all (gives x v ∷ es) g a = rest_all es (gather lows highs (gives x v) g) a.1 ∙ rest_after lows highs g x v m a.0.2
+    rest_all (gives x v ∷ es) g a = rest_all es (gather lows highs (gives x v) g) a.1 ∙ rest_after lows highs g x v m a.0.1
 
     given_all : (es : List Effect) (g : Gathering) → length g.given ≡ n → All (Admissible n m) es
         → (y : ℕ) → valuation_of (gather_all lows highs es g).given y ≡ first_of (valuation_of g.given y) (given_to y es)
@@ -268,7 +265,7 @@ module _ (lows highs : List ℤ) where
     given_all (fails ∷ es) g l a y = given_all es (gather lows highs fails g) l a.1 y
     given_all (gives x v ∷ es) g l a y =
         given_all es (gather lows highs (gives x v) g) (length_after lows highs g x v ∙ l) a.1 y
-        ∙ ap (λ o. first_of o (given_to y es)) (given_after_lem lows highs g x v (subst (λ k. x < k) (sym l) a.0.1) a.0.0 y)
+        ∙ ap (λ o. first_of o (given_to y es)) (given_after_lem lows highs g x v (subst (λ k. x < k) (sym l) a.0.0) y)
         ∙ first_assoc (valuation_of g.given y) (given_by y (gives x v)) (given_to y es)
 
     conflict_all : (es : List Effect) (g : Gathering) → length g.given ≡ n → All (Admissible n m) es
@@ -279,12 +276,12 @@ module _ (lows highs : List ℤ) where
         conflict_all es (gather lows highs fails g) l a.1
         ∙ ap (λ t. g.found.conflict || t) (sym (conflicts_past_failure (valuation_of g.given) es es))
     conflict_all (gives x v ∷ es) g l a =
-        let h : x < length g.given = subst (λ k. x < k) (sym l) a.0.1 in
+        let h : x < length g.given = subst (λ k. x < k) (sym l) a.0.0 in
         let later : Valuation = valuation_of (gather lows highs (gives x v) g).given in
         conflict_all es (gather lows highs (gives x v) g) (length_after lows highs g x v ∙ l) a.1
         ∙ ap (λ t. t || any (conflicts_with later es) es) (conflict_after lows highs g x v h)
         ∙ or_assoc g.found.conflict (differs v (valuation_of g.given x)) (any (conflicts_with later es) es)
-        ∙ ap (λ t. g.found.conflict || t) (sym (head_conflict (valuation_of g.given) later x v (given_after_lem lows highs g x v h a.0.0) es))
+        ∙ ap (λ t. g.found.conflict || t) (sym (head_conflict (valuation_of g.given) later x v (given_after_lem lows highs g x v h) es))
 
     fresh_all : (es : List Effect) (g : Gathering) → length g.given ≡ n → All (Admissible n m) es
         → (gather_all lows highs es g).found.fresh ≡ (g.found.fresh || any (is_new (valuation_of g.given)) es)
@@ -292,12 +289,12 @@ module _ (lows highs : List ℤ) where
     fresh_all [] g l a = sym (or-false g.found.fresh)
     fresh_all (fails ∷ es) g l a = fresh_all es (gather lows highs fails g) l a.1
     fresh_all (gives x v ∷ es) g l a =
-        let h : x < length g.given = subst (λ k. x < k) (sym l) a.0.1 in
+        let h : x < length g.given = subst (λ k. x < k) (sym l) a.0.0 in
         let later : Valuation = valuation_of (gather lows highs (gives x v) g).given in
         fresh_all es (gather lows highs (gives x v) g) (length_after lows highs g x v ∙ l) a.1
         ∙ ap (λ t. t || any (is_new later) es) (fresh_after lows highs g x v h)
         ∙ or_assoc g.found.fresh (is_new (valuation_of g.given) (gives x v)) (any (is_new later) es)
-        ∙ ap (λ t. g.found.fresh || t) (sym (head_new (valuation_of g.given) later x v (given_after_lem lows highs g x v h a.0.0) es))
+        ∙ ap (λ t. g.found.fresh || t) (sym (head_new (valuation_of g.given) later x v (given_after_lem lows highs g x v h) es))
 
 module _ (vs : List Variable) (n : ℕ) where
   outside_all : (es : List Effect) (g : Gathering) → All (Admissible n (length vs)) es
@@ -307,16 +304,16 @@ module _ (vs : List Variable) (n : ℕ) where
   outside_all (fails ∷ es) g a = outside_all es (gather (map (λ d. d.low) vs) (map (λ d. d.high) vs) fails g) a.1
   outside_all (gives x v ∷ es) g a =
       outside_all es (gather (map (λ d. d.low) vs) (map (λ d. d.high) vs) (gives x v) g) a.1
-      ∙ ap (λ t. t || any (is_outside vs) es) (outside_after (map (λ d. d.low) vs) (map (λ d. d.high) vs) g x v ∙ ap (λ t. g.found.outside || not t) (ends_agree vs x v a.0.2))
+      ∙ ap (λ t. t || any (is_outside vs) es) (outside_after (map (λ d. d.low) vs) (map (λ d. d.high) vs) g x v ∙ ap (λ t. g.found.outside || not t) (ends_agree vs x v a.0.1))
       ∙ or_assoc g.found.outside (not (is_within (get_elem? vs x) v)) (any (is_outside vs) es)
 
 -- ---- the fold from the beginning
 
-abbrev pub folded : List ℤ → List ℤ → List ℤ → List Effect → Gathering
+abbrev pub folded : List ℤ → List ℤ → List (Optional ℤ) → List Effect → Gathering
 folded lows highs given es = gather_all lows highs es (gathering nothing_found given)
 
 module _ (vs : List Variable) {lows highs : List ℤ} (l : lows ≡ map (λ d. d.low) vs) (u : highs ≡ map (λ d. d.high) vs)
-    (given : List ℤ) (es : List Effect) (a : All (Admissible (length given) (length vs)) es) where
+    (given : List (Optional ℤ)) (es : List Effect) (a : All (Admissible (length given) (length vs)) es) where
   pub fault_folded : fault_in (folded lows highs given es).found ≡ fault_of vs (valuation_of given) es
   unfolding fault_in fault_of
   fault_folded =

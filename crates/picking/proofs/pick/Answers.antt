@@ -2,7 +2,7 @@
 use mathlib.Core.Path.{sym, ap, ◌∙◌}
 use Prim.Native.Nat.{◌+◌}
 use native.Mathlib.Omega.{arith}
-use lib.IntN.{pos}
+use Rattle.std.specs.Prelude.{None}
 use lib.ListN.{replicate}
 use lib.Seq.{length-take-le}
 use Rattle.decoding.specs.Decoding.{arrays}
@@ -89,14 +89,14 @@ slice_bounds-pick_loaded-end c =
     let p = c.prepare in
     let left = arrays p.new.parameters p.new.variables p.new.nexts p.new.guards in
     let used = in_use_lem c.args.model.now c.type_inv.model _ left p.result c.in_ok-loaded.loaded p.ensures c.in_ok-loaded.was in
-    sym (length-take-le (c.in_ok-loaded.loaded.sizes.states + c.in_ok-loaded.loaded.sizes.flows) (replicate 510 (pos 0)) used.fits.variables)
+    sym (length-take-le (c.in_ok-loaded.loaded.sizes.states + c.in_ok-loaded.loaded.sizes.flows) (replicate 510 None) used.fits.variables)
 
 pub pick_loaded-requires : goal.pick_loaded-requires
 pick_loaded-requires c =
     let p = c.prepare in
     let left = arrays p.new.parameters p.new.variables p.new.nexts p.new.guards in
     let used = in_use_lem c.args.model.now c.type_inv.model _ left p.result c.in_ok-loaded.loaded p.ensures c.in_ok-loaded.was in
-    length-take-le (c.in_ok-loaded.loaded.sizes.states + c.in_ok-loaded.loaded.sizes.flows) (replicate 510 (pos 0)) used.fits.variables ∙ used.variables
+    length-take-le (c.in_ok-loaded.loaded.sizes.states + c.in_ok-loaded.loaded.sizes.flows) (replicate 510 None) used.fits.variables ∙ used.variables
 
 pub invariant_of-decoded : goal.invariant_of-decoded
 invariant_of-decoded c =

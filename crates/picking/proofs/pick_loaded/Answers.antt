@@ -41,7 +41,7 @@ returns-then-eq c =
     pick_done (meaning d) r (enough_values d a.run.now.values.now enough.0) (from_transitions d _ enough.1)
     (held d r c.holds.result c.holds.ensures (not_from_true _ c.if-not-holds.false)) (Some loop.transition)
     (found_here (meaning d) (take (length a.decoded.now.tables.variables.now) a.run.now.values.now) (length a.decoded.now.tables.guards.now) loop.transition (mark_of c.guard-guard.result)
-    (guard_held d a.run.now.values.now enough.0 _ _ c.overwrite.ensures.0 c.overwrite.ensures.1 (c.overwrite.auto.cells ∙ c.requires)
+    (guard_held d a.run.now.values.now enough.0 _ _ c.requires c.overwrite.ensures.0
     loop.transition c.guard-guard.result (c.guard-guard.ensures d) (mark_of c.guard-guard.result) refl)
     (loop.invariant d) c.loop-transition-test.true (marked_true _ (search (rules, tests)))
     ∙ all_marks (meaning d) a.run.now.values.now (length a.decoded.now.tables.variables.now) (length a.decoded.now.tables.guards.now) (rows_count d) (guards_count d))
@@ -52,7 +52,7 @@ loop-transition-preserved c =
     let loop = c.loop-transition in
     λ d.
     go_on_lem (meaning d) (take (length a.decoded.now.tables.variables.now) a.run.now.values.now) (length a.decoded.now.tables.guards.now) loop.transition (mark_of c.guard-guard.result)
-    (guard_held d a.run.now.values.now c.in_ok-measure.ensures.enough.0 _ _ c.overwrite.ensures.0 c.overwrite.ensures.1 (c.overwrite.auto.cells ∙ c.requires)
+    (guard_held d a.run.now.values.now c.in_ok-measure.ensures.enough.0 _ _ c.requires c.overwrite.ensures.0
     loop.transition c.guard-guard.result (c.guard-guard.ensures d) (mark_of c.guard-guard.result) refl)
     (loop.invariant d) c.loop-transition-test.true (marked_other _ (λ e. search (rules, tests)))
 

@@ -1,19 +1,23 @@
 -- Numbers that cells hold into values.
-use Rattle.std.specs.Prelude.{Ok, Err}
-use mathlib.Core.Path.{sym, ◌∙◌}
+use mathlib.Core.Path.{sym, ap, ◌∙◌}
+use native.Mathlib.Omega.{arith}
 use Rattle.std.proofs.lemmas.List.{set-get_or}
 use lib.IntN.{pos}
-use lib.ListN.{get_or}
 use mir.Syntax.{w32}
+use mir.Val.{SFits}
 use mir.ValLaws.{to_z-of_z}
-use Rattle.expressions.proofs.Cells.{number_told}
-use Rattle.propagation.proofs.Overwriting.{replaced_set, replaced_keep, read_cell}
-use Rattle.propagation.proofs.replace.Goals.{in-Ok, in_default}
+use Rattle.std.specs.Prelude.{Some}
+use Rattle.std.proofs.Common.{rules}
+use Rattle.propagation.proofs.Overwriting.{held_done, held_set, held_keep}
+use Rattle.propagation.proofs.replace.Goals.{in-Some, in_default}
 use Rattle.propagation.proofs.replace.Goals as goal
 
 pub loop-i-preserved : goal.loop-i-preserved
 loop-i-preserved c =
-    elim c.match-try_from.branch [
-      | in-Ok w ↦ let e = w.in-Ok.ensures in w.values-is ∙ replaced_set c.args.cells.now c.args.values.now c.loop-i.values c.loop-i.i c.requires c.loop-i.invariant c.loop-i-test.true (sym (number_told {z = get_or c.args.cells.now c.loop-i.i (pos 0)} (record { sfits = c.try_from-arg-1.given }) {E = Unit {0}} (Ok w.in-Ok.number) e)) _ (to_z-of_z w32 w.in-Ok.number (rw (e.1) e.0) ∙ e.1 ∙ read_cell c.args.cells.now c.loop-i.i c.try_from-arg-1.given)
-      | in_default w ↦ w.values-is ∙ set-get_or c.loop-i.values c.loop-i.i (pos 0) ∙ replaced_keep c.args.cells.now c.args.values.now c.loop-i.values c.loop-i.i c.requires c.loop-i.invariant c.loop-i-test.true (sym (number_told {z = get_or c.args.cells.now c.loop-i.i (pos 0)} (record { sfits = c.try_from-arg-1.given }) {E = Unit {0}} (Err tt) w.in_default.ensures))
+    elim c.match-cells-i.branch [
+      | in-Some w ↦ let fits : SFits w32 w.in-Some.number = search rules in w.values-is ∙ held_set c.args.cells.now c.args.values.now c.loop-i.values c.loop-i.i c.loop-i.invariant c.loop-i-test.true _ (w.in-Some.is ∙ ap Some (sym (to_z-of_z w32 w.in-Some.number fits)))
+      | in_default w ↦ w.values-is ∙ set-get_or c.loop-i.values c.loop-i.i (pos 0) ∙ held_keep c.args.cells.now c.args.values.now c.loop-i.values c.loop-i.i c.loop-i.invariant c.loop-i-test.true w.in_default.is
     ]
+
+pub returns : goal.returns
+returns c = held_done c.args.cells.now c.args.values.now c.loop-i.values c.loop-i.i c.loop-i.invariant (omega (arith, c.loop-i-test.false))

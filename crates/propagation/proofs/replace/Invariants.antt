@@ -1,7 +1,8 @@
--- Values replaced. After i turns the first i values are those of the filled cells.
+-- Values replaced. After i turns the first i values are what the cells hold in their place.
 use mathlib.Core.Path.{◌≡◌}
-use Rattle.propagation.proofs.Overwriting.{partly, replaced_by}
+use Rattle.propagation.proofs.Overwriting.{partly}
+use Rattle.propagation.specs.Cells.{held_or}
 use Rattle.propagation.proofs.replace.Given as goal
 
 abbrev pub invariant-loop-i : goal.invariant-loop-i
-invariant-loop-i l = l.values ≡ partly (replaced_by l.cells l.initial.values) l.initial.values l.i
+invariant-loop-i l = l.values ≡ partly (held_or l.cells l.initial.values) l.initial.values l.i

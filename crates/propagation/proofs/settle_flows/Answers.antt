@@ -6,7 +6,7 @@ use Rattle.results.specs.Results.{over}
 use Rattle.rounds.proofs.Propagating.{rows_within}
 use Rattle.propagation.proofs.Blanks.{room_for_all, length_cells, length_given, length_queue, length_waits, nothing_waits}
 use Rattle.propagation.proofs.Settling.{counted_within, refused_in_rounds, rested_in_rounds}
-use Rattle.propagation.specs.Cells.{CountWithin}
+use Rattle.propagation.specs.Cells.{cells_of, CountWithin}
 use Rattle.propagation.proofs.settle_flows.Goals as goal
 
 pub rounds-requires : goal.rounds-requires
@@ -30,7 +30,7 @@ rounds-requires c =
       ),
       c.requires.1,
       b.nothing_marked,
-      o2.ensures.0 ∙ ap (over c.args.states.now) (b.nothing_given ∙ sym c.requires.2.nothing_known) ∙ sym o.ensures.0,
+      o2.ensures.0 ∙ ap (over (cells_of c.args.states.now)) (b.nothing_given ∙ sym c.requires.2.nothing_known) ∙ sym o.ensures.0,
     )
 
 pub returns-in_err-count-clause-settled : goal.returns-in_err-count-clause-settled
@@ -39,7 +39,7 @@ returns-in_err-count-clause-settled c =
     let r = c.rounds in
     let e = err_from_is_err_and c.from_residual.result c.from_residual.ensures.1 in
     λ p. rw (e.1, e.2)
-    (refused_in_rounds c.args.states.now c.args.flows.now p o.new.cells r.new.cells (o.ensures.0 ∙ ap (over c.args.states.now) c.requires.2.nothing_known) o.ensures.1 r.result (r.ensures.reached p.assertion).0 _ c.in_err-count.was)
+    (refused_in_rounds c.args.states.now c.args.flows.now p o.new.cells r.new.cells (o.ensures.0 ∙ ap (over (cells_of c.args.states.now)) c.requires.2.nothing_known) r.result (r.ensures.reached p.assertion).0 _ c.in_err-count.was)
 
 pub returns-in_err-count-clause-bounded : goal.returns-in_err-count-clause-bounded
 unfolding CountWithin
@@ -52,7 +52,7 @@ returns-clause-settled c =
     let o = c.overwrite in
     let r = c.rounds in
     let f = c.finish in
-    λ p. rested_in_rounds c.args.states.now c.args.flows.now p o.new.cells r.new.cells (o.ensures.0 ∙ ap (over c.args.states.now) c.requires.2.nothing_known) o.ensures.1 r.result (r.ensures.reached p.assertion).0 c.in_ok-count.count c.in_ok-count.was f.result f.new.flows (f.ensures.settled p)
+    λ p. rested_in_rounds c.args.states.now c.args.flows.now p o.new.cells r.new.cells (o.ensures.0 ∙ ap (over (cells_of c.args.states.now)) c.requires.2.nothing_known) r.result (r.ensures.reached p.assertion).0 c.in_ok-count.count c.in_ok-count.was f.result f.new.flows (f.ensures.settled p)
 
 pub returns-clause-bounded : goal.returns-clause-bounded
 returns-clause-bounded c =
@@ -60,4 +60,4 @@ returns-clause-bounded c =
     let r = c.rounds in
     let f = c.finish in
     counted_within c.args.states.now c.args.flows.now c.requires.0 f.result f.new.flows
-    (λ p. rested_in_rounds c.args.states.now c.args.flows.now p o.new.cells r.new.cells (o.ensures.0 ∙ ap (over c.args.states.now) c.requires.2.nothing_known) o.ensures.1 r.result (r.ensures.reached p.assertion).0 c.in_ok-count.count c.in_ok-count.was f.result f.new.flows (f.ensures.settled p))
+    (λ p. rested_in_rounds c.args.states.now c.args.flows.now p o.new.cells r.new.cells (o.ensures.0 ∙ ap (over (cells_of c.args.states.now)) c.requires.2.nothing_known) r.result (r.ensures.reached p.assertion).0 c.in_ok-count.count c.in_ok-count.was f.result f.new.flows (f.ensures.settled p))

@@ -1,11 +1,9 @@
 -- `apply` meets its contract.
 use native.Mathlib.Omega.{arith}
-use lib.IntN.{pos}
 use mathlib.Core.List.{List}
-use lib.ListN.{length, get_or, take, drop}
+use lib.ListN.{length, take, drop}
 use Prim.Native.Nat.{ℕ, ◌-◌, ◌<◌}
-use mir.Syntax.{w64}
-use mir.ValLaws.{to_z-of_z}
+use mathlib.Core.Path.{refl}
 use Rattle.rounds.proofs.Visiting.{part_pending, part_queued, applied_one, applied_all}
 use Rattle.rounds.proofs.apply.Goals as goal
 
@@ -19,8 +17,7 @@ loop-flow-preserved c =
     let k = c.loop-flow.flow-index in
     let within : k < length part = omega (arith, c.loop-flow-test.true) in
     rw (c.from-x.ensures)
-    (applied_one part (length part) g.given.now c.loop-flow.cells k (omega arith) c.loop-flow.invariant within ((part_queued g.queue.now c.args.done g.queued c.requires.2 c.requires.1).1 k within)
-    (to_z-of_z w64 (get_or g.given.now (get_or part k 0) (pos 0)) (record { sfits = rw (c.from-x.ensures) at c.cells-1.given })))
+    (applied_one part (length part) g.given.now c.loop-flow.cells k (omega arith) c.loop-flow.invariant within ((part_queued g.queue.now c.args.done g.queued c.requires.2 c.requires.1).1 k within) refl)
 
 pub returns : goal.returns
 returns c =
