@@ -63,7 +63,7 @@ extern "C" {
 #define GTS_SIZES 5        /* of `sizes`; of `values` it is S + F, of `marks` and `buffer` T, of `history` none */
 #define GTS_TEXT_NODES 400 /* of `kinds` and of `parameters`: no text has more nodes */
 
-/* The stack that a call on a run needs, in bytes: the most that was measured is 90,320 (README), rounded up. Its arrays
+/* The stack that a call on a run needs, in bytes: the most that was measured is 90,416 (README), rounded up. Its arrays
  * have fixed sizes, and recursion goes by depth, at most GTS_MAX_DEPTH. */
 #define GTS_STACK_BYTES 98304
 

@@ -4,26 +4,23 @@ use mathlib.Core.List.{List, []}
 use Prim.Native.Nat.{ℕ, zero, suc, ◌≤◌}
 use native.Mathlib.Omega.{arith}
 use lib.IntN.{ℤ}
-use Rattle.std.specs.Prelude.{Option, Result, Ok, Err}
+use Rattle.std.specs.Prelude.{Result, Ok, Err}
 use Rattle.results.specs.declared.refusal.Refusal.{Refusal}
-use Rattle.results.specs.Refusals.{number_of}
 use Rattle.results.specs.Results.{answered}
 use Rattle.model.specs.declared.Sizes.{Sizes}
 use Rattle.model.specs.Trees.{System}
 use Rattle.model.specs.Check.{Verdict, verdict}
 use Rattle.model.specs.Check.Verdict.{refusal, accepted}
 use Rattle.semantics.specs.Meanings.{Meaning, meaning_of}
-use Rattle.standing.specs.declared.RangeCheck.{RangeCheck}
 use Rattle.standing.specs.Runs.{Run, Answer, Done, run}
-use Rattle.standing.specs.Runs.Answer.{rounds, done, number, picked}
+use Rattle.standing.specs.Runs.Answer.{rounds, done, number}
 use Rattle.steps.specs.Answers.{seen_as, on_file}
-use Rattle.inspection.specs.Asked.{told_outside}
 use Rattle.steps.specs.Calls as calls
 use Rattle.run.specs.Lists.{CountWithin, CountBounded}
-use Rattle.run.specs.Promises.{StartPromise, FirePromise, UndoPromise, MarksPromise, ValuePromise, PickPromise, FirstOutsidePromise}
+use Rattle.run.specs.Promises.{StartPromise, FirePromise}
 use Rattle.run.proofs.Cases.{start_cases, fire_cases}
-use Rattle.capi.specs.Codes.{code_of, code_in, value_or, rounds_or, number_or, found_over, picked_or, coded_by, coded_rounds, coded_number, coded_pick, outside_or, coded_outside}
-use Rattle.capi.specs.Promises.{CellBounded, StartCoded, FireCoded, UndoCoded, MarksCoded, ValueCoded, PickCoded, FirstOutsideCoded}
+use Rattle.capi.specs.Codes.{code_of, code_in, value_or, rounds_or, number_or, coded_rounds}
+use Rattle.capi.specs.Promises.{CellBounded, StartCoded, FireCoded}
 
 -- a code 0 is that of a round count
 abbrev Counts : Answer → Type 0
@@ -71,13 +68,24 @@ unfolding value_or rounds_or
 rounds_seen old (Ok n) = refl
 rounds_seen old (Err k) = refl
 
-number_seen : (old : ℤ) (r : Result ℤ Refusal) → value_or old r ≡ number_or old (seen_as number r)
+pub number_seen : (old : ℤ) (r : Result ℤ Refusal) → value_or old r ≡ number_or old (seen_as number r)
 unfolding value_or number_or
 number_seen old (Ok v) = refl
 number_seen old (Err k) = refl
 
 coded_seen : {A : Type 0} (f : A → Answer) → ((a : A) → code_of (f a) ≡ 0) → (r : Result A Refusal) {code : ℕ} → code ≡ code_in r → code ≡ code_of (seen_as f r)
 coded_seen f none r e = e ∙ code_seen f none r
+
+pub done_code_seen : (r : Result (Unit {0}) Refusal) → code_in r ≡ code_of (seen_as (λ _. done) r)
+unfolding code_of
+done_code_seen r = code_seen (λ _. done) (λ _. refl) r
+
+pub number_code_seen : (r : Result ℤ Refusal) → code_in r ≡ code_of (seen_as number r)
+unfolding code_of
+number_code_seen r = code_seen number (λ _. refl) r
+
+-- what an answer without a result, or with a number, is for C, for the search
+pub ruleset seen = (done_code_seen, number_code_seen, number_seen)
 
 rounds_code : (r : Result ℕ Refusal) {code : ℕ} → code ≡ code_in r → code ≡ code_of (seen_as rounds r)
 unfolding code_of
@@ -104,58 +112,3 @@ module _ (m : List ℕ) (old code count : ℕ) (r : Result ℕ Refusal) (coded :
     rounds_bounded (λ m. calls.fire m t (run values marks history n)) (λ m. fire_counts m (run values marks history n) t) (run values marks history n)
         (run values' marks' history' n') (seen_as rounds r) old code count (rounds_code r coded) (counted ∙ rounds_seen old r) (verdict m) p.0 p.1,
   )
-
--- a call without results
-module _ (m : List ℕ) (code : ℕ) (r : Result (Unit {0}) Refusal) (coded : code ≡ code_in r) where
-  done_code : code ≡ code_of (seen_as (λ _. done) r)
-  unfolding code_of
-  done_code = coded_seen (λ _. done) (λ _. refl) r coded
-
-  pub undo_coded : (values : List ℤ) (marks history : List ℕ) (n : ℕ) (values' : List ℤ) (marks' : List ℕ) (n' : ℕ)
-      → UndoPromise m values marks history n r values' marks' n' → UndoCoded m values marks history n code values' marks' n'
-  undo_coded values marks history n values' marks' n' p = ap (λ k. answered k (run values' marks' history n')) done_code ∙ ap coded_by p
-
-  pub marks_coded : (values : List ℤ) (marks history : List ℕ) (n : ℕ) (buffer buffer' : List ℕ)
-      → MarksPromise m values marks history n buffer r buffer' → MarksCoded m values marks history n buffer code buffer'
-  marks_coded values marks history n buffer buffer' p = ap (λ k. answered k buffer') done_code ∙ ap coded_by p
-
--- a call whose result is a number
-pub value_coded : (m : List ℕ) (values : List ℤ) (marks history : List ℕ) (n x : ℕ) (old new : ℤ) (code : ℕ) (r : Result ℤ Refusal)
-    → code ≡ code_in r → new ≡ value_or old r → ValuePromise m values marks history n x r
-    → ValueCoded m values marks history n x old code new
-unfolding code_of
-value_coded m values marks history n x old new code r coded stored p =
-    ap₂ (λ c v. answered c v) (coded_seen number (λ v. refl) r coded) (stored ∙ number_seen old r)
-    ∙ ap (coded_number old) p
-
--- pick, by its answer
-module _ (m : List ℕ) (values : List ℤ) (marks history : List ℕ) (n transition found-there : ℕ) (r : Result (Option ℕ) Refusal)
-    (p : PickPromise m values marks history n r) where
-  coded : (code transition' found' : ℕ) → coded_pick (transition, found-there) (seen_as picked r) ≡ answered code (transition', found')
-      → PickCoded m values marks history n transition found-there code transition' found'
-  coded code transition' found' e = sym e ∙ ap (coded_pick (transition, found-there)) p
-
-  pub pick_refused : (k : Refusal) → r ≡ Err k → PickCoded m values marks history n transition found-there (number_of k) transition found-there
-  unfolding code_of picked_or
-  pick_refused k e = coded (number_of k) transition found-there (rw e)
-
-  pub pick_handed : (f : Option ℕ) (transition' found' : ℕ) → r ≡ Ok f → found_over transition f ≡ (transition', found')
-      → PickCoded m values marks history n transition found-there 0 transition' found'
-  unfolding code_of picked_or
-  pick_handed f transition' found' e q = coded 0 transition' found' (rw e (ap (answered 0) q))
-
--- first outside, by its answer
-module _ (m : List ℕ) (values : List ℤ) (variable found-there looked : ℕ) (r : Result RangeCheck Refusal) (p : FirstOutsidePromise m values r) where
-  coded_cells : (code variable' found' looked' : ℕ)
-      → coded_outside ((variable, found-there), looked) (seen_as told_outside r) ≡ answered code ((variable', found'), looked')
-      → FirstOutsideCoded m values variable found-there looked code variable' found' looked'
-  coded_cells code variable' found' looked' e = sym e ∙ ap (coded_outside ((variable, found-there), looked)) p
-
-  pub range_refused : (k : Refusal) → r ≡ Err k → FirstOutsideCoded m values variable found-there looked (number_of k) variable found-there looked
-  unfolding code_of outside_or
-  range_refused k e = coded_cells (number_of k) variable found-there looked (rw e)
-
-  pub range_handed : (c : RangeCheck) (variable' found' : ℕ) → r ≡ Ok c → found_over variable c.outside ≡ (variable', found')
-      → FirstOutsideCoded m values variable found-there looked 0 variable' found' c.looked
-  unfolding code_of outside_or
-  range_handed c variable' found' e q = coded_cells 0 variable' found' c.looked (rw e (ap (λ p. answered 0 (p, c.looked)) q))

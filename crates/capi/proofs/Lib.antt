@@ -1,5 +1,4 @@
 -- Laws that the proofs of the functions cite, and the theorem.
 pub mod Coding
 pub mod Reached
-pub mod Results
 pub mod Sizing

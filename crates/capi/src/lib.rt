@@ -1,12 +1,13 @@
 // The calls on a run, on a text and on a model for C: 0 and the results, or the number of the refusal and nothing that was lent changed.
 
-#![tactic(auto)]
+#![tactic(auto, using(crate::proofs::Coding::seen), unfolding(crate::specs::Codes::code_of, crate::specs::Codes::coded_sizes, crate::specs::Codes::picked_or, crate::specs::Codes::outside_or, results::specs::Refusals::number_of))]
 
 ghost use Rattle.std.specs.Prelude.{◌≡◌};
 ghost use Rattle.capi.specs.Codes.{code_in, value_or, found_over};
 ghost use Rattle.capi.specs.Promises.{CheckCoded, StartCoded, FireCoded, UndoCoded, MarksCoded, ValueCoded, PickCoded, FirstOutsideCoded, TextCoded, SynchroniseCoded};
 
 use results::Refusal;
+use standing::Run;
 
 // How many sizes a model has.
 const SIZE_CELLS: usize = 5;
@@ -131,7 +132,8 @@ pub extern "C" fn gts_marks(
 ) -> u8
     ensures { MarksCoded model.now values.now marks.now history.now n buffer.old result buffer.new }
 {
-    code(run::marks(model, values, marks, history, n, buffer))
+    let run = Run::new(values, marks, history, n);
+    code(run::marks(model, &run, buffer))
 }
 
 // The value of a variable.
@@ -147,10 +149,8 @@ pub extern "C" fn gts_value(
 ) -> u8
     ensures { ValueCoded model.now values.now marks.now history.now n variable value.old result value.new }
 {
-    hand(
-        run::value(model, values, marks, history, n, variable),
-        value,
-    )
+    let run = Run::new(values, marks, history, n);
+    hand(run::value(model, &run, variable), value)
 }
 
 // The lowest transition whose guard is true: found is 1; where there is none found is 0 and the transition stays.
@@ -167,7 +167,8 @@ pub extern "C" fn gts_pick(
     ensures { PickCoded model.now values.now marks.now history.now n transition.old found.old result
         transition.new found.new }
 {
-    match run::pick(model, values, marks, history, n) {
+    let run = Run::new(values, marks, history, n);
+    match run::pick(model, &run) {
         Err(refusal) => refusal.number(),
         Ok(picked) => {
             hand_out(picked, transition, found);

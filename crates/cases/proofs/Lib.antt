@@ -1,5 +1,4 @@
 -- Proofs of crate `cases`.
 pub mod Numbers
 pub mod Beside
-pub mod Loading
 pub mod Counting

@@ -14,12 +14,12 @@ same_cells equal cells stored fill = pointwise equal cells (over stored (replica
 abbrev pub wanted_by : ℕ → ℕ → Result ℕ ℕ
 wanted_by refusal count = cond (eqb refusal 0) (Ok count) (Err refusal)
 
--- a case was read: a header of 16 bytes, and a body of the size that it tells
-pub record CaseRead {C : Type 0} (made : List ℕ → C → Type 0) (size : C → ℕ) (before after : Option (List ℕ)) : Type 0 where
+-- a case was read: a header of so many bytes, and a body of the size that it tells
+pub record CaseRead {C : Type 0} (count : ℕ) (made : List ℕ → C → Type 0) (size : C → ℕ) (before after : Option (List ℕ)) : Type 0 where
   pub header : List ℕ
   pub head : C
   pub body : List ℕ
-  pub is_header : length header ≡ 16
+  pub is_header : length header ≡ count
   pub is_head : made header head
   pub is_body : length body ≡ size head
   pub read : Consumes before after (header ++ body)

@@ -33,6 +33,7 @@ impl Tally {
     }
 
     // The tally with one case more.
+    #[tactic(auto, using(crate::proofs::Counting::counted_by))]
     pub fn counted(self, is_same: bool) -> Tally
         ensures { result ≡ counted_in self is_same }
     {
@@ -71,6 +72,8 @@ pub fn number<const N: usize>(bytes: &[u8], at: usize) -> usize
 }
 
 // The signed number in four bytes.
+// `i32::from_le_bytes` takes an array, and of a slice that would be an Option.
+#[tactic(auto, using(crate::proofs::Numbers::signed_read))]
 pub fn signed(bytes: &[u8], at: usize) -> i32
     requires { at + 4 ≤ length bytes.now }
     ensures { result ≡ model.signed (little_at bytes.now at 4) }
@@ -95,6 +98,7 @@ fn is_filled<T: Copy + PartialEq>(cells: &[T], fill: T) -> bool
 }
 
 // Are the cells the stored ones, and the fill past them?
+#[tactic(auto, using(crate::proofs::Beside::first_differs, crate::proofs::Beside::first_agrees))]
 pub fn is_same<T: Copy + PartialEq>(cells: &[T], stored: &[T], fill: T) -> bool
     ensures { result ≡ same_cells T.eq cells.now stored.now fill }
 {
@@ -176,8 +180,8 @@ pub fn next_bytes<R: Read, const N: usize>(file: &mut R) -> io::Result<Option<[u
     Ok(is_whole.then_some(bytes))
 }
 
-// Stored cases of one kind, each by its header.
-pub trait Case: Copy + From<[u8; 16]> {
+// Stored cases of one kind, each by its header of so many bytes.
+pub trait Case<const HEAD: usize>: Copy + From<[u8; HEAD]> {
     ghost size: { Self → ℕ };
 
     // The length of the body.
@@ -190,14 +194,15 @@ pub trait Case: Copy + From<[u8; 16]> {
 }
 
 // Reads one case into the buffer and runs it; none at the end of the file.
-pub fn next_case<C: Case, P: Print, R: Read>(
+pub fn next_case<const HEAD: usize, C: Case<HEAD>, P: Print, R: Read>(
     rt: &P,
     file: &mut R,
     buffer: &mut [u8],
 ) -> io::Result<Option<bool>>
-    ensures { (answer : Bool) → result ≡ Ok (Some answer) → CaseRead C.from_gives C.size (R.remaining file.old) (R.remaining file.new) }
+    requires { HEAD < 2 ^ 63 }
+    ensures { (answer : Bool) → result ≡ Ok (Some answer) → CaseRead HEAD C.from_gives C.size (R.remaining file.old) (R.remaining file.new) }
 {
-    let Some(bytes): Option<[u8; 16]> = next_bytes(file)? else {
+    let Some(bytes): Option<[u8; HEAD]> = next_bytes(file)? else {
         return Ok(None);
     };
     let head = C::from(bytes);

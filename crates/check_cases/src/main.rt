@@ -83,7 +83,7 @@ fn sort_of(code: u8) -> Sort {
 }
 
 // The answer of a case is the number of its nodes.
-impl Case for Head {
+impl Case<16> for Head {
     ghost size = { λ head. head.body };
 
     fn body_length(self) -> usize {
@@ -147,6 +147,6 @@ fn main(rt: HostRuntime) -> io::Result<()> {
     let mut file = File::open(&rt, "cases")?;
     let mut buffer = [0u8; 32768];
     cases::run(&rt, "cases", || {
-        cases::next_case::<Head, _, _>(&rt, &mut file, &mut buffer)
+        cases::next_case::<16, Head, _, _>(&rt, &mut file, &mut buffer)
     })
 }

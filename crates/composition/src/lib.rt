@@ -158,7 +158,7 @@ impl Nodes {
         ensures count { self.new.count ≡ self.old.count + 1 }
         ensures nodes { written self.new ≡ written self.old ++ (node ∷ []) }
     {
-        self.cells[self.count as usize] = node;
+        self.cells[usize::from(self.count)] = node;
         self.count += 1;
     }
 
@@ -168,9 +168,9 @@ impl Nodes {
         ensures count { self.new.count ≡ self.old.count + 1 }
         ensures nodes { written self.new ≡ take from (written self.old) ++ (plain kind ∷ drop from (written self.old)) }
     {
-        let end = self.count as usize;
+        let end = usize::from(self.count);
         self.cells[end] = Node { kind, parameter: 0 };
-        self.cells[from as usize..end + 1].rotate_right(1);
+        self.cells[usize::from(from)..end + 1].rotate_right(1);
         self.count += 1;
     }
 
@@ -182,8 +182,8 @@ impl Nodes {
             ++ arranged operator (drop from (take middle (written self.old))) (drop middle (written self.old)) }
     {
         if is_greater(operator) {
-            let from = from as usize;
-            self.cells[from..self.count as usize].rotate_left(middle as usize - from);
+            let from = usize::from(from);
+            self.cells[from..usize::from(self.count)].rotate_left(usize::from(middle) - from);
         }
     }
 

@@ -1,4 +1,4 @@
--- The parts of the arrays that are in use after `prepare` accepted a file: they are its decoding, and as long as its sizes say.
+-- The parts of the arrays that are in use after `prepare` accepted a file: they are its decoding.
 use mathlib.Core.Path.{◌≡◌, refl, sym, ap, ◌∙◌, subst}
 use mathlib.Core.List.{List}
 use Prim.Native.Nat.{ℕ, ◌+◌, ◌≤◌}
@@ -14,16 +14,18 @@ use Rattle.model.specs.declared.Sizes.{Sizes}
 use Rattle.model.specs.declared.Model.{Model}
 use Rattle.model.specs.Trees.{System, variables}
 use Rattle.model.specs.Sizes.{byte_layout}
-use Rattle.model.specs.Check.{Verdict, verdict, kinds_in}
+use Rattle.model.specs.Check.{Verdict, verdict, answer_of, kinds_in, parameters_in}
 use Rattle.model.specs.Check.Verdict.{refusal, accepted}
 use Rattle.model.specs.Theorems.{Bytes}
 use Rattle.model.proofs.LittleBytes.{all_bytes, parameters_length}
 use Rattle.model.proofs.CheckExact.{kinds_length, sized_fits}
 use Rattle.variables.specs.Rows.{variable_row}
-use Rattle.decoding.specs.Decoding.{Decoded, Arrays, decoded_over, prepared_by, assertion_place}
+use Rattle.tables.specs.declared.Tables.{Tables}
+use Rattle.decoding.specs.Decoding.{Decoded, Arrays, LentOf, decoded_over, prepared_by, assertion_place}
 use Rattle.decoding.proofs.Accepted.{accepted_file}
 use Rattle.decoding.proofs.Places.{nexts_length}
-use Rattle.decoding.proofs.Decoded.{guards_length, decoded_nodes, decoded_parameters, decoded_rows, decoded_variables, decoded_nexts, decoded_guards, decoded_transitions}
+use Rattle.decoding.proofs.Preparing.{ready_prepared}
+use Rattle.decoding.proofs.Decoded.{guards_length, decoded_nodes, decoded_rows, decoded_variables}
 
 -- the sizes fit the arrays
 pub record SizesFit (s : Sizes) : Type 0 where
@@ -45,29 +47,33 @@ DecodedIn m a d =
 pub record InUse (m : List ℕ) (a : Arrays) (d : Model) : Type 0 where
   pub bytes : Bytes m
   pub decoding : DecodedIn m a d
-  pub fits : SizesFit d.sizes
-  pub parameters : d.sizes.nodes ≡ length (take d.sizes.nodes a.parameters)
-  pub variables : d.sizes.states + d.sizes.flows ≡ length (take (d.sizes.states + d.sizes.flows) a.variables)
-  pub nexts : d.sizes.nodes ≡ length (take d.sizes.nodes a.nexts)
-  pub guards : d.sizes.transitions ≡ length (take d.sizes.transitions a.guards)
 
 -- a part as long as it should be lies within the whole
 pub part_within : {A : Type 0} (n : ℕ) (l : List A) → n ≡ length (take n l) → n ≤ length l
 part_within n l e = omega (arith, length-take n l, e)
 
-module _ (m : List ℕ) (b : Bytes m) (a : Arrays) (d : Model) (x : DecodedIn m a d) where
-  decoding_used : InUse m a d
-  decoding_used =
-      let nodes = decoded_nodes m d _ _ _ _ _ x in
+-- ---- the tables that are lent out of these arrays
+
+module _ (m : List ℕ) (a : Arrays) (d : Model) (u : InUse m a d) (t : Tables) (l : LentOf m a d t) where
+  abbrev pub decoded_lent : Decoded m t.model t.kinds.now t.parameters.now t.variables.now t.nexts.now t.guards.now
+  decoded_lent =
+      let x = u.decoding in
       record {
-        bytes = b;
-        decoding = x;
-        fits = sizes_fit m b d.sizes x.system x.checked;
-        parameters = sym (decoded_parameters m d _ _ _ _ _ x ∙ nodes);
-        variables = sym (decoded_rows m d _ _ _ _ _ x ∙ decoded_variables m d _ _ _ _ _ x);
-        nexts = sym (decoded_nexts m d _ _ _ _ _ x ∙ nodes);
-        guards = sym (decoded_guards m d _ _ _ _ _ x ∙ decoded_transitions m d _ _ _ _ _ x);
+        system = x.system;
+        checked = x.checked ∙ ap (λ d. accepted d.sizes x.system) (sym l.model);
+        assertion_decoded = ap (λ d. d.assertion) l.model ∙ x.assertion_decoded;
+        kinds_decoded = l.kinds ∙ ap (λ d. kinds_in byte_layout d.sizes.nodes m) (sym l.model);
+        parameters_decoded = l.parameters ∙ x.parameters_decoded ∙ ap (λ d. parameters_in byte_layout d.sizes.nodes m) (sym l.model);
+        variables_decoded = l.variables ∙ x.variables_decoded;
+        nexts_decoded = l.nexts ∙ x.nexts_decoded;
+        guards_decoded = l.guards ∙ x.guards_decoded;
       }
+
+  pub kinds_lent : length t.kinds.now ≡ d.sizes.nodes
+  kinds_lent = ap length l.kinds ∙ decoded_nodes m d _ _ _ _ _ u.decoding
+
+  pub rows_lent : length t.variables.now ≡ d.sizes.states + d.sizes.flows
+  rows_lent = ap length l.variables ∙ decoded_rows m d _ _ _ _ _ u.decoding ∙ decoded_variables m d _ _ _ _ _ u.decoding
 
 -- ---- what `prepare` leaves
 
@@ -80,17 +86,20 @@ module _ (m : List ℕ) (b : Bytes m) (old : Arrays) where
   unfolding decoded_over
   accepted_used s t v =
       let f = accepted_file m s t v in
-      decoding_used m b (decoded_over m s t old) (record { sizes = s; assertion = assertion_place t })
-      (record {
-        system = t;
-        checked = v;
-        assertion_decoded = refl;
-        kinds_decoded = refl;
-        parameters_decoded = take_over _ old.parameters _ (parameters_length m s.nodes _);
-        variables_decoded = take_over _ old.variables _ (length-map (variables t) variable_row ∙ f.system.number);
-        nexts_decoded = take_over _ old.nexts _ (nexts_length _ _ t f.system.stands ∙ kinds_length m s f.sizes);
-        guards_decoded = take_over _ old.guards _ (guards_length t.transitions _ ∙ f.system.number_of_transitions);
-      })
+      record {
+        bytes = b;
+        decoding =
+            record {
+              system = t;
+              checked = v;
+              assertion_decoded = refl;
+              kinds_decoded = refl;
+              parameters_decoded = take_over _ old.parameters _ (parameters_length m s.nodes _);
+              variables_decoded = take_over _ old.variables _ (length-map (variables t) variable_row ∙ f.system.number);
+              nexts_decoded = take_over _ old.nexts _ (nexts_length _ _ t f.system.stands ∙ kinds_length m s f.sizes);
+              guards_decoded = take_over _ old.guards _ (guards_length t.transitions _ ∙ f.system.number_of_transitions);
+            };
+      }
 
   ready_by : (v : Verdict) → verdict m ≡ v → (d : Model) (left : Arrays) → answered (Ok d) left ≡ prepared_by m old v → InUse m left d
   unfolding prepared_by
@@ -107,6 +116,11 @@ pub in_use_lem : (m : List ℕ) → ((i : ℕ) → Fits w8 (get_or m i 0)) → (
     → answered r new ≡ prepared_by m old (verdict m) → r ≡ Ok d → InUse m new d
 in_use_lem m bytes old new r d e ready =
     ready_by m (λ i h. (bytes i).fits) old (verdict m) refl d new (ap (λ x. answered x new) (sym ready) ∙ e)
+
+-- what `decode` leaves
+pub decoded_used : (m : List ℕ) → ((i : ℕ) → Fits w8 (get_or m i 0)) → (old new : Arrays) (s : Sizes) (d : Model) → answer_of (verdict m) ≡ Ok s → d.sizes ≡ s
+    → ((t : System) → verdict m ≡ accepted s t → (d.assertion ≡ assertion_place t) × (new ≡ decoded_over m s t old)) → InUse m new d
+decoded_used m bytes old new s d e z f = in_use_lem m bytes old new (Ok d) d (ready_prepared m old s new d e z f) refl
 
 -- a file that was refused
 pub refused_verdict : (m : List ℕ) (old new : Arrays) (r : Result Model Refusal) (n : Refusal) (v : Verdict) → answered r new ≡ prepared_by m old v → r ≡ Err n → v ≡ refusal n

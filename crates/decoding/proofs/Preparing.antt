@@ -14,8 +14,9 @@ use Rattle.results.specs.declared.refusal.Refusal.{Refusal}
 use Rattle.kinds.specs.declared.Sort.TheVariants.{Boolean}
 use Rattle.kinds.specs.Sameness.{is_sort}
 use Rattle.model.specs.declared.Sizes.{Sizes}
+use Rattle.model.specs.declared.Model.{Model}
 use Rattle.model.specs.Trees.{Variable, Transition, System, variables}
-use Rattle.model.specs.Sizes.{byte_layout}
+use Rattle.model.specs.Sizes.{byte_layout, max_nodes, max_variables}
 use Rattle.model.specs.Check.{Verdict, verdict, answer_of, kinds_in, parameters_in, parameters_at}
 use Rattle.model.specs.Check.Verdict.{refusal, accepted}
 use Rattle.decoding.specs.NextPlaces.{filled}
@@ -23,7 +24,7 @@ use Rattle.model.specs.Standing.{size_of_transitions}
 use Rattle.results.specs.Results.{over, answered}
 use Rattle.variables.specs.declared.VariableRow.{VariableRow}
 use Rattle.variables.specs.Rows.{variable_rows}
-use Rattle.decoding.specs.Decoding.{VariablesRead, Arrays, arrays, decoded_over, prepared_by, guard_places, nexts_of, nexts_of_variables, nexts_of_transitions, nexts_of_system, size_of_variable, size_of_variables, transitions_place, assertion_place}
+use Rattle.decoding.specs.Decoding.{Enough, VariablesRead, Arrays, arrays, decoded_over, prepared_by, guard_places, nexts_of, nexts_of_variables, nexts_of_transitions, nexts_of_system, size_of_variable, size_of_variables, transitions_place, assertion_place}
 use Rattle.decoding.proofs.Accepted.{FileRead, accepted_file}
 use Rattle.model.proofs.LittleBytes.{parameters_length}
 use Rattle.model.proofs.Encoding.{Fits, SizedAs}
@@ -52,6 +53,10 @@ module _ (m : List ℕ) (s : Sizes) where
   -- the sizes that stand in one byte
   pub answer_fits : ((i : ℕ) → Byte w8 (get_or m i 0)) → answer_of (verdict m) ≡ Ok s → Fits s
   answer_fits bytes e = sized_fits m (λ i. omega (arith, bytes i)) s (answer_sizes e)
+
+  -- the most cells are enough
+  pub answer_enough : ((i : ℕ) → Byte w8 (get_or m i 0)) → answer_of (verdict m) ≡ Ok s → Enough s max_nodes max_variables
+  answer_enough bytes e = let f = answer_fits bytes e in ((answer_sizes e).few, omega (arith, f), omega (arith, f), omega arith)
 
 -- ---- the slices that are lent
 
@@ -175,11 +180,11 @@ module _ (m : List ℕ) (old : Arrays) where
   unfolding prepared_by
   refused_prepared n e = ap (prepared_by m old) (sym (answer_refused n (verdict m) e))
 
-  pub ready_prepared : (s : Sizes) (new : Arrays) (assertion : ℕ) → answer_of (verdict m) ≡ Ok s
-      → ((t : System) → verdict m ≡ accepted s t → (assertion ≡ assertion_place t) × (new ≡ decoded_over m s t old))
-      → answered (Ok (record { sizes = s; assertion = assertion })) new ≡ prepared_by m old (verdict m)
+  pub ready_prepared : (s : Sizes) (new : Arrays) (d : Model) → answer_of (verdict m) ≡ Ok s → d.sizes ≡ s
+      → ((t : System) → verdict m ≡ accepted s t → (d.assertion ≡ assertion_place t) × (new ≡ decoded_over m s t old))
+      → answered (Ok d) new ≡ prepared_by m old (verdict m)
   unfolding prepared_by
-  ready_prepared s new assertion e f =
+  ready_prepared s new d e z f =
       let a = answer_accepted m s e in
-      let d = f a.0 a.1 in
-      (λ i. answered (Ok (record { sizes = s; assertion = d.0 i })) (d.1 i)) ∙ ap (prepared_by m old) (sym a.1)
+      let g = f a.0 a.1 in
+      (λ i. answered (Ok (record { sizes = z i; assertion = g.0 i })) (g.1 i)) ∙ ap (prepared_by m old) (sym a.1)

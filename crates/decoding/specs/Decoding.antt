@@ -1,5 +1,5 @@
 -- What `prepare` decodes of an accepted file for the layers above.
-use Rattle.std.specs.Prelude.{◌≡◌, cond, List, [], ◌∷◌, ◌++◌, ℕ, ◌+◌, ◌≤◌, ◌<◌, ℤ, Result, Ok, Err}
+use Rattle.std.specs.Prelude.{◌≡◌, cond, List, [], ◌∷◌, ◌++◌, ℕ, ◌+◌, ◌≤◌, ◌<◌, ℤ, take, Result, Ok, Err}
 use Rattle.results.specs.Results.{Answered, answered, over}
 use Rattle.results.specs.declared.refusal.Refusal.{Refusal}
 use Rattle.kinds.specs.declared.Sort.{Sort}
@@ -11,14 +11,16 @@ use Rattle.model.specs.Trees.{Expression, Instruction, Instructions, Variable, T
 use Rattle.model.specs.Trees.Expression.{numeral, truth, variable, negation, binary, if_then_else}
 use Rattle.model.specs.Trees.Instruction.{skip, assign, if_then, block}
 use Rattle.model.specs.Trees.Instructions.{none, more}
-use Rattle.model.specs.Sizes.{byte_layout}
+use Rattle.model.specs.Sizes.{byte_layout, max_transitions}
 use Rattle.model.specs.Walk.{variable_at, row_at}
 use Rattle.model.specs.Walk.Walk.{found}
 use Rattle.model.specs.Check.{Verdict, verdict, kinds_in, parameters_in}
 use Rattle.model.specs.Check.Verdict.{accepted, refusal}
 use Rattle.model.specs.Standing.{size_of_expression, size_of, size_of_transition, size_of_transitions}
+use Rattle.tables.specs.declared.Tables.{Tables}
 use Rattle.variables.specs.declared.VariableRow.{VariableRow}
 use Rattle.variables.specs.Rows.{variable_rows}
+use Rattle.decoding.specs.declared.Decoding.{Decoding}
 
 -- the places after each node with its children, in prefix order, of a tree that stands at place `at`
 unfoldable pub nexts_of_expression : Expression → ℕ → List ℕ
@@ -102,13 +104,11 @@ pub record Decoded (m : List ℕ) (model : Model) (kinds : List ℕ) (parameters
   pub nexts_decoded : nexts ≡ nexts_of_system system
   pub guards_decoded : guards ≡ guard_places system.transitions (transitions_place system)
 
--- so many cells for parameters, rows of variables, next places and guards are enough for a model of these sizes, and the places fit 16
--- bits
-abbrev pub Enough : Sizes → ℕ → ℕ → ℕ → ℕ → Type 0
-Enough s parameters rows nexts guards =
-    (s.nodes ≤ parameters) × (s.states + s.flows ≤ rows) × (s.nodes ≤ nexts) × (s.transitions ≤ guards) × (nexts < 65536)
+-- so many cells for nodes and for variables, and the cells for guards, are enough for a model of these sizes, and the places fit 16 bits
+abbrev pub Enough : Sizes → ℕ → ℕ → Type 0
+Enough s nodes variables = (s.nodes ≤ nodes) × (s.states + s.flows ≤ variables) × (s.transitions ≤ max_transitions) × (nodes < 65536)
 
--- the arrays that `prepare` is lent
+-- what the arrays hold that a file is decoded to
 pub record Arrays : Type 0 where
   pub parameters : List ℤ
   pub variables : List VariableRow
@@ -117,6 +117,18 @@ pub record Arrays : Type 0 where
 
 abbrev pub arrays : List ℤ → List VariableRow → List ℕ → List ℕ → Arrays
 arrays parameters rows nexts guards = record { parameters = parameters; variables = rows; nexts = nexts; guards = guards }
+
+abbrev pub arrays_in : {nodes variables : ℕ} → Decoding nodes variables → Arrays
+arrays_in d = arrays d.parameters d.variables d.nexts d.guards
+
+-- the tables are those of a model with these bytes, lent out of the first cells of these arrays
+pub record LentOf (m : List ℕ) (a : Arrays) (d : Model) (t : Tables) : Type 0 where
+  pub model : t.model ≡ d
+  pub kinds : t.kinds.now ≡ kinds_in byte_layout d.sizes.nodes m
+  pub parameters : t.parameters.now ≡ take d.sizes.nodes a.parameters
+  pub variables : t.variables.now ≡ take (d.sizes.states + d.sizes.flows) a.variables
+  pub nexts : t.nexts.now ≡ take d.sizes.nodes a.nexts
+  pub guards : t.guards.now ≡ take d.sizes.transitions a.guards
 
 -- the arrays after the decoding; cells past it stay
 unfoldable pub decoded_over : List ℕ → Sizes → System → Arrays → Arrays

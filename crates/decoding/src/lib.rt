@@ -2,24 +2,34 @@
 
 #![tactic(auto)]
 
-ghost use Rattle.std.specs.Prelude.{◌≡◌, List, ◌++◌, ℕ, ◌+◌, ◌<◌, ◌≤◌, ℤ, length, drop, Ok, Some};
+ghost use Rattle.std.specs.Prelude.{◌≡◌, List, ◌++◌, ℕ, ◌+◌, ◌<◌, ◌≤◌, ℤ, length, drop, IfOk, Ok, Some};
 ghost use Rattle.results.specs.Results.{answered, over};
 ghost use Rattle.model.specs.Trees as trees;
 ghost use Rattle.model.specs.Trees.{Transition, System, sorts_of};
-ghost use Rattle.model.specs.Sizes.{byte_layout};
+ghost use Rattle.model.specs.Sizes.{byte_layout, max_nodes, max_variables};
 ghost use Rattle.model.specs.Check.{kinds_in, parameters_in, answer_of, verdict};
 ghost use Rattle.model.specs.Check.Verdict.{accepted};
 ghost use Rattle.model.specs.Standing.{size_of_transitions};
 ghost use Rattle.variables.specs.Rows.{variable_rows};
 ghost use Rattle.decoding.specs.NextPlaces.{children_by, following, filled};
-ghost use Rattle.decoding.specs.Decoding.{Enough, VariablesRead, arrays, assertion_place, decoded_over, guard_places, nexts_of_transitions, prepared_by, rows_after, sorts_after, transitions_place};
+ghost use Rattle.decoding.specs.Decoding.{Enough, LentOf, VariablesRead, arrays_in, assertion_place, decoded_over, guard_places, nexts_of_transitions, prepared_by, rows_after, sorts_after, transitions_place};
 ghost use Rattle.decoding.specs.Outside.{given_after};
 
 use kinds::Kind;
 use model::{Model, Sizes, Sort, check, header};
 use results::Refusal;
 use syntax::{Tree, nodes};
+use tables::Tables;
 use variables::VariableRow;
+
+// The arrays that a file is decoded to, with cells for so many nodes and variables.
+#[derive(Drop)]
+pub struct Decoding<const NODES: usize, const VARIABLES: usize> {
+    pub parameters: [i32; NODES],
+    pub variables: [VariableRow; VARIABLES],
+    pub nexts: [u16; NODES],
+    pub guards: [u16; Model::MAX_TRANSITIONS],
+}
 
 // The sorts of so many variables from the first node on. A Boolean is one node, a number three.
 // Not one walk with `read_variables`: the sorts are asked of the kinds alone.
@@ -42,6 +52,7 @@ pub fn sorts_in(kinds: &[u8], count: usize, sorts: &mut [Sort])
 
 // So many variables from the first node on: their rows, and the place after them. The three nodes of a number are its low
 // end, its high end and its first value.
+#[tactic(auto, using(crate::proofs::StoredVariables::node_left, crate::proofs::StoredVariables::nodes_left))]
 fn read_variables(tree: &Tree, count: usize, variables: &mut [VariableRow]) -> usize
     requires { (length tree.now.parameters.now ≡ length tree.now.kinds.now) × VariablesRead tree.now.kinds.now tree.now.parameters.now count × (count ≤ length variables.old) }
     ensures { (read : VariablesRead tree.now.kinds.now tree.now.parameters.now count) →
@@ -148,51 +159,67 @@ fn decode_variables(
     read_variables(&tree, sizes.variables(), variables)
 }
 
-// The decoding of an accepted file, into cells that are enough for it; the place of its assertion.
-pub fn decode(
-    model: &[u8],
-    sizes: Sizes,
-    parameters: &mut [i32],
-    variables: &mut [VariableRow],
-    nexts: &mut [u16],
-    guards: &mut [u16],
-) -> usize
-    requires { (answer_of (verdict model.now) ≡ Ok sizes)
-        × Enough sizes (length parameters.old) (length variables.old) (length nexts.old) (length guards.old) }
-    ensures { (t : System) → verdict model.now ≡ accepted sizes t →
-        (result ≡ assertion_place t)
-        × (arrays parameters.new variables.new nexts.new guards.new
-        ≡ decoded_over model.now sizes t
-        (arrays parameters.old variables.old nexts.old guards.old)) }
-{
-    let nodes = sizes.nodes;
-    let transitions = decode_variables(model, sizes, parameters, variables);
-    let tree = Tree {
-        kinds: kinds_of(model, nodes),
-        parameters: &parameters[..nodes],
+impl<const NODES: usize, const VARIABLES: usize> Decoding<NODES, VARIABLES> {
+    // What stands in the arrays before a file is decoded.
+    pub const BLANK: Self = Decoding {
+        parameters: [0; NODES],
+        variables: [VariableRow::BLANK; VARIABLES],
+        nexts: [0; NODES],
+        guards: [0; Model::MAX_TRANSITIONS],
     };
-    next_places(&tree, nexts);
-    guard_places(nexts, sizes.transitions, transitions, guards)
+
+    // The decoding of an accepted file, into cells that are enough for it.
+    pub fn decode(&mut self, model: &[u8], sizes: Sizes) -> Model
+        requires { (answer_of (verdict model.now) ≡ Ok sizes) × Enough sizes NODES VARIABLES }
+        ensures sizes { result.sizes ≡ sizes }
+        ensures decoded { (t : System) → verdict model.now ≡ accepted sizes t →
+            (result.assertion ≡ assertion_place t)
+            × (arrays_in self.new ≡ decoded_over model.now sizes t (arrays_in self.old)) }
+    {
+        let nodes = sizes.nodes;
+        let transitions = decode_variables(model, sizes, &mut self.parameters, &mut self.variables);
+        let tree = Tree {
+            kinds: kinds_of(model, nodes),
+            parameters: &self.parameters[..nodes],
+        };
+        next_places(&tree, &mut self.nexts);
+        let assertion = guard_places(
+            &self.nexts,
+            sizes.transitions,
+            transitions,
+            &mut self.guards,
+        );
+        Model { sizes, assertion }
+    }
+
+    // The parts of the arrays that a model is decoded to, as they are lent.
+    pub fn tables<'a>(&'a self, model: &'a [u8], decoded: Model) -> Tables<'a>
+        requires { Enough decoded.sizes NODES VARIABLES }
+        ensures { LentOf model.now (arrays_in self.now) decoded result }
+    {
+        let sizes = decoded.sizes;
+        let nodes = sizes.nodes;
+        Tables {
+            model: decoded,
+            kinds: kinds_of(model, nodes),
+            parameters: &self.parameters[..nodes],
+            variables: &self.variables[..sizes.variables()],
+            nexts: &self.nexts[..nodes],
+            guards: &self.guards[..sizes.transitions],
+        }
+    }
 }
 
-// Checks a model file and decodes it: the parameters, the rows of the variables, the place after each node with its children,
-// the places of the guards (each action stands right after its guard) and of the assertion.
-pub fn prepare(
-    model: &[u8],
-    parameters: &mut [i32; Model::MAX_NODES],
-    variables: &mut [VariableRow; Model::MAX_VARIABLES],
-    nexts: &mut [u16; Model::MAX_NODES],
-    guards: &mut [u16; Model::MAX_TRANSITIONS],
-) -> Result<Model, Refusal>
-    ensures { answered result
-        (arrays parameters.new variables.new nexts.new guards.new)
-        ≡ prepared_by model.now
-        (arrays parameters.old variables.old nexts.old guards.old)
-        (verdict model.now) }
-{
-    let sizes = check::check(model)?;
-    let assertion = decode(model, sizes, parameters, variables, nexts, guards);
-    Ok(Model { sizes, assertion })
+impl Decoding<{ Model::MAX_NODES }, { Model::MAX_VARIABLES }> {
+    // Checks a model file and decodes it: the parameters, the rows of the variables, the place after each node with its children,
+    // the places of the guards (each action stands right after its guard) and of the assertion.
+    pub fn prepare(&mut self, model: &[u8]) -> Result<Model, Refusal>
+        ensures decoded { answered result (arrays_in self.new) ≡ prepared_by model.now (arrays_in self.old) (verdict model.now) }
+        ensures sizes { IfOk result (λ ready. Enough ready.sizes max_nodes max_variables) }
+    {
+        let sizes = check::check(model)?;
+        Ok(self.decode(model, sizes))
+    }
 }
 
 // The kinds of a file with so many nodes.

@@ -1,17 +1,21 @@
--- The first line of a part, byte by byte, and the end of the input.
-use mathlib.Core.Path.{◌≡◌, refl, sym, ap, ap₂, ◌∙◌}
-use mathlib.Core.Bool.{Bool, true, false, cond}
+-- The first line of a part, and the end of the input.
+use mathlib.Core.Path.{◌≡◌, refl, sym, ap, ◌∙◌}
+use mathlib.Core.Bool.{Bool, true, false, cond, not}
 use mathlib.Core.List.{List, [], ◌∷◌, ◌++◌, append-nil, append_assoc}
-use Prim.Native.Nat.{ℕ, zero, suc, ◌+◌, ◌≤◌, ◌<◌}
-use native.Mathlib.Numerals.{add-one}
+use Prim.Native.Nat.{ℕ, zero, suc, ◌+◌, ◌-◌, ◌≤◌, ◌<◌}
 use native.Mathlib.Omega.{arith}
-use borrow.Author.Tests.{eq-eqb, ne_eqb}
-use lib.Dec.{eqb}
-use lib.ListN.{length, take, drop, get_or, drop_of_length-le}
-use lib.Seq.{drop-cons, take-take}
+use borrow.Author.Tests.{ltb-true, ltb-false}
+use lib.Dec.{eqb, ltb}
+use lib.ListN.{length, take, drop, get_or, drop_of_length-le, length-drop}
+use lib.Seq.{drop-cons, take-take, take_all}
 use Rattle.results.specs.Results.{Answered, answered}
 use Rattle.standing.specs.Runs.{Store}
-use Rattle.std.specs.Prelude.{Option}
+use Rattle.std.specs.Prelude.{Option, Some, None}
+use Rattle.std.specs.List.{position, position_or_len}
+use Rattle.std.specs.Option.{unwrap_or}
+use Rattle.std.specs.Slice.{IsGetRangeResult}
+use Rattle.std.proofs.Common.{inl, inr}
+use denote.Ref.{Bor}
 use Rattle.commands.specs.declared.Command.{Command}
 use Rattle.commands.specs.Commands.{command_of}
 use Rattle.lines.specs.Lines.{feed_byte}
@@ -29,94 +33,85 @@ take_take_append (suc n) (a ∷ l) x = ap (λ r. a ∷ r) (take_take_append n l 
 kept_on : (kept rest : List ℕ) (byte : ℕ) → take kept_bytes (take kept_bytes (kept ++ (byte ∷ [])) ++ rest) ≡ take kept_bytes (kept ++ (byte ∷ rest))
 kept_on kept rest byte = take_take_append kept_bytes (kept ++ (byte ∷ [])) rest ∙ ap (take kept_bytes) (append_assoc kept (byte ∷ []) rest)
 
--- ---- the loop over a part
+-- ---- the first line feed
 
--- what was begun comes to the same as what is left
-pub record Scanning (part : List ℕ) (from : ℕ) (begun : List ℕ) (at : ℕ) (kept : List ℕ) : Type 0 where
-  pub line : take kept_bytes (kept ++ before_line_feed (drop at part)) ≡ take kept_bytes (begun ++ before_line_feed (drop from part))
-  pub next : at + to_line_feed (drop at part) ≡ from + to_line_feed (drop from part)
-  pub is_ended : has_line_feed (drop at part) ≡ has_line_feed (drop from part)
-  pub short : take kept_bytes kept ≡ kept
+abbrev feed_or_end : List ℕ → ℕ
+feed_or_end = position_or_len (λ byte. eqb byte feed_byte)
 
-pub scan_begins : (part : List ℕ) (from : ℕ) (begun : List ℕ) → take kept_bytes begun ≡ begun → Scanning part from begun from begun
-scan_begins part from begun h = record { line = refl; next = refl; is_ended = refl; short = h }
+before_feed : (part : List ℕ) → before_line_feed part ≡ take (feed_or_end part) part
+unfolding before_line_feed
+before_feed [] = refl
+before_feed (byte ∷ part) = by (eqb byte feed_byte) (before_feed part)
+  where
+    by : (t : Bool) → before_line_feed part ≡ take (feed_or_end part) part
+        → cond t [] (byte ∷ before_line_feed part) ≡ take (cond (not t) (1 + feed_or_end part) 0) (byte ∷ part)
+    by true e = refl
+    by false e = let one : 1 + feed_or_end part ≡ suc (feed_or_end part) = omega arith in rw (one, e)
 
-module _ (byte : ℕ) (rest : List ℕ) where
-  module _ (e : byte ≡ feed_byte) where
-    before_feed : before_line_feed (byte ∷ rest) ≡ []
-    unfolding before_line_feed
-    before_feed = rw (eq-eqb byte feed_byte e)
+abbrev Feed : List ℕ → ℕ → ℕ → Bool → Type 0
+Feed part at next is_ended =
+    (at < length part → (next ≡ at + 1) × (is_ended ≡ true)) × (length part ≤ at → (next ≡ length part) × (is_ended ≡ false))
 
-    to_feed : to_line_feed (byte ∷ rest) ≡ 1
-    unfolding to_line_feed
-    to_feed = rw (eq-eqb byte feed_byte e)
+to_feed : (part : List ℕ) → Feed part (feed_or_end part) (to_line_feed part) (has_line_feed part)
+unfolding to_line_feed has_line_feed
+to_feed [] = (λ h. absurd (omega arith), λ h. (refl, refl))
+to_feed (b ∷ part) = by (eqb b feed_byte) (to_feed part).0 (to_feed part).1
+  where
+    by : (t : Bool) → (feed_or_end part < length part → (to_line_feed part ≡ feed_or_end part + 1) × (has_line_feed part ≡ true))
+        → (length part ≤ feed_or_end part → (to_line_feed part ≡ length part) × (has_line_feed part ≡ false))
+        → Feed (b ∷ part) (cond (not t) (1 + feed_or_end part) 0) (suc (cond t 0 (to_line_feed part))) (cond t true (has_line_feed part))
+    by true e f = (λ h. (refl, refl), λ h. absurd (omega arith))
+    by false e f =
+        (λ h. let r = e (omega arith) in (omega (arith, r.0), r.1), λ h. let r = f (omega arith) in (omega (arith, r.0), r.1))
 
-    has_feed : has_line_feed (byte ∷ rest) ≡ true
-    unfolding has_line_feed
-    has_feed = rw (eq-eqb byte feed_byte e)
+-- a part with a line feed at this place, and one without any
+pub record LineFeed (part : List ℕ) (at : ℕ) : Type 0 where
+  pub before : before_line_feed part ≡ take at part
+  pub next : to_line_feed part ≡ at + 1
+  pub is_ended : has_line_feed part ≡ true
+  pub within : at < length part
 
-  module _ (e : byte ≡ feed_byte → ⊥) where
-    before_other : before_line_feed (byte ∷ rest) ≡ byte ∷ before_line_feed rest
-    unfolding before_line_feed
-    before_other = rw (ne_eqb byte feed_byte e)
+pub record NoLineFeed (part : List ℕ) : Type 0 where
+  pub before : before_line_feed part ≡ part
+  pub next : to_line_feed part ≡ length part
+  pub is_ended : has_line_feed part ≡ false
 
-    to_other : to_line_feed (byte ∷ rest) ≡ suc (to_line_feed rest)
-    unfolding to_line_feed
-    to_other = rw (ne_eqb byte feed_byte e)
-
-    has_other : has_line_feed (byte ∷ rest) ≡ has_line_feed rest
-    unfolding has_line_feed
-    has_other = rw (ne_eqb byte feed_byte e)
-
-module _ (part : List ℕ) (from : ℕ) (begun : List ℕ) (at : ℕ) (kept : List ℕ) (i : Scanning part from begun at kept) where
-  abbrev Scanned : List ℕ → ℕ → Bool → Type 0
-  Scanned line next is_ended =
-      (line ≡ take kept_bytes (begun ++ before_line_feed (drop from part)))
-      × ((next ≡ from + to_line_feed (drop from part)) × (is_ended ≡ has_line_feed (drop from part)))
-
-  module _ (within : at < length part) where
-    here : drop at part ≡ get_or part at 0 ∷ drop (at + 1) part
-    here = drop-cons part at 0 within ∙ ap (λ n. get_or part at 0 ∷ drop n part) (sym (add-one at))
-
-    pub scan_goes : (get_or part at 0 ≡ feed_byte → ⊥) → {kept' : List ℕ} → kept' ≡ take kept_bytes (kept ++ (get_or part at 0 ∷ []))
-        → Scanning part from begun (at + 1) kept'
-    scan_goes e {kept'} k =
-        let byte = get_or part at 0 in
-        let rest = drop (at + 1) part in
+pub feed_at : (part : List ℕ) {at : ℕ} {r : Option ℕ} → r ≡ position (λ byte. eqb byte feed_byte) part → r ≡ Some at → LineFeed part at
+feed_at part {at} {r} e f = by (ltb (feed_or_end part) (length part)) refl (sym e ∙ f)
+  where
+    by : (t : Bool) → ltb (feed_or_end part) (length part) ≡ t → cond t (Some (feed_or_end part)) None ≡ Some at → LineFeed part at
+    by true e f =
+        let same : feed_or_end part ≡ at = cc in
+        let within : feed_or_end part < length part = ltb-true (feed_or_end part) (length part) e in
         record {
-          line =
-              ap (λ x. take kept_bytes (x ++ before_line_feed rest)) k ∙ kept_on kept (before_line_feed rest) byte
-              ∙ ap (λ x. take kept_bytes (kept ++ x)) (sym (ap before_line_feed here ∙ before_other byte rest e)) ∙ i.line;
-          next =
-              (let t : to_line_feed (drop at part) ≡ suc (to_line_feed rest) = ap to_line_feed here ∙ to_other byte rest e in
-              omega (arith, i.next));
-          is_ended = sym (ap has_line_feed here ∙ has_other byte rest e) ∙ i.is_ended;
-          short = ap (take kept_bytes) k ∙ take-take kept_bytes kept_bytes (kept ++ (byte ∷ [])) (omega arith) ∙ sym k;
+          before = rw (← same) (before_feed part);
+          next = omega (arith, ((to_feed part).0 within).0);
+          is_ended = ((to_feed part).0 within).1;
+          within = omega arith;
+        }
+    by false e f = let z : ◌≡◌ {A = ℕ} 0 1 = cc in absurd (omega arith)
+
+pub no_feed : (part : List ℕ) {r : Option ℕ} → r ≡ position (λ byte. eqb byte feed_byte) part → r ≡ None → NoLineFeed part
+no_feed part e f = by (ltb (feed_or_end part) (length part)) refl (sym e ∙ f)
+  where
+    by : (t : Bool) → ltb (feed_or_end part) (length part) ≡ t → cond t (Some (feed_or_end part)) None ≡ None → NoLineFeed part
+    by true e f = let z : ◌≡◌ {A = ℕ} 0 1 = cc in absurd (omega arith)
+    by false e f =
+        let past : length part ≤ feed_or_end part = ltb-false (feed_or_end part) (length part) e in
+        record {
+          before = before_feed part ∙ take_all (feed_or_end part) part past;
+          next = ((to_feed part).1 past).0;
+          is_ended = ((to_feed part).1 past).1;
         }
 
-    pub feed_scanned : get_or part at 0 ≡ feed_byte → Scanned kept (at + 1) true
-    feed_scanned e =
-        let byte = get_or part at 0 in
-        let rest = drop (at + 1) part in (
-          sym i.short ∙ ap (take kept_bytes) (sym (append-nil kept))
-              ∙ ap (λ x. take kept_bytes (kept ++ x)) (sym (ap before_line_feed here ∙ before_feed byte rest e)) ∙ i.line,
-          (
-            (let t : to_line_feed (drop at part) ≡ 1 = ap to_line_feed here ∙ to_feed byte rest e in omega (arith, i.next)),
-            sym (ap has_line_feed here ∙ has_feed byte rest e) ∙ i.is_ended,
-          ),
-        )
-
-  pub part_scanned : length part ≤ at → Scanned kept at false
-  unfolding before_line_feed to_line_feed has_line_feed
-  part_scanned h =
-      let none : drop at part ≡ [] = drop_of_length-le part h in (
-        sym i.short ∙ ap (take kept_bytes) (sym (append-nil kept))
-            ∙ ap (λ x. take kept_bytes (kept ++ x)) (sym (ap before_line_feed none)) ∙ i.line,
-        (
-          (let t : to_line_feed (drop at part) ≡ 0 = ap to_line_feed none in omega (arith, i.next)),
-          sym (ap has_line_feed none) ∙ i.is_ended,
-        ),
-      )
+-- what is left of a part, from a place on
+pub rest_of : (part : List ℕ) (from : ℕ) (r : Option (Bor (List ℕ))) (none : Bor (List ℕ)) {x : Bor (List ℕ)} → IsGetRangeResult part from (length part) r → x ≡ unwrap_or r none → none.now ≡ []
+    → x.now ≡ drop from part
+rest_of part from None none h e z =
+    ap (λ (b : Bor (List ℕ)). b.now) e ∙ z
+    ∙ sym (drop_of_length-le part {i = from} (elim h.0 [ inl l ↦ omega arith | inr l ↦ absurd (omega arith) ]))
+rest_of part from (Some y) none h e z =
+    ap (λ (b : Bor (List ℕ)). b.now) e ∙ h.0.2 ∙ take_all (length part - from) (drop from part) (omega (arith, length-drop from part))
 
 -- where bytes are left, some are taken
 pub line_taken : (part : List ℕ) (at : ℕ) → at < length part → at < at + to_line_feed (drop at part)
@@ -162,16 +157,18 @@ module _ (m : List ℕ) where
           ∙ rest kept' s (take-take kept_bytes kept_bytes (kept ++ (byte ∷ [])) (omega arith))
           ∙ ap (λ k. line_turn (has_line_feed part) k s) (kept_on kept (before_line_feed part) byte)
 
-  module _ (part kept : List ℕ) (s : Store) (h : take kept_bytes kept ≡ kept) {line : List ℕ} (k : line ≡ take kept_bytes (kept ++ before_line_feed part))
-      {t : Bool} (e : t ≡ has_line_feed part) where
-    taken : turns m (first_line part) (progress kept s) ≡ line_turn t line s
-    taken = first_turns part kept s h ∙ ap₂ (λ (x : Bool) (y : List ℕ). line_turn x y s) (sym e) (sym k)
+  module _ (part kept : List ℕ) (s : Store) (h : take kept_bytes kept ≡ kept) {line : List ℕ} where
+    taken : {before : List ℕ} {t : Bool} → before_line_feed part ≡ before → has_line_feed part ≡ t → line ≡ take kept_bytes (kept ++ before)
+        → line_turn t line s ≡ turns m (first_line part) (progress kept s)
+    taken {before} {t} f e k =
+        ap (λ x. line_turn t x s) (k ∙ ap (λ x. take kept_bytes (kept ++ x)) (sym f))
+        ∙ ap (λ x. line_turn x (take kept_bytes (kept ++ before_line_feed part)) s) (sym e) ∙ sym (first_turns part kept s h)
 
-    pub line_answered : t ≡ true → ended (reply m (command_of line) s) ≡ turns m (first_line part) (progress kept s)
-    line_answered q = sym (taken ∙ ap (λ x. line_turn x line s) q)
+    pub line_answered : {at : ℕ} → LineFeed part at → line ≡ take kept_bytes (kept ++ take at part) → ended (reply m (command_of line) s) ≡ turns m (first_line part) (progress kept s)
+    line_answered f k = taken f.before f.is_ended k
 
-    pub line_kept : t ≡ false → answered [] (progress line s) ≡ turns m (first_line part) (progress kept s)
-    line_kept q = sym (taken ∙ ap (λ x. line_turn x line s) q)
+    pub line_kept : NoLineFeed part → line ≡ take kept_bytes (kept ++ part) → answered [] (progress line s) ≡ turns m (first_line part) (progress kept s)
+    line_kept f k = taken f.before f.is_ended k
 
   -- a line that was answered, in the slice for the lines
   pub ended_into : (s : Store) (out line : List ℕ) {kept : List ℕ} {a : Answered ℕ (List ℕ)} {left : Store} {c : Option Command} {t : Turn}
@@ -184,16 +181,12 @@ module _ (m : List ℕ) where
 
   -- ---- the end of the input
 
-  module _ (s : Store) (bytes : List ℕ) (n : ℕ) where
-    pub nothing_begun : n ≡ 0 → answered [] s ≡ closing m (progress (take n bytes) s)
-    unfolding closing_by
-    nothing_begun e = rw e
+  pub nothing_begun : (kept : List ℕ) (s : Store) → length kept ≡ 0 → answered [] s ≡ closing m (progress kept s)
+  unfolding closing_by
+  nothing_begun [] s h = refl
+  nothing_begun (b ∷ kept) s h = absurd (omega (arith, h))
 
-    pub begun_closed : {c : Option Command} → (n ≡ 0 → ⊥) → length bytes ≡ kept_bytes → c ≡ command_of (take n bytes) → reply m c s ≡ closing m (progress (take n bytes) s)
-    unfolding closing_by
-    begun_closed h l k = ap (λ x. reply m x s) k ∙ by n bytes h l
-      where
-        by : (n : ℕ) (bytes : List ℕ) → (n ≡ 0 → ⊥) → length bytes ≡ kept_bytes → reply m (command_of (take n bytes)) s ≡ closing m (progress (take n bytes) s)
-        by zero bytes h l = absurd (h refl)
-        by (suc n) [] h l = absurd (omega arith)
-        by (suc n) (b ∷ bytes) h l = refl
+  pub begun_closed : (kept : List ℕ) (s : Store) {c : Option Command} → (length kept ≡ 0 → ⊥) → c ≡ command_of kept → reply m c s ≡ closing m (progress kept s)
+  unfolding closing_by
+  begun_closed [] s h k = absurd (h refl)
+  begun_closed (b ∷ kept) s h k = ap (λ x. reply m x s) k

@@ -7,6 +7,7 @@ ghost use Rattle.results.specs.Results.{answered};
 ghost use Rattle.model.specs.Sizes.{max_variables, max_transitions};
 ghost use Rattle.model.specs.Check.{verdict};
 ghost use Rattle.standing.specs.Runs.{run, store};
+ghost use Rattle.commands.specs.Commands.{command_of};
 ghost use Rattle.lines.specs.Lines.{written_into};
 ghost use Rattle.replies.specs.Printing.{is_short, reply_into};
 ghost use Rattle.replies.specs.Replies.{reply, opening, is_started};
@@ -15,7 +16,7 @@ ghost use Rattle.dialogue.specs.Turns.{progress, turns, closing, to_line_feed, f
 ghost use Rattle.dialogue.specs.Cells.{kept_of, dimensions_of, in_use, past_use, into, store_of, model_of, used, KeepsRest};
 ghost use Rattle.dialogue.specs.Program.{empty};
 
-use super::{Dialogue, Dimensions, Line, Opening, Program, Taken};
+use super::{Dialogue, Dimensions, Line, Opening, Program, Taken, line_feed};
 use commands::Command;
 use model::Model;
 
@@ -39,14 +40,14 @@ fn dimensions_of(model: &[u8], bytes: usize) -> Dimensions
         },
         Ok(sizes) => Dimensions {
             bytes,
-            variables: sizes.states + sizes.flows,
+            variables: sizes.variables(),
             transitions: sizes.transitions,
         },
     }
 }
 
-// The start of a run in the first cells of the slices, which are arguments one by one: a part of a slice that is put into a struct is
-// not known to be that part afterwards. It and the next differ in what they call, and in what that answers.
+// The start of a run in the first cells of the slices, which are arguments one by one: a part of a slice that is lent in a struct to be
+// changed is not known to be that part afterwards. It and the next differ in what they call, and in what that answers.
 fn open_first(
     model: &[u8],
     dimensions: Dimensions,
@@ -166,6 +167,13 @@ impl Dialogue {
         }
     }
 
+    // The command of the line that was begun; none, if it is none.
+    fn command(&self) -> Option<Command>
+        ensures { result ≡ command_of (kept_of self.now.line) }
+    {
+        commands::command_of(&self.line.bytes)
+    }
+
     // Carries out a command, or refuses a line that is none, and writes its line.
     fn answer(&mut self, command: Option<Command>) -> usize
         ensures buffer_after { answered (answered result self.new.out) (used self.new)
@@ -198,16 +206,21 @@ impl Dialogue {
         ensures rest { KeepsRest self.old self.new }
         ensures length_le_line_bytes { result.length ≤ line_bytes }
     {
-        let scan = self.line.scan(part, from);
-        let line = scan.line;
-        let next = scan.next;
-        if scan.is_ended {
-            let length = self.answer(line.command());
-            self.line = Line::empty();
-            return Taken { next, length };
+        let rest = part.get(from..).unwrap_or(b"");
+        let Some(at) = line_feed(rest) else {
+            self.line.keep(rest);
+            return Taken {
+                next: from + rest.len(),
+                length: 0,
+            };
+        };
+        self.line.keep(&rest[..at]);
+        let length = self.answer(self.command());
+        self.line = Line::empty();
+        Taken {
+            next: from + at + 1,
+            length,
         }
-        self.line = line;
-        Taken { next, length: 0 }
     }
 
     // The end of the input: a last line without its line feed is answered too. How many bytes are to be printed.
@@ -218,11 +231,10 @@ impl Dialogue {
         ensures line_unchanged { self.new.line ≡ self.old.line }
         ensures length_le_line_bytes { result ≤ line_bytes }
     {
-        let line = self.line;
-        if line.length == 0 {
+        if self.line.bytes.is_empty() {
             return 0;
         }
-        self.answer(line.command())
+        self.answer(self.command())
     }
 
     // The line at the beginning of the array for the lines.

@@ -4,13 +4,14 @@
 
 pub mod exchange; // exchange.rt: the start, a piece of the input, its end
 
-ghost use Rattle.std.specs.Prelude.{◌≡◌, [], ◌∷◌, ◌++◌, ◌+◌, take, drop};
-ghost use Rattle.commands.specs.Commands.{command_of};
+ghost use Rattle.std.specs.Prelude.{◌≡◌, ◌≤◌, [], ◌++◌, ◌==◌, length, take};
+ghost use Rattle.lines.specs.Lines.{feed_byte};
 ghost use Rattle.dialogue.specs.Sizes.{kept_bytes};
-ghost use Rattle.dialogue.specs.Turns.{before_line_feed, has_line_feed, to_line_feed};
+ghost use Rattle.std.specs.List.{position};
 ghost use Rattle.dialogue.specs.Cells.{kept_of};
 
-use commands::Command;
+use arrayvec::ArrayVec;
+use exchange::first;
 use model::Model;
 
 // The program's sizes.
@@ -29,16 +30,12 @@ impl Program {
 
     // Bytes of the array for the lines: room for every line of a run.
     pub const LINE_BYTES: usize = 6144;
-
-    // The byte that ends a line.
-    const LINE_FEED: u8 = 10;
 }
 
 // The first bytes of a line.
-#[derive(Clone, Copy)]
+#[derive(Drop)]
 pub struct Line {
-    pub bytes: [u8; Program::KEPT_BYTES],
-    pub length: usize,
+    pub bytes: ArrayVec<u8, { Program::KEPT_BYTES }>,
 }
 
 // How many bytes of the file, values and marks are in use.
@@ -78,13 +75,11 @@ pub struct Taken {
     pub length: usize,
 }
 
-// A part of the input read to the end of a line: the line, the place after the bytes read, and whether a line feed ended it; line and place
-// are read in both cases.
-#[derive(Clone, Copy)]
-struct Scan {
-    line: Line,
-    next: usize,
-    is_ended: bool,
+// The place of the first line feed.
+fn line_feed(part: &[u8]) -> Option<usize>
+    ensures { result ≡ position (λ byte. byte == feed_byte) part.now }
+{
+    part.iter().position(|byte| *byte == b'\n')
 }
 
 impl Line {
@@ -93,64 +88,16 @@ impl Line {
         ensures { kept_of result ≡ [] }
     {
         Line {
-            bytes: [0; Program::KEPT_BYTES],
-            length: 0,
+            bytes: ArrayVec::new(),
         }
     }
 
-    // The line with one byte more, if there is a place for it.
-    fn with(self, byte: u8) -> Line
-        ensures { kept_of result ≡ take kept_bytes (kept_of self ++ (byte ∷ [])) }
+    // These bytes after the bytes kept, as many of them as there are places for.
+    fn keep(&mut self, bytes: &[u8])
+        ensures kept { kept_of self.new ≡ take kept_bytes (kept_of self.old ++ bytes.now) }
+        ensures fitted { length (kept_of self.old) ≤ kept_bytes }
     {
-        let at = self.length;
-        if Program::KEPT_BYTES <= at {
-            return self;
-        }
-        let mut bytes = self.bytes;
-        bytes[at] = byte;
-        Line {
-            bytes,
-            length: at + 1,
-        }
-    }
-
-    // The command of the bytes kept; none, if they are none.
-    fn command(self) -> Option<Command>
-        ensures { result ≡ command_of (kept_of self) }
-    {
-        let bytes = self.bytes;
-        let length = self.length;
-        if Program::KEPT_BYTES < length {
-            return None;
-        }
-        commands::command_of(&bytes[..length])
-    }
-
-    // The line with the bytes of a part after it, from this place on to the first line feed.
-    fn scan(self, part: &[u8], from: usize) -> Scan
-        ensures line_value { kept_of result.line ≡ take kept_bytes (kept_of self ++ before_line_feed (drop from part.now)) }
-        ensures next_value { result.next ≡ from + to_line_feed (drop from part.now) }
-        ensures is_ended_value { result.is_ended ≡ has_line_feed (drop from part.now) }
-    {
-        let mut line = self;
-        let mut at = from;
-        // Each byte is kept as it is passed: a search for the line feed beforehand would pass them twice.
-        while at < part.len() {
-            let byte = part[at];
-            at += 1;
-            if byte == Program::LINE_FEED {
-                return Scan {
-                    line,
-                    next: at,
-                    is_ended: true,
-                };
-            }
-            line = line.with(byte);
-        }
-        Scan {
-            line,
-            next: at,
-            is_ended: false,
-        }
+        let room = self.bytes.remaining_capacity();
+        let _ = self.bytes.try_extend_from_slice(first(bytes, room));
     }
 }

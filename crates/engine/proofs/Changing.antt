@@ -54,6 +54,10 @@ clear_by m old ss new (faulty g) e =
     let z : true ≡ false = cc in absurd (true≢false z)
 clear_by m old ss new (states n) e = rw (ap (λ l. l.left) e)
 
+pub no_fault : (r : Result (Unit {0}) Fault) → ((f : Fault) → r ≡ Err f → ⊥) → r ≡ Ok tt
+no_fault (Ok tt) n = refl
+no_fault (Err f) n = absurd (n f refl)
+
 action_of : (s : System) (k : ℕ) (t : Transition) → get_elem? s.transitions k ≡ some t → (values : List ℤ)
     → act s t.action values ≡ (meaning_of s).action k values
 unfolding meaning_of action_in
@@ -121,8 +125,8 @@ module _ {model : Model} {kinds : List ℕ} {parameters : List ℤ} {rows : List
       pub few_states : length (take model.sizes.states old) ≤ length blank
       few_states = omega (arith, length_states, length_blank, length_rows)
 
-      -- the old states are stored
-      module _ (array : List ℤ) (stored : array ≡ over (take model.sizes.states old) blank) where
+      -- the old states are stored, and the place of the action is looked up
+      module _ (array : List ℤ) (stored : array ≡ over (take model.sizes.states old) blank) (at : ℕ) (noted : at ≡ get_or nexts (get_or guards k 0) 0) where
         length_array : length array ≡ length blank
         length_array = ap length stored ∙ simp (length-append, length-drop) (omega (arith, few_states))
 
@@ -135,7 +139,7 @@ module _ {model : Model} {kinds : List ℕ} {parameters : List ℤ} {rows : List
         pub length_old : model.sizes.states ≡ length (take model.sizes.states array)
         length_old = length_states ∙ ap length (sym old_states)
 
-        abbrev pub action_stands : ActionStands kinds parameters nexts rows cells (take model.sizes.states array) (get_or nexts (get_or guards k 0) 0)
+        abbrev pub action_stands : ActionStands kinds parameters nexts rows cells (take model.sizes.states array) at
         action_stands =
             record {
               values = take (length rows) old;
@@ -143,7 +147,7 @@ module _ {model : Model} {kinds : List ℕ} {parameters : List ℤ} {rows : List
               action = transition.0.action;
               well_formed = loaded_well_formed d;
               scoped = loaded_scoped d k transition.0 transition.1;
-              stands = loaded_action d k transition.0 transition.1;
+              stands = rw noted (loaded_action d k transition.0 transition.1);
               places = loaded_places d;
               rows_held = d.decoded.variables_decoded;
               held = (held room).held;

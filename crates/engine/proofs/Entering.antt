@@ -134,10 +134,6 @@ module _ {ks : List ℕ} {ps : List ℤ} {nexts : List ℕ} {rows : List Variabl
             (settled_states p.assertion.system p.assertion.well_formed ss p.state_cells c new k) (length_settled c new k),
       )
 
-  pub states_fit : (flows : List ℤ) → length flows ≡ length (flow_part s n old) → length ss ≤ length (with_flows s n old flows)
-  states_fit flows e =
-      simp (length-append, length-take, length-drop) (omega (arith, e, length_flow_part, states_first, long))
-
   module _ (r : Result ℕ Fault) (flows : List ℤ)
       (left : answered r flows ≡ flows_by_settling (length ss) (flow_part s n old) (settle p.assertion.system ss)) where
     pub enter_refused : (f : Fault) → r ≡ Err f

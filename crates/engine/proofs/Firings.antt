@@ -61,24 +61,18 @@ module _ {model : Model} {kinds : List ℕ} {parameters : List ℤ} {rows : List
     unfolding begun meaning_of
     begin_short h = rw (lt-ltb (length old) (length (variables d.decoded.system)) (omega (arith, length_all d)))
 
-    pub begin_other : model.sizes.states + model.sizes.flows ≤ length old → (length ss ≡ model.sizes.states → ⊥)
-        → answered (Err Disabled) old ≡ begun (meaning_of d.decoded.system) ss old
+    -- fewer cells than there are states
+    pub begin_few : model.sizes.states + model.sizes.flows ≤ length old → length ss < model.sizes.states
+        → answered (Err Disabled) old ≡ begun (meaning_of d.decoded.system) (take (meaning_of d.decoded.system).states ss) old
     unfolding begun meaning_of
-    begin_other h n =
+    begin_few h few =
+        let n = length d.decoded.system.states in
         rw (
           le-ltb (length old) (length (variables d.decoded.system)) (omega (arith, length_all d)),
-          ne_eqb (length ss) (length d.decoded.system.states) (λ e. n (e ∙ sym (loaded_states d))),
+          ne_eqb (length (take n ss)) n (λ e. omega (arith, e, length-take n ss, few, loaded_states d)),
         )
 
     module _ (room : model.sizes.states + model.sizes.flows ≤ length old) (long : length ss ≡ model.sizes.states) where
-      abbrev pub begin_stands : PropagationStands kinds parameters nexts rows model.assertion (length ss) (model.sizes.states + model.sizes.flows - model.sizes.states)
-      begin_stands =
-          record {
-            assertion = assertion_stands d;
-            state_cells = long ∙ loaded_states d;
-            flow_cells = omega (arith, loaded_flows d);
-          }
-
       begun_is : begun (meaning_of d.decoded.system) ss old ≡ left_by_settling old ((meaning_of d.decoded.system).propagate ss)
       unfolding begun meaning_of
       begun_is =
@@ -92,19 +86,41 @@ module _ {model : Model} {kinds : List ℕ} {parameters : List ℤ} {rows : List
       unfolding meaning_of
       begin_entered r left e = e ∙ sym begun_is
 
-      abbrev pub flows_stand : PropagationStands kinds parameters nexts rows model.assertion (length ss) (length (flow_part model.sizes.states (model.sizes.states + model.sizes.flows) old))
-      flows_stand = part_stands _ _ ss old long length_rows begin_stands room
+      module _ (n : ℕ) (all : n ≡ model.sizes.states + model.sizes.flows) where
+        abbrev pub begin_stands : PropagationStands kinds parameters nexts rows model.assertion (length ss) (n - model.sizes.states)
+        begin_stands =
+            record {
+              assertion = assertion_stands d;
+              state_cells = long ∙ loaded_states d;
+              flow_cells = omega (arith, all, loaded_flows d);
+            }
 
-      module _ (r : Result ℕ Fault) (flows : List ℤ)
-          (left : answered r flows ≡ flows_by_settling (length ss) (flow_part model.sizes.states (model.sizes.states + model.sizes.flows) old) (settle d.decoded.system ss)) where
-        pub begin_refused : (f : Fault) → r ≡ Err f
-            → answered (Err (AssertionFault f)) (with_flows model.sizes.states (model.sizes.states + model.sizes.flows) old flows) ≡ begun (meaning_of d.decoded.system) ss old
-        begin_refused f k = begin_entered _ _ (enter_refused _ _ ss old long length_rows begin_stands room r flows left f k)
+        pub rows_all : length rows ≡ n
+        rows_all = length_rows ∙ sym all
 
-        pub begin_settled : (count : ℕ) → r ≡ Ok count → (new : List ℤ)
-            → new ≡ over ss (with_flows model.sizes.states (model.sizes.states + model.sizes.flows) old flows)
-            → answered (Ok count) new ≡ begun (meaning_of d.decoded.system) ss old
-        begin_settled count k new h = begin_entered _ _ (enter_settled _ _ ss old long length_rows begin_stands room r flows left count k new h)
+        pub within : n ≤ length old
+        within = omega (arith, all, room)
+
+        abbrev pub flows_stand : PropagationStands kinds parameters nexts rows model.assertion (length ss) (length (flow_part model.sizes.states n old))
+        flows_stand = part_stands _ _ ss old long rows_all begin_stands within
+
+        module _ (r : Result ℕ Fault) (flows : List ℤ)
+            (left : answered r flows ≡ flows_by_settling (length ss) (flow_part model.sizes.states n old) (settle d.decoded.system ss)) where
+          pub begin_refused : (f : Fault) → r ≡ Err f
+              → answered (Err (AssertionFault f)) (with_flows model.sizes.states n old flows) ≡ begun (meaning_of d.decoded.system) ss old
+          begin_refused f k = begin_entered _ _ (enter_refused _ _ ss old long rows_all begin_stands within r flows left f k)
+
+          pub begin_settled : (count : ℕ) → r ≡ Ok count → (new : List ℤ) → new ≡ over ss (with_flows model.sizes.states n old flows)
+              → answered (Ok count) new ≡ begun (meaning_of d.decoded.system) ss old
+          begin_settled count k new h = begin_entered _ _ (enter_settled _ _ ss old long rows_all begin_stands within r flows left count k new h)
+
+    -- the states are the first of those worked in
+    pub begun_first : (cells : List ℤ) → ss ≡ take (model.sizes.states - 0) cells
+        → begun (meaning_of d.decoded.system) ss old ≡ begun (meaning_of d.decoded.system) (take (meaning_of d.decoded.system).states cells) old
+    unfolding meaning_of
+    begun_first cells e =
+        let s : model.sizes.states - 0 ≡ length d.decoded.system.states = omega (arith, loaded_states d) in
+        ap (λ ss. begun (meaning_of d.decoded.system) ss old) (e ∙ ap (λ s. take s cells) s)
 
   -- ---- firing
 
@@ -133,11 +149,8 @@ module _ {model : Model} {kinds : List ℕ} {parameters : List ℤ} {rows : List
         unfolding LeftByChanging meaning_of
         over_zeros = is_over.1 ∙ ap (λ n. replicate n (pos 0)) (sym (all_rows d))
 
-      pub states_within : model.sizes.states ≤ length new
-      states_within = omega (arith, length_new, all_rows d, length_all d)
-
-      pub length_states : model.sizes.states ≡ length (take model.sizes.states new)
-      length_states = simp length-take (omega (arith, states_within))
+      length_states : model.sizes.states ≡ length (take model.sizes.states new)
+      length_states = simp length-take (omega (arith, length_new, all_rows d, length_all d))
 
       module _ (going : x ≡ Ok tt) where
         is_open : LeftByChanging (meaning_of d.decoded.system) k old new (Ok tt)
@@ -147,10 +160,13 @@ module _ {model : Model} {kinds : List ℕ} {parameters : List ℤ} {rows : List
         unfolding LeftByChanging meaning_of
         room = omega (arith, is_open.0, length_all d)
 
-        pub fire_entered : (r : Firing) (left : List ℤ) → answered r left ≡ begun (meaning_of d.decoded.system) (take model.sizes.states new) old
+        pub fire_entered : (r : Firing) (left : List ℤ)
+            → answered r left ≡ begun (meaning_of d.decoded.system) (take (meaning_of d.decoded.system).states new) old
             → answered r left ≡ fired (meaning_of d.decoded.system) k old
         unfolding LeftByChanging meaning_of
         fire_entered r left e =
-            e ∙ begun_is (take model.sizes.states new) old room (sym length_states)
-            ∙ ap (λ s. left_by_settling old ((meaning_of d.decoded.system).propagate (take s new))) (loaded_states d)
+            e ∙ begun_is (take (meaning_of d.decoded.system).states new) old room (sym long)
             ∙ is_open.1
+          where
+            long : model.sizes.states ≡ length (take (meaning_of d.decoded.system).states new)
+            long = length_states ∙ ap (λ s. length (take s new)) (loaded_states d)

@@ -4,18 +4,14 @@ use mathlib.Core.Path.{◌≡◌, refl, ap, ◌∙◌}
 use mathlib.Core.Bool.{Bool, true, false, cond, true≢false}
 use mathlib.Core.List.{List, [], ◌∷◌}
 use mathlib.Core.Option.{none}
-use Prim.Native.Nat.{ℕ, zero, suc, ◌+◌, ◌≤◌, ◌<◌, ◌^◌}
+use Prim.Native.Nat.{ℕ, zero, suc, ◌+◌, ◌≤◌, ◌<◌}
 use native.Mathlib.Nat.{not-suc-le-zero, le_of_suc-le-suc}
 use native.Mathlib.Omega.{arith}
-use lib.IntN.{ℤ, pos}
+use lib.IntN.{ℤ}
 use lib.ListN.{length, take, get_or, get_elem?, length-append}
-use lib.Signed.{mag}
-use mir.Syntax.{w32}
-use mir.Val.{of_z}
 use Rattle.evaluation.specs.declared.Evaluation.{Evaluation}
 use Rattle.evaluation.specs.declared.Evaluation.TheVariants.{Unknown, Failed, Value}
 use Rattle.evaluation.specs.Numbers.{eq_z, boolean}
-use Rattle.evaluation.proofs.Signed.{one_fits, equal_bits, other_bits}
 use Rattle.model.specs.declared.Model.{Model}
 use Rattle.model.specs.Trees.{Expression, variables}
 use Rattle.model.specs.Standing.{ExpressionAt, size_of_expression}
@@ -69,25 +65,6 @@ module _ {model : Model} {kinds : List ℕ} {parameters : List ℤ} {rows : List
     guard_evaluated h σ r e =
         let t = element_below d.decoded.system.transitions k (omega (arith, loaded_guards d)) in
         ap (λ r. r.evaluation) (e t.0.guard (loaded_guard d k t.0 t.1)) ∙ rw t.1
-
--- ---- what the guard makes of a firing
-
-pub guard_unknown : (x : Evaluation) → x ≡ Unknown → Err Disabled ≡ admission x
-unfolding admission
-guard_unknown x e = rw e
-
-pub guard_failed : (x : Evaluation) → x ≡ Failed → Err GuardFailed ≡ admission x
-unfolding admission
-guard_failed x e = rw e
-
-module _ (x : Evaluation) (v : ℤ) (fits : mag v < 2 ^ 31) (is : x ≡ Value v) where
-  pub guard_false : (of_z w32 v ≡ 1 → ⊥) → Err Disabled ≡ admission x
-  unfolding admission
-  guard_false n = rw (is, other_bits w32 {x = v} {y = pos 1} (record { sfits = fits }) one_fits n)
-
-  pub guard_true : of_z w32 v ≡ 1 → Ok tt ≡ admission x
-  unfolding admission
-  guard_true n = rw (is, equal_bits w32 {x = v} {y = pos 1} (record { sfits = fits }) one_fits n)
 
 -- ---- what is left, by the stage that the guard leads to
 

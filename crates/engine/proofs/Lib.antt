@@ -6,3 +6,4 @@ pub mod Guards
 pub mod Changing
 pub mod Firings
 pub mod Accepted
+pub mod Working

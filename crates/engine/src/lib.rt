@@ -5,6 +5,7 @@
 ghost use Rattle.rounds.specs.Lent.{IndexHeld};
 ghost use Rattle.engine.specs.Lent.{LoadedIn};
 
+use reading::Gathering;
 use tables::{Index, Tables};
 
 pub mod transitions; // transitions.rt: guards, firing, starting
@@ -22,4 +23,14 @@ pub struct LoadedModel<'a> {
     pub decoded: DecodedModel<'a>,
     pub index: Index<'a>,
     pub ghost indexed: { IndexHeld decoded.tables index },
+}
+
+// What a firing works in: cells for the states, as many as there are variables, what is known of the variables, and what the readings
+// gather. The gathering is lent, and not held: of a slice that stands beside a struct of slices it is not known afterwards that it is the
+// one that was lent.
+#[derive(Drop)]
+pub struct Work<'a, 'b> {
+    pub states: &'a mut [i32],
+    pub cells: &'a mut [Option<i32>],
+    pub gathering: &'a mut Gathering<'b>,
 }

@@ -2,24 +2,20 @@
 
 #![tactic(auto)]
 
-ghost use Rattle.std.specs.Prelude.{◌≡◌, ◌≤◌, pos, length, replicate};
+ghost use Rattle.std.specs.Prelude.{◌≡◌, ◌≤◌, pos, length, take, replicate};
 ghost use Rattle.results.specs.Results.{answered};
 ghost use Rattle.expressions.specs.Cells.{valuation_of};
-ghost use Rattle.semantics.specs.Meanings.{guard_over, meaning_of};
+ghost use Rattle.semantics.specs.Meanings.{guard_over};
 ghost use Rattle.semantics.specs.Firing.{fired, begun};
-ghost use Rattle.reading.specs.Readings.{SameCells};
 ghost use Rattle.propagation.specs.Lent.{BlankIn, BlankCellsIn};
 ghost use Rattle.engine.specs.Cells.{AllHeld, admission, LeftByChanging};
-ghost use Rattle.engine.specs.Lent.{LoadedIn, OnLoadedIn, BlankFiringIn};
+ghost use Rattle.engine.specs.Lent.{LoadedIn, OnLoadedIn, BlankFiringIn, SameWork};
 
-use crate::{DecodedModel, LoadedModel};
+use crate::{DecodedModel, LoadedModel, Work};
 use evaluation::Evaluation;
-use reading::Gathering;
+use rounds::IndexedTables;
 use semantics::{Firing, NotFired};
 use syntax::Cursor;
-
-// What a true expression comes to.
-const TRUE: i32 = 1;
 
 // The guard of a transition over cells.
 pub fn guard(decoded: &DecodedModel<'_>, cells: &[Option<i32>], transition: usize) -> Evaluation
@@ -37,91 +33,88 @@ pub fn guard(decoded: &DecodedModel<'_>, cells: &[Option<i32>], transition: usiz
 fn hold(values: &[i32], cells: &mut [Option<i32>])
     ensures { length cells.old ≤ length values.now → AllHeld (length cells.old) values.now cells.new }
 {
-    let n = cells.len();
-    if values.len() < n {
-        return;
+    if let Some(values) = values.get(..cells.len()) {
+        propagation::overwrite(values, cells);
     }
-    propagation::overwrite(&values[..n], cells);
 }
 
 // What the guard makes of a firing.
+#[tactic(auto, unfolding(crate::specs::Cells::admission, evaluation::specs::Meaning::is_true))]
 fn admit(guard: Evaluation) -> Result<(), NotFired>
     ensures { result ≡ admission guard }
 {
     match guard {
-        Evaluation::Value(v) if v == TRUE => Ok(()),
+        guard if guard.is_true() => Ok(()),
         Evaluation::Failed => Err(NotFired::GuardFailed),
         _ => Err(NotFired::Disabled),
     }
 }
 
-// Guard and action over the values of all variables, held as cells: where the firing goes on the new states stand first. What is worked in
-// stays apart, here and in what follows: of one struct two parts cannot be lent on at once.
+// Guard and action over the values of all variables, held as cells: where the firing goes on, the new states are the first of those worked in.
 fn change_states(
     decoded: &DecodedModel<'_>,
+    work: &mut Work<'_, '_>,
     values: &[i32],
-    cells: &[Option<i32>],
-    gathering: &mut Gathering<'_>,
-    states: &mut [i32],
     transition: usize,
 ) -> Result<(), NotFired>
-    requires { (length decoded.now.tables.variables.now ≤ length values.now → AllHeld (length decoded.now.tables.variables.now) values.now cells.now)
-        × (states.old ≡ replicate (length decoded.now.tables.variables.now) (pos 0))
-        × BlankIn decoded.now.tables gathering.old }
-    ensures changed { OnLoadedIn decoded.now.tables (λ m. LeftByChanging m transition values.now states.new result) }
-    ensures blank { BlankIn decoded.now.tables gathering.new }
-    ensures same { SameCells gathering.old gathering.new }
+    requires { (length decoded.now.tables.variables.now ≤ length values.now → AllHeld (length decoded.now.tables.variables.now) values.now work.old.cells.now)
+        × (work.old.states.now ≡ replicate (length decoded.now.tables.variables.now) (pos 0))
+        × BlankIn decoded.now.tables work.old.gathering.now }
+    ensures changed { OnLoadedIn decoded.now.tables (λ m. LeftByChanging m transition values.now work.new.states.now result) }
+    ensures blank { BlankIn decoded.now.tables work.new.gathering.now }
+    ensures same { SameWork work.old work.new }
 {
     let tables = &decoded.tables;
     let s = tables.model.sizes.states;
-    let n = s + tables.model.sizes.flows;
+    let n = tables.model.sizes.variables();
     if values.len() < n {
         return Err(NotFired::Disabled);
     }
+    let states = &mut *work.states;
+    let cells = &mut *work.cells;
+    let gathering = &mut *work.gathering;
     let evaluation = guard(decoded, cells, transition);
     admit(evaluation)?;
     propagation::store(&values[..s], states);
-    let place = tables.guards[transition] as usize;
-    let action = tables.nexts[place] as usize;
-    match propagation::act(tables, cells, gathering, action, &mut states[..s]) {
-        Ok(()) => Ok(()),
-        Err(fault) => {
-            states.fill(0);
-            Err(NotFired::ActionFault(fault))
-        }
+    let place = usize::from(tables.guards[transition]);
+    let action = usize::from(tables.nexts[place]);
+    if let Err(fault) = propagation::act(tables, cells, gathering, action, &mut states[..s]) {
+        states.fill(0);
+        return Err(NotFired::ActionFault(fault));
     }
+    Ok(())
 }
 
-// The states take these values, then the assertion.
-pub fn begin(
-    loaded: &LoadedModel<'_>,
-    states: &[i32],
-    cells: &mut [Option<i32>],
-    gathering: &mut Gathering<'_>,
-    values: &mut [i32],
-) -> Firing
-    requires { BlankCellsIn loaded.now.decoded.tables cells.old gathering.old }
-    ensures begun { OnLoadedIn loaded.now.decoded.tables (λ m. answered result values.new ≡ begun m states.now values.old) }
-    ensures blank { BlankCellsIn loaded.now.decoded.tables cells.new gathering.new }
-    ensures same { SameCells gathering.old gathering.new }
+// The states take the first of the values worked in, then the assertion.
+pub fn begin(loaded: &LoadedModel<'_>, work: &mut Work<'_, '_>, values: &mut [i32]) -> Firing
+    requires { BlankCellsIn loaded.now.decoded.tables work.old.cells.now work.old.gathering.now }
+    ensures begun { OnLoadedIn loaded.now.decoded.tables (λ m. answered result values.new ≡ begun m (take m.states work.old.states.now) values.old) }
+    ensures blank { BlankCellsIn loaded.now.decoded.tables work.new.cells.now work.new.gathering.now }
+    ensures states { work.new.states.now ≡ work.old.states.now }
+    ensures same { SameWork work.old work.new }
 {
     let s = loaded.decoded.tables.model.sizes.states;
-    let n = s + loaded.decoded.tables.model.sizes.flows;
+    let n = loaded.decoded.tables.model.sizes.variables();
     if values.len() < n {
         return Err(NotFired::Disabled);
     }
-    if states.len() != s {
+    let states = &mut *work.states;
+    let cells = &mut *work.cells;
+    let gathering = &mut *work.gathering;
+    let Some(states) = states.get(..s) else {
         return Err(NotFired::Disabled);
-    }
+    };
+    let indexed = IndexedTables {
+        tables: &loaded.decoded.tables,
+        index: &loaded.index,
+    };
     let count = propagation::propagate(
-        &loaded.decoded.tables,
-        &loaded.index,
+        &indexed,
         states,
         cells,
         gathering,
         &mut values[s..n],
-    )
-    .map_err(NotFired::AssertionFault)?;
+    ).map_err(NotFired::AssertionFault)?;
     propagation::store(states, values);
     Ok(count)
 }
@@ -129,30 +122,20 @@ pub fn begin(
 // Guard, action, assertion; nothing is recorded.
 pub fn fire(
     loaded: &LoadedModel<'_>,
-    states: &mut [i32],
-    cells: &mut [Option<i32>],
-    gathering: &mut Gathering<'_>,
+    work: &mut Work<'_, '_>,
     values: &mut [i32],
     transition: usize,
 ) -> Firing
-    requires { BlankFiringIn loaded.now.decoded.tables states.old cells.old gathering.old }
+    requires { BlankFiringIn loaded.now.decoded.tables work.old }
     ensures fired { OnLoadedIn loaded.now.decoded.tables (λ m. answered result values.new ≡ fired m transition values.old) }
-    ensures blank { BlankFiringIn loaded.now.decoded.tables states.new cells.new gathering.new }
-    ensures same { SameCells gathering.old gathering.new }
+    ensures blank { BlankFiringIn loaded.now.decoded.tables work.new }
+    ensures same { SameWork work.old work.new }
 {
-    hold(values, cells);
-    let changed = change_states(
-        &loaded.decoded,
-        values,
-        cells,
-        gathering,
-        states,
-        transition,
-    );
-    scratch::forget(cells);
+    hold(values, work.cells);
+    let changed = change_states(&loaded.decoded, work, values, transition);
+    scratch::forget(work.cells);
     changed?;
-    let s = loaded.decoded.tables.model.sizes.states;
-    let firing = begin(loaded, &states[..s], cells, gathering, values);
-    states.fill(0);
+    let firing = begin(loaded, work, values);
+    work.states.fill(0);
     firing
 }

@@ -60,6 +60,8 @@ fn truth(b: bool) -> Evaluation
     Evaluation::Value(i32::from(b))
 }
 
+// Each operator below is a function in a line, or two: as arms of the one match that calls them they would carry no promise of their own.
+
 // Kind 38, and kind 47.
 pub fn equal(x: i32, y: i32) -> Evaluation
     ensures { result ≡ Evaluation.Value (boolean (eq_z x y)) }

@@ -21,7 +21,7 @@ use Rattle.model.specs.Trees.Expression.{numeral, truth, variable, negation, bin
 use Rattle.model.specs.Standing.{ExpressionAt, size_of_expression}
 use Rattle.expressions.specs.declared.Evaluated.{Evaluated}
 use Rattle.expressions.specs.Expressions.{Valuation, evaluation_of, evaluate}
-use Rattle.expressions.specs.Cells.{evaluated_as, ExpressionStands, KindsStand, BranchesStand}
+use Rattle.expressions.specs.Cells.{evaluated_as, ExpressionStands, BranchesStand}
 
 -- ---- kinds
 
@@ -203,23 +203,12 @@ module _ (ks : List ℕ) (ps : List ℤ) where
   abbrev pub ToldPlace : ℕ → ℕ → Type 0
   ToldPlace m at = (ps : List ℤ) (e : Expression) → ExpressionAt ks ps e at → m ≡ at + size_of_expression e
 
-  pub kinds_stand : {at : ℕ} → ExpressionStands ks ps at → KindsStand ks at
-  kinds_stand s = record { parameters = ps; standing = s }
-
-  module _ (at : ℕ) (s : BranchesStand ks ps at) where
-    pub here_stands : ExpressionStands ks ps at
-    here_stands = record { expression = s.first; stands = s.first_stands }
-
-    pub there_stands : {m : ℕ} → m ≡ at + size_of_expression s.first → ExpressionStands ks ps m
-    there_stands p = record { expression = s.second; stands = moved s.second (sym p) s.second_stands }
-
-    pub skipped_stands : {m : ℕ} → ToldPlace m at → ExpressionStands ks ps m × (at ≤ m)
-    skipped_stands t = (there_stands (t ps s.first s.first_stands), omega (arith, t ps s.first s.first_stands))
-
-    pub evaluated_stands : (σ : Valuation) {r : Evaluated} → Told σ r at → ExpressionStands ks ps r.next.at × (at ≤ r.next.at)
-    evaluated_stands σ {r} told =
-        let m : r.next.at ≡ at + size_of_expression s.first = ap (λ x. x.next.at) (told s.first s.first_stands) in
-        (there_stands m, omega arith)
+  -- the second branch stands where the first, evaluated, has ended
+  pub evaluated_stands : (at : ℕ) (s : BranchesStand ks ps at) (σ : Valuation) {r : Evaluated} → Told σ r at
+      → ExpressionStands ks ps r.next.at × (at ≤ r.next.at)
+  evaluated_stands at s σ {r} told =
+      let m : r.next.at ≡ at + size_of_expression s.first = ap (λ x. x.next.at) (told s.first s.first_stands) in
+      (record { expression = s.second; stands = moved s.second (sym m) s.second_stands }, omega arith)
 
   module _ (at : ℕ) (a b : Expression) (k : ExpressionAt ks ps b (at + size_of_expression a)) where
     -- the place after the second, from the place after the first

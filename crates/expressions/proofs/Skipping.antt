@@ -1,5 +1,5 @@
 -- The loop of `past`: the expressions that are still due, and what the invariant says of them.
-use mathlib.Core.Path.{◌≡◌, refl, ap, subst, ◌∙◌}
+use mathlib.Core.Path.{◌≡◌, refl, sym, ap, subst, ◌∙◌}
 use mathlib.Core.List.{List, [], ◌∷◌, ◌++◌}
 use Prim.Native.Nat.{ℕ, suc, ◌+◌, ◌-◌, ◌≤◌, ◌<◌}
 use native.Mathlib.Omega.{arith}
@@ -12,6 +12,7 @@ use Rattle.kinds.specs.Kinds.{kind_of, children_of, row_of}
 use Rattle.model.specs.Trees.{Expression}
 use Rattle.model.specs.Trees.Expression.{numeral, truth, variable, negation, binary, if_then_else}
 use Rattle.model.specs.Standing.{ExpressionAt, size_of_expression}
+use Rattle.expressions.specs.Cells.{KindsStand}
 use Rattle.expressions.proofs.Evaluating.{expression_within}
 
 -- the children of an expression's node
@@ -110,12 +111,12 @@ module _ (ks : List ℕ) (ps : List ℤ) where
     pub ends : here + size_of_expressions rest ≡ at + size_of_expression e
 
   module _ (e : Expression) (at : ℕ) where
-    pub all_left : ExpressionAt ks ps e at → Left e at at 1
+    all_left : ExpressionAt ks ps e at → Left e at at 1
     unfolding ExpressionsAt size_of_expressions
     all_left h = record { rest = e ∷ []; stands = (h, tt); counted = refl; ends = omega arith }
 
     module _ {here due : ℕ} (left : Left e at here due) where
-      pub due_within : due ≤ length ks - here
+      due_within : due ≤ length ks - here
       due_within = omega (arith, count_within left.rest here left.stands, left.counted)
 
       pub none_left : due ≤ 0 → here ≡ at + size_of_expression e
@@ -126,19 +127,36 @@ module _ (ks : List ℕ) (ps : List ℤ) where
           by [] c p = omega arith
           by (f ∷ es) c p = absurd (omega arith)
 
-      pub step_left : 0 < due → Left e at (here + 1) (due - 1 + children_of (get_or ks here 0)) × (here < length ks)
+      step_left : 0 < due → Left e at (here + 1) (due - 1 + children_of (get_or ks here 0))
       unfolding ExpressionsAt size_of_expressions
       step_left d = by left.rest left.counted left.stands left.ends
         where
           by : (es : List Expression) → length es ≡ due → ExpressionsAt es here → here + size_of_expressions es ≡ at + size_of_expression e
-              → Left e at (here + 1) (due - 1 + children_of (get_or ks here 0)) × (here < length ks)
+              → Left e at (here + 1) (due - 1 + children_of (get_or ks here 0))
           by [] c s p = absurd (omega arith)
-          by (f ∷ es) c s p = (
-            record {
-              rest = children_in f ++ es;
-              stands = children_stand f es here s.0 s.1;
-              counted = length-append (children_in f) es ∙ omega (arith, children_counted f here s.0);
-              ends = omega (arith, size_of_children f es);
-            },
-            (expression_within ks ps f here s.0).0,
-          )
+          by (f ∷ es) c s p =
+              record {
+                rest = children_in f ++ es;
+                stands = children_stand f es here s.0 s.1;
+                counted = length-append (children_in f) es ∙ omega (arith, children_counted f here s.0);
+                ends = omega (arith, size_of_children f es);
+              }
+
+-- at place `at` so much is left, whatever the parameters, and no more than there are nodes
+pub record Going (ks : List ℕ) (at here due : ℕ) : Type 0 where
+  pub left : (ps : List ℤ) (e : Expression) → ExpressionAt ks ps e at → Left ks ps e at here due
+  pub inside : due ≤ length ks - here
+
+module _ (ks : List ℕ) (at : ℕ) (k : KindsStand ks at) where
+  pub going_begins : Going ks at at 1
+  going_begins =
+      record {
+        left = λ ps e h. all_left ks ps e at h;
+        inside = due_within ks k.parameters k.standing.expression at (all_left ks k.parameters k.standing.expression at k.standing.stands);
+      }
+
+  pub going_goes : {here due : ℕ} → Going ks at here due → 0 < due → {n : ℕ} → n ≡ children_of (get_or ks here 0) → Going ks at (here + 1) (due - 1 + n)
+  going_goes {here} {due} g d {n} e =
+      let next = λ (ps : List ℤ) (t : Expression) (h : ExpressionAt ks ps t at).
+      subst (λ m. Left ks ps t at (here + 1) (due - 1 + m)) (sym e) (step_left ks ps t at (g.left ps t h) d) in
+      record { left = next; inside = due_within ks k.parameters k.standing.expression at (next k.parameters k.standing.expression k.standing.stands) }

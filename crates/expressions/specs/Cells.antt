@@ -1,7 +1,7 @@
 -- How the code goes about it: how it holds the valuations and evaluations that 01 speaks of (cell_value, valuation_of, evaluated_as), and
 -- what its functions ask of the nodes lent to them (the rest). No definition here is 01's own.
-use Rattle.std.specs.Prelude.{List, ◌≡◌, ℕ, ◌+◌, ◌≤◌, ℤ, get_or, Option, Some, None}
-use Rattle.std.proofs.Math.Option.{Option as Known, some, none}
+use Rattle.std.specs.Prelude.{List, ◌≡◌, ℕ, ◌+◌, ◌≤◌, ℤ, get_or, Option as Optional, Some, None}
+use Rattle.std.proofs.Math.Option.{Option, some, none}
 use Rattle.evaluation.specs.declared.Evaluation.{Evaluation}
 use Rattle.kinds.specs.declared.table.TheConstants.{ROWS}
 use Rattle.kinds.specs.Kinds.{children_of, row_in}
@@ -11,12 +11,12 @@ use Rattle.expressions.specs.declared.Evaluated.{Evaluated}
 use Rattle.expressions.specs.Expressions.{Valuation}
 
 -- what a cell holds
-unfoldable pub cell_value : Option ℤ → Known ℤ
+unfoldable pub cell_value : Optional ℤ → Option ℤ
 cell_value None = none
 cell_value (Some v) = some v
 
 -- a variable without a cell is unknown
-abbrev pub valuation_of : List (Option ℤ) → Valuation
+abbrev pub valuation_of : List (Optional ℤ) → Valuation
 valuation_of cells x = cell_value (get_or cells x None)
 
 -- an evaluation with the cursor after the expression

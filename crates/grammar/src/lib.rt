@@ -2,8 +2,8 @@
 
 #![tactic(auto)]
 
-// What a word is: a number, a variable or a word with a meaning of its own; any other is `Unknown`. The greatest number of
-// 32 bits stands for all from there on.
+// What a word is: a number, a variable or a word with a meaning of its own; any other is `Unknown`, a word that is there and fits nowhere,
+// as None is none that is there. The greatest number of 32 bits stands for all from there on.
 #[derive(Clone, Copy, PartialEq, Eq, Debug)]
 pub enum Token {
     Unknown,

@@ -3,14 +3,14 @@ use mathlib.Core.Path.{◌≡◌, refl, sym, ap, subst, ◌∙◌}
 use mathlib.Core.Logic.{⊎_elim}
 use mathlib.Core.Bool.{Bool, true, false}
 use mathlib.Core.List.{List}
-use Prim.Native.Nat.{ℕ, ◌+◌, ◌-◌, ◌≤◌, ◌<◌, ◌^◌}
+use Prim.Native.Nat.{ℕ, ◌+◌, ◌≤◌, ◌<◌, ◌^◌}
 use native.Mathlib.Omega.{arith}
 use native.Mathlib.Nat.{eq-or-lt_of_le}
 use borrow.Author.Tests.{eqb-true, eqb-false}
 use lib.Dec.{eqb}
 use lib.IntN.{ℤ, pos, nat_abs}
 use lib.Signed.{mag}
-use lib.ListN.{length, get_or, set, length-set, replicate, length-replicate, get_or-replicate}
+use lib.ListN.{length, get_or, set, length-set}
 use lib.Seq.{get_or-set_same, get_or-set_other}
 use mir.Syntax.{w32}
 use mir.Val.{to_z, of_z}
@@ -18,25 +18,7 @@ use mir.ValLaws.{to_z-of_z}
 use Rattle.waiting.specs.Index.{Mention, First, Linked}
 
 module _ (ks : List ℕ) (ps : List ℤ) where
-  -- nothing is mentioned past the end
-  pub linked_begins : (heads filled links : List ℕ) → filled ≡ replicate (length heads) (length ks) → Linked ks ps (length ks) filled links
-  linked_begins heads filled links e =
-      record {
-        first = λ x h. let q = last x h in
-            record {
-              after = omega (arith, q);
-              bounded = omega (arith, q);
-              least = λ p a b m. omega (arith, a, m.within);
-              found = λ g. absurd (omega (arith, g, q));
-            };
-        later = λ x p h g m. absurd (omega (arith, g, m.within));
-      }
-    where
-      last : (x : ℕ) → x < length filled → get_or filled x 0 ≡ length ks
-      last x h =
-          ap (λ l. get_or l x 0) e ∙ get_or-replicate (length heads) x (length ks) 0 (omega (arith, h, ap length e, length-replicate (length heads) (length ks)))
-
-  module _ (at : ℕ) (heads links : List ℕ) (linked : Linked ks ps (at + 1) heads links) where
+  module _ (at : ℕ) (heads mentions : List ℕ) (linked : Linked ks ps (at + 1) heads mentions) where
     -- the node mentions no variable that has a head
     lower : (x : ℕ) → (Mention ks ps x at → ⊥) → {q : ℕ} → First ks ps x (at + 1) q → First ks ps x at q
     lower x n {q} f =
@@ -50,28 +32,25 @@ module _ (ks : List ℕ) (ps : List ℤ) where
     higher : (x : ℕ) → (Mention ks ps x at → ⊥) → (p : ℕ) → at ≤ p → Mention ks ps x p → at + 1 ≤ p
     higher x n p l m = ⊎_elim (λ e. absurd (n (subst (λ k. Mention ks ps x k) (sym e) m))) (λ k. omega (arith, k)) (eq-or-lt_of_le {n = at} {m = p} l)
 
-    linked_past : ((x : ℕ) → x < length heads → Mention ks ps x at → ⊥) → Linked ks ps at heads links
+    linked_past : ((x : ℕ) → x < length heads → Mention ks ps x at → ⊥) → Linked ks ps at heads mentions
     linked_past n =
         record {
           first = λ x h. lower x (n x h) (linked.first x h);
           later = λ x p h l m. linked.later x p h (higher x (n x h) p l m) m;
         }
 
-    pub linked_other_kind : (get_or ks at 0 ≡ 34 → ⊥) → Linked ks ps at heads links
-    linked_other_kind k = linked_past (λ x h m. k m.kind)
-
     module _ (f : mag (get_or ps at (pos 0)) < 2 ^ 31) {y : ℕ} (read : y ≡ nat_abs (to_z w32 (of_z w32 (get_or ps at (pos 0))))) where
       named : y ≡ nat_abs (get_or ps at (pos 0))
       named = read ∙ ap nat_abs (to_z-of_z w32 (get_or ps at (pos 0)) (record { sfits = f }))
 
-      pub linked_unknown : length heads ≤ y → Linked ks ps at heads links
+      pub linked_unknown : length heads ≤ y → Linked ks ps at heads mentions
       linked_unknown l = linked_past (λ x h m. omega (arith, named, m.parameter, h, l))
 
-      module _ (k : get_or ks at 0 ≡ 34) (h : y < length heads) (w : at < length ks) (v : at < length links) where
+      module _ (k : get_or ks at 0 ≡ 34) (h : y < length heads) (w : at < length ks) (v : at < length mentions) where
         here : Mention ks ps y at
         here = record { within = w; kind = k; parameter = sym named }
 
-        pub linked_here : Linked ks ps at (set heads y at) (set links at (get_or heads y 0))
+        pub linked_here : Linked ks ps at (set heads y at) (set mentions at (get_or heads y 0))
         linked_here =
             record {
               first = λ x g. by x (subst (λ n. x < n) (length-set heads y at) g) (eqb x y) refl;
@@ -87,21 +66,11 @@ module _ (ks : List ℕ) (ps : List ℤ) where
                 subst (λ q. First ks ps x at q) (sym (get_or-set_other heads y x at 0 (eqb-false x y e)))
                 (lower x (λ m. eqb-false x y e (sym m.parameter ∙ sym named)) (linked.first x g))
 
-            after : (x p : ℕ) → x < length heads → at ≤ p → Mention ks ps x p → First ks ps x (p + 1) (get_or (set links at (get_or heads y 0)) p 0)
+            after : (x p : ℕ) → x < length heads → at ≤ p → Mention ks ps x p → First ks ps x (p + 1) (get_or (set mentions at (get_or heads y 0)) p 0)
             after x p g l m =
                 ⊎_elim
                 (λ e. let z : x ≡ y = sym m.parameter ∙ ap (λ q. nat_abs (get_or ps q (pos 0))) (sym e) ∙ sym named in
-                subst (λ q. First ks ps x (q + 1) (get_or (set links at (get_or heads y 0)) q 0)) e
-                (subst (λ q. First ks ps x (at + 1) q) (sym (get_or-set_same links at (get_or heads y 0) 0 v ∙ ap (λ q. get_or heads q 0) (sym z))) (linked.first x g)))
-                (λ u. subst (λ q. First ks ps x (p + 1) q) (sym (get_or-set_other links at p (get_or heads y 0) 0 (λ e. omega (arith, u, e)))) (linked.later x p g (omega (arith, u)) m))
+                subst (λ q. First ks ps x (q + 1) (get_or (set mentions at (get_or heads y 0)) q 0)) e
+                (subst (λ q. First ks ps x (at + 1) q) (sym (get_or-set_same mentions at (get_or heads y 0) 0 v ∙ ap (λ q. get_or heads q 0) (sym z))) (linked.first x g)))
+                (λ u. subst (λ q. First ks ps x (p + 1) q) (sym (get_or-set_other mentions at p (get_or heads y 0) 0 (λ e. omega (arith, u, e)))) (linked.later x p g (omega (arith, u)) m))
                 (eq-or-lt_of_le {n = at} {m = p} l)
-
-  -- the place of the node before, as the loop names it
-  pub one_down : (left : ℕ) (heads links : List ℕ) → 0 < left → Linked ks ps left heads links → Linked ks ps (left - 1 + 1) heads links
-  one_down left heads links h l = let e : left ≡ left - 1 + 1 = omega (arith, h) in subst (λ n. Linked ks ps n heads links) e l
-
-  -- the index depends on the entries for the nodes alone
-  pub linked_same : (at : ℕ) (heads links links' : List ℕ) → ((p : ℕ) → p < length ks → get_or links' p 0 ≡ get_or links p 0)
-      → Linked ks ps at heads links → Linked ks ps at heads links'
-  linked_same at heads links links' same l =
-      record { first = l.first; later = λ x p h a m. subst (λ q. First ks ps x (p + 1) q) (sym (same p m.within)) (l.later x p h a m) }

@@ -8,21 +8,13 @@ use native.Mathlib.Omega.{arith}
 use native.Mathlib.Nat.{eq-or-lt_of_le}
 use borrow.Author.Tests.{eqb-true, eqb-false}
 use lib.Dec.{eqb}
-use lib.ListN.{length, get_or, set}
-use lib.Seq.{get_or-set_same, get_or-set_other}
-use Rattle.waiting.specs.Index.{Owning, Owners, owner_in}
+use lib.ListN.{get_or}
+use Rattle.waiting.specs.Index.{Owning, Owners}
 
 -- the owners below a place, and the last assignment or if-then there
 pub record Owned (ks : List ℕ) (at to last : ℕ) (owner : ℕ → ℕ) : Type 0 where
   pub latest : (o : ℕ) → at ≤ o → o < to → Owning (get_or ks o 0) → ((q : ℕ) → o < q → q < to → Owning (get_or ks q 0) → ⊥) → last ≡ o
   pub owners : Owners ks at to owner
-
-pub owned_begins : (ks : List ℕ) (at last : ℕ) (owner : ℕ → ℕ) → Owned ks at at last owner
-owned_begins ks at last owner =
-    record {
-      latest = λ o l u. absurd (omega (arith, l, u));
-      owners = record { exact = λ p o l u w. absurd (omega (arith, l, u, w.before)); within = λ p l u. absurd (omega (arith, l, u)) };
-    }
 
 module _ (ks : List ℕ) (at here last : ℕ) (owner : ℕ → ℕ) (o : Owned ks at here last owner) (below : last ≤ here) (r : ℕ)
     (assigns : get_or ks here 0 ≡ 17 → r ≡ here) (tests : get_or ks here 0 ≡ 18 → r ≡ here)
@@ -70,14 +62,3 @@ module _ (ks : List ℕ) (at here last : ℕ) (owner : ℕ → ℕ) (o : Owned k
                   (eq-or-lt_of_le {n = p} {m = here} (omega (arith, u)));
             };
       }
-
--- an owner stored past the entries for the mentions
-module _ (nodes here r : ℕ) (links : List ℕ) where
-  pub stored_here : nodes + here < length links → owner_in nodes (set links (nodes + here) r) here ≡ r
-  stored_here l = get_or-set_same links (nodes + here) r 0 l
-
-  pub stored_other : (p : ℕ) → p < here → owner_in nodes (set links (nodes + here) r) p ≡ owner_in nodes links p
-  stored_other p l = get_or-set_other links (nodes + here) (nodes + p) r 0 (λ e. omega (arith, l, e))
-
-  pub mentions_stay : (p : ℕ) → p < nodes → get_or (set links (nodes + here) r) p 0 ≡ get_or links p 0
-  mentions_stay p l = get_or-set_other links (nodes + here) p r 0 (λ e. omega (arith, l, e))

@@ -2,8 +2,8 @@
 
 #![tactic(auto)]
 
-ghost use Rattle.std.specs.Prelude.{◌≡◌, ℕ, ◌<◌, ◌≤◌, ◌+◌, length, get_or};
-ghost use Rattle.waiting.specs.Index.{Linked, Owners, Indexed, owner_in};
+ghost use Rattle.std.specs.Prelude.{◌≡◌, ◌<◌, ◌≤◌, ◌+◌, length, get_or};
+ghost use Rattle.waiting.specs.Index.{Linked, Owners, Indexed};
 
 use kinds::Kind;
 use syntax::{Tree, nodes};
@@ -18,27 +18,25 @@ fn latest(kind: u8, here: usize, last: usize) -> usize
     }
 }
 
-// The owner of each node from the assertion on, past the entries for the mentions, which stay.
-fn own(kinds: &[u8], assertion: usize, links: &mut [u16])
-    requires { (length links.old ≡ length kinds.now + length kinds.now) × (length kinds.now < 65536) × (assertion ≤ length kinds.now) }
-    ensures { Owners kinds.now assertion (length kinds.now) (owner_in (length kinds.now) links.new)
-        × ((p : ℕ) → p < length kinds.now → get_or links.new p 0 ≡ get_or links.old p 0) }
+// The owner of each node from the assertion on. By index: over a part of each slice the places would count from the assertion, and of what
+// is written through a `zip` of `iter_mut` a proof knows nothing afterwards.
+fn own(kinds: &[u8], assertion: usize, owners: &mut [u16])
+    requires { (length owners.old ≡ length kinds.now) × (length kinds.now < 65536) × (assertion ≤ length kinds.now) }
+    ensures { Owners kinds.now assertion (length kinds.now) (λ p. get_or owners.new p 0) }
 {
-    let nodes = kinds.len();
     let mut owner = assertion;
-    for here in assertion..nodes {
+    for here in assertion..kinds.len() {
         owner = latest(kinds[here], here, owner);
-        links[nodes + here] = owner as u16;
+        owners[here] = owner as u16;
     }
 }
 
-// A node that mentions a variable becomes its first mention, before the one that was first. The two slices stay apart: `index` alone
-// takes both besides, and its caller lends each on by itself.
-fn mention(tree: &Tree<'_>, heads: &mut [u16], links: &mut [u16], at: usize)
-    requires { (length links.old ≡ length tree.now.kinds.now + length tree.now.kinds.now) × (length tree.now.parameters.now ≡ length tree.now.kinds.now)
+// A node that mentions a variable becomes its first mention, before the one that was first.
+fn mention(tree: &Tree<'_>, heads: &mut [u16], mentions: &mut [u16], at: usize)
+    requires { (length mentions.old ≡ length tree.now.kinds.now) × (length tree.now.parameters.now ≡ length tree.now.kinds.now)
         × (length tree.now.kinds.now < 65536) × (at < length tree.now.kinds.now) }
-    ensures { Linked tree.now.kinds.now tree.now.parameters.now (at + 1) heads.old links.old
-        → Linked tree.now.kinds.now tree.now.parameters.now at heads.new links.new }
+    ensures { Linked tree.now.kinds.now tree.now.parameters.now (at + 1) heads.old mentions.old
+        → Linked tree.now.kinds.now tree.now.parameters.now at heads.new mentions.new }
 {
     if !kinds::stands_for(tree.kinds[at], Kind::Variable) {
         return;
@@ -47,20 +45,26 @@ fn mention(tree: &Tree<'_>, heads: &mut [u16], links: &mut [u16], at: usize)
     if heads.len() <= variable {
         return;
     }
-    links[at] = heads[variable];
+    mentions[at] = heads[variable];
     heads[variable] = at as u16;
 }
 
 // The first mention of each variable from the assertion on, after each mention the next of the same variable, and the owners.
-pub fn index(tree: &Tree<'_>, assertion: usize, heads: &mut [u16], links: &mut [u16])
-    requires { (length links.old ≡ length tree.now.kinds.now + length tree.now.kinds.now) × (length tree.now.parameters.now ≡ length tree.now.kinds.now)
-        × (length tree.now.kinds.now < 65536) × (assertion ≤ length tree.now.kinds.now) }
-    ensures { Indexed tree.now.kinds.now tree.now.parameters.now assertion (length heads.old) heads.new links.new }
+pub fn index(
+    tree: &Tree<'_>,
+    assertion: usize,
+    heads: &mut [u16],
+    mentions: &mut [u16],
+    owners: &mut [u16],
+)
+    requires { (length mentions.old ≡ length tree.now.kinds.now) × (length owners.old ≡ length tree.now.kinds.now)
+        × (length tree.now.parameters.now ≡ length tree.now.kinds.now) × (length tree.now.kinds.now < 65536) × (assertion ≤ length tree.now.kinds.now) }
+    ensures { Indexed tree.now.kinds.now tree.now.parameters.now assertion (length heads.old) heads.new mentions.new owners.new }
 {
     let n = tree.kinds.len();
     heads.fill(n as u16);
     for at in (assertion..n).rev() {
-        mention(tree, heads, links, at);
+        mention(tree, heads, mentions, at);
     }
-    own(tree.kinds, assertion, links);
+    own(tree.kinds, assertion, owners);
 }

@@ -1,5 +1,5 @@
 -- An active assignment: the flags and the cell.
-use Rattle.std.proofs.Common.{Option, Some, None, get_or, int_eq}
+use Rattle.std.proofs.Common.{Option as Optional, Some, None, get_or, int_eq}
 use Rattle.std.specs.Option.{option_eq}
 use Rattle.std.specs.Bool.{one_answer}
 use Rattle.std.specs.Cmp.{signed_Decides}
@@ -24,12 +24,12 @@ same_test : (w v : ℤ) → int_eq w v ≡ eq_z v w
 same_test w v =
     one_answer (int_eq w v) (eq_z v w) (signed_Decides w v) (λ h. sym (eq_z_true v w h), λ e. subst (λ z. eq_z z w ≡ true) e (eq_z_refl w))
 
-module _ (lows highs : List ℤ) (given : List (Option ℤ)) (x : ℕ) {v : ℤ} (f : SFits w32 v) (found : Gathered)
+module _ (lows highs : List ℤ) (given : List (Optional ℤ)) (x : ℕ) {v : ℤ} (f : SFits w32 v) (found : Gathered)
     {within : Bool} (told : within ≡ within_ends lows highs x (to_z w32 (of_z w32 v))) where
   inside : within ≡ within_ends lows highs x v
   inside = told ∙ read_one (within_ends lows highs x) f
 
-  pub keeps : (c : Option ℤ) → get_or given x None ≡ c → (c ≡ None → ⊥) → {t : Bool} → t ≡ not (option_eq int_eq c (Some (to_z w32 (of_z w32 v))))
+  pub keeps : (c : Optional ℤ) → get_or given x None ≡ c → (c ≡ None → ⊥) → {t : Bool} → t ≡ not (option_eq int_eq c (Some (to_z w32 (of_z w32 v))))
       → gathering (record { failed = found.failed; outside = found.outside || not within; conflict = found.conflict || t; fresh = found.fresh }) given
       ≡ gather lows highs (gives x v) (gathering found given)
   unfolding gather taken

@@ -30,8 +30,8 @@ nothing_found = record { failed = false; outside = false; conflict = false; fres
 abbrev pub failing : Gathered → Gathered
 failing f = record { failed = true; outside = f.outside; conflict = f.conflict; fresh = f.fresh }
 
--- a value for a variable whose cell holds this: one that has a value keeps it, and a value that differs is a conflict; one that has none
--- takes the value given
+-- a value given to a variable whose cell holds this: a value that is there stays, and one given that differs is a conflict; where there is
+-- none, the value given is stored
 unfoldable pub taken : List ℤ → List ℤ → ℕ → ℤ → Optional ℤ → Gathering → Gathering
 taken lows highs x v (Some held) g =
     gathering

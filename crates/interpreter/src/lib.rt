@@ -19,7 +19,8 @@ pub enum Fault {
 }
 
 // What was found in going over an instruction, nothing by default; `fresh`: a variable without a value was given one. Each class of fault has
-// its flag, which is set without asking what was found before.
+// its flag, which is set without asking what was found before: as one Option, of which the greatest is kept, the classes would have to be
+// ordered against their numbers.
 #[derive(Clone, Copy, PartialEq, Eq, Debug, Default)]
 pub struct Gathered {
     pub failed: bool,

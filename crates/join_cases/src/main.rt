@@ -59,7 +59,7 @@ fn load_members(stored: &[u8], members: &mut [usize])
 }
 
 // The answer of a case is the length of the new model.
-impl Case for Head {
+impl Case<16> for Head {
     ghost size = { λ head. head.model + 8 * head.mandatory + 8 * head.optional + head.file };
 
     fn body_length(self) -> usize {
@@ -96,6 +96,6 @@ fn main(rt: HostRuntime) -> io::Result<()> {
     let mut file = File::open(&rt, "cases")?;
     let mut buffer = [0u8; 65536];
     cases::run(&rt, "joins", || {
-        cases::next_case::<Head, _, _>(&rt, &mut file, &mut buffer)
+        cases::next_case::<16, Head, _, _>(&rt, &mut file, &mut buffer)
     })
 }

@@ -95,7 +95,7 @@ impl Kind {
         self as u8
     }
 
-    // The sort of the operands of an operator.
+    // The sort of the operands of an operator; of another kind the answer means nothing.
     #[tactic(auto, unfolding(crate::specs::Kinds::operand_sort))]
     pub fn operand_sort(self) -> Sort
         ensures { result ≡ operand_sort (code_of self) }
@@ -107,7 +107,7 @@ impl Kind {
         }
     }
 
-    // The operator of a kind with two operands.
+    // The operator of a kind with two operands; of another the answer means nothing.
     #[tactic(auto, unfolding(crate::specs::Kinds::operator_of))]
     pub fn operator(self) -> Operator
         ensures { result ≡ operator_of (code_of self) }

@@ -44,7 +44,7 @@ pub struct Row {
 pub fn row_of(kind: u8) -> Row
     ensures { result ≡ row_of kind }
 {
-    table::ROWS[kind as usize]
+    table::ROWS[usize::from(kind)]
 }
 
 // Does the byte stand for this kind.
@@ -64,7 +64,8 @@ pub fn operand_sort(kind: u8) -> Sort
     }
 }
 
-// The operator of kinds 36 to 45 and 47; it and the one before differ in what they call.
+// The operator of kinds 36 to 45 and 47; it and the one before differ in what they call. Of another byte the answer means nothing: who
+// asks knows the kind, and an Option would be taken apart again at every evaluation.
 pub fn operator_of(kind: u8) -> Operator
     ensures { result ≡ operator_of kind }
 {

@@ -7,9 +7,13 @@ use native.Mathlib.Nat.{le_refl}
 use native.Mathlib.Omega.{arith}
 use borrow.Author.Tests.{ltb-true, ltb-false, lt-ltb, le-ltb, le-leb}
 use lib.Dec.{ltb}
-use lib.ListN.{length, get_or, length-append}
+use lib.IntN.{ℤ, pos, negsuc}
+use lib.ListN.{length, get_or}
+use lib.Signed.{mag}
+use Rattle.std.specs.Fmt.{decimal as printed, signed_decimal as printed_z}
+use Rattle.std.proofs.lemmas.Fmt.{decimal_by_steps, length-decimal-le}
 use Rattle.ascii.specs.Ascii.{is_digit, are_digits, value_after}
-use Rattle.lines.specs.Lines.{digit, digits, decimal}
+use Rattle.lines.specs.Lines.{digit, digits, decimal, signed_decimal}
 use Rattle.lines.specs.Theorems.{IsDecimal, DecimalRight}
 
 -- ---- a number of one digit, and one of more
@@ -38,6 +42,19 @@ unfolding decimal digits
 decimal_large zero h = absurd (omega arith)
 decimal_large (suc n) h =
     rw (le-ltb (suc n) 10 h, enough n (suc n / 10) (suc n / 10) (omega arith) (le_refl (suc n / 10)))
+
+-- ---- the library's text
+
+pub printed_decimal : (n : ℕ) → n < 2 ^ 64 → printed n ≡ decimal n
+printed_decimal =
+    decimal_by_steps (λ n text. text ≡ decimal n)
+    (λ n h. let last : 48 + n ≡ digit n = omega arith in rw (decimal_small n h, last))
+    (λ n text h e. rw (decimal_large n h, e))
+
+pub printed_signed : (v : ℤ) → mag v < 2 ^ 31 → printed_z v ≡ signed_decimal v
+unfolding signed_decimal
+printed_signed (pos n) h = printed_decimal n (omega arith)
+printed_signed (negsuc n) h = rw (printed_decimal (suc n) (omega arith))
 
 -- induction on the digits
 module _ (P : ℕ → Type 0) (small : (n : ℕ) → n < 10 → P n) (large : (n : ℕ) → 10 ≤ n → P (n / 10) → P n) where
@@ -100,12 +117,5 @@ decimal_right =
 
 -- ---- the length
 
-pub decimal_length : (k n : ℕ) → n < 10 ^ suc k → length (decimal n) ≤ suc k
-decimal_length zero n h = rw (decimal_small n h) (omega arith)
-decimal_length (suc k) n h = by (ltb n 10) refl (decimal_length k (n / 10))
-  where
-    by : (t : Bool) → ltb n 10 ≡ t → (n / 10 < 10 ^ suc k → length (decimal (n / 10)) ≤ suc k) → length (decimal n) ≤ suc (suc k)
-    by true e shorter = rw (decimal_small n (ltb-true n 10 e)) (omega arith)
-    by false e shorter =
-        let less : length (decimal (n / 10)) ≤ suc k = shorter (omega arith) in
-        rw (decimal_large n (ltb-false n 10 e)) (simp length-append (omega arith))
+pub decimal_length : (k n : ℕ) → n < 10 ^ suc k → n < 2 ^ 64 → length (decimal n) ≤ suc k
+decimal_length k n h fits = rw (← printed_decimal n fits) (length-decimal-le (suc k) n (omega arith) h fits)

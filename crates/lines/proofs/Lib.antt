@@ -2,5 +2,4 @@
 pub mod Decimal
 pub mod Room
 pub mod Taping
-pub mod Signed
 pub mod Lines

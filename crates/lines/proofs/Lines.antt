@@ -4,10 +4,12 @@ use Rattle.std.specs.Prelude.{option_to_list}
 use borrow.Author.Tests.{ltb-false, le-ltb}
 use lib.Dec.{ltb}
 use lib.ListN.{length-append}
+use Rattle.std.specs.Fmt.{decimal as printed}
 use Rattle.results.specs.Results.{over}
 use Rattle.tapes.specs.Tapes.{Tape, tape, put, put_all}
 use Rattle.tapes.proofs.Tapes.{put_append, put_over}
 use Rattle.lines.specs.Lines.{ok_word, refusal_word, decimal, spaced, line, written_into, line_into}
+use Rattle.lines.proofs.Decimal.{printed_decimal}
 use Rattle.lines.proofs.Room.{count_length, byte_length}
 
 -- ---- the test for room
@@ -23,9 +25,9 @@ module _ (old text : List ℕ) (asked : ℕ) {short : Bool} (e : short ≡ ltb (
 -- ---- a number, if there is one
 
 module _ {number : Option ℕ} where
-  pub some_put : {n : ℕ} (old : Tape ℕ) {new : Tape ℕ} → number ≡ Some n → new ≡ put_all (32 ∷ decimal n) old → new ≡ put_all (spaced (map decimal (option_to_list number))) old
+  pub some_put : {n : ℕ} (old : Tape ℕ) {new : Tape ℕ} → n < 2 ^ 64 → number ≡ Some n → new ≡ put_all (32 ∷ printed n) old → new ≡ put_all (spaced (map decimal (option_to_list number))) old
   unfolding spaced
-  some_put {n} old e p = rw (e, append-nil (decimal n)) p
+  some_put {n} old h e p = rw (e, append-nil (decimal n), ← printed_decimal n h) p
 
   pub nothing_put : {old : Tape ℕ} → number ≡ None → old ≡ put_all (spaced (map decimal (option_to_list number))) old
   unfolding spaced put_all
@@ -82,7 +84,3 @@ module _ (n : ℕ) where
   pub refusal_fits : {k : ℕ} → k ≡ n → n < 2 ^ 8 → length refusal_word + length (spaced (map decimal (option_to_list (Some k)))) < 24
   unfolding spaced
   refusal_fits e h = rw (e, append-nil (decimal n)) (omega (arith, byte_length n h))
-
-pub none_fits : (word : List ℕ) → length word < 24 → length word + length (spaced (map decimal (option_to_list None))) < 24
-unfolding spaced
-none_fits word h = omega arith

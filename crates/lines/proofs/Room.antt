@@ -18,8 +18,8 @@ use Rattle.lines.proofs.Decimal.{decimal_length}
 
 pub signed_length : (v : ℤ) → mag v < 2 ^ 31 → length (signed_decimal v) < 12
 unfolding signed_decimal
-signed_length (pos n) h = omega (arith, decimal_length 9 n (omega arith))
-signed_length (negsuc n) h = omega (arith, decimal_length 9 (suc n) (omega arith))
+signed_length (pos n) h = omega (arith, decimal_length 9 n (omega arith) (omega arith))
+signed_length (negsuc n) h = omega (arith, decimal_length 9 (suc n) (omega arith) (omega arith))
 
 representable_mag : (v : ℤ) → representable v ≡ true → mag v < 2 ^ 31
 representable_mag (pos n) h = omega (arith, leb-true n 2147483647 h)
@@ -46,13 +46,10 @@ line_length word fields = simp length-append
 
 -- the digits of a byte, and of a number of 64 bits
 pub byte_length : (n : ℕ) → n < 2 ^ 8 → length (decimal n) < 4
-byte_length n h = omega (arith, decimal_length 2 n (omega arith))
+byte_length n h = omega (arith, decimal_length 2 n (omega arith) (omega arith))
 
 pub count_length : (n : ℕ) → n < 2 ^ 64 → length (decimal n) < 21
-count_length n h = omega (arith, decimal_length 19 n (omega arith))
-
-pub size_length : (n : ℕ) → n ≤ 2147483648 → length (decimal n) < 11
-size_length n h = omega (arith, decimal_length 9 n (omega arith))
+count_length n h = omega (arith, decimal_length 19 n (omega arith) (omega arith))
 
 values_length : (values : List ℤ) → Numbers values → length (spaced (map signed_decimal values)) ≤ 12 * length values
 values_length values h =

@@ -1,26 +1,14 @@
 -- What is written on a tape: numbers, and fields one after another, each after a space.
 use mathlib.Core.Path.{◌≡◌, sym, ap, ◌∙◌}
-use mathlib.Core.List.{List, [], ◌∷◌, ◌++◌, map}
-use Prim.Native.Nat.{ℕ, ◌+◌, ◌*◌, ◌/◌, ◌≤◌, ◌<◌}
+use mathlib.Core.List.{List, ◌∷◌, ◌++◌, map}
+use Prim.Native.Nat.{ℕ, ◌+◌, ◌*◌, ◌≤◌, ◌<◌}
 use native.Mathlib.Numerals.{add-one}
 use native.Mathlib.Omega.{arith}
 use lib.ListN.{length, get_or, drop, drop_of_length-le, length-append}
 use lib.Seq.{drop-cons}
-use Rattle.tapes.specs.Tapes.{Tape, put, put_all}
+use Rattle.tapes.specs.Tapes.{Tape, put_all}
 use Rattle.tapes.proofs.Tapes.{put_append}
-use Rattle.lines.specs.Lines.{digit, decimal, spaced}
-use Rattle.lines.proofs.Decimal.{decimal_small, decimal_large}
-
--- ---- numbers
-
-module _ (n : ℕ) where
-  pub one_digit_put : (old : Tape ℕ) {new : Tape ℕ} → n < 10 → new ≡ put (digit n) old → new ≡ put_all (decimal n) old
-  unfolding put_all
-  one_digit_put old h e = rw (decimal_small n h) e
-
-  pub last_digit_put : (old : Tape ℕ) {mid new : Tape ℕ} → 10 ≤ n → mid ≡ put_all (decimal (n / 10)) old → new ≡ put (digit n) mid → new ≡ put_all (decimal n) old
-  unfolding put_all
-  last_digit_put old h m e = rw (decimal_large n h) (e ∙ ap (put (digit n)) m ∙ sym (put_append (decimal (n / 10)) (digit n ∷ []) old))
+use Rattle.lines.specs.Lines.{spaced}
 
 -- ---- fields
 

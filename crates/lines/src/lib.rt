@@ -9,6 +9,7 @@ ghost use Rattle.lines.specs.Lines.{decimal, signed_decimal, spaced, line, ok_te
 ghost use Rattle.lines.specs.Lines.{base_width, room, value_width, mark_width, written_into, line_into};
 ghost use Rattle.tapes.specs.Tapes.{tape_in, put_all};
 
+use itoa::{Buffer, Integer};
 use tapes::Tape;
 
 // `ok`, a space, 20 digits and the line feed.
@@ -42,14 +43,9 @@ impl Field for i32 {
 
     ghost is_some_width = { Prim.search rules };
 
+    #[tactic(auto, using(crate::proofs::Decimal::printed_signed, crate::proofs::Room::signed_length))]
     fn put(self, tape: &mut Tape<'_, u8>) {
-        let size = self.unsigned_abs() as usize;
-        if self < 0 {
-            tape.put(b" -");
-            put_decimal(size, tape);
-        } else {
-            put_number(size, tape);
-        }
+        put_number(self, tape);
     }
 }
 
@@ -63,35 +59,24 @@ impl Field for u8 {
 
     ghost is_some_width = { Prim.search rules };
 
+    #[tactic(auto, using(crate::proofs::Decimal::printed_decimal, crate::proofs::Room::byte_length))]
     fn put(self, tape: &mut Tape<'_, u8>) {
-        put_number(usize::from(self), tape);
+        put_number(self, tape);
     }
 }
 
-// Writes the digits of n.
-fn put_decimal(n: usize, tape: &mut Tape<'_, u8>)
-    ensures put { tape_in tape.new ≡ put_all (decimal n) (tape_in tape.old) }
-    ensures same_cells { tape.new.cells.ghost_name ≡ tape.old.cells.ghost_name }
-{
-    let last = b'0' + (n % 10) as u8;
-    if n < 10 {
-        tape.put_one(last);
-    } else {
-        put_decimal(n / 10, tape);
-        tape.put_one(last);
-    }
-}
-
-// Writes a space and the digits of n.
-fn put_number(n: usize, tape: &mut Tape<'_, u8>)
-    ensures put { tape_in tape.new ≡ put_all (space_byte ∷ decimal n) (tape_in tape.old) }
+// Writes a space and the number.
+#[tactic(auto, unfolding(tapes::specs::Tapes::put_all))]
+fn put_number<N: Integer>(n: N, tape: &mut Tape<'_, u8>)
+    ensures put { tape_in tape.new ≡ put_all (space_byte ∷ N.text n) (tape_in tape.old) }
     ensures same_cells { tape.new.cells.ghost_name ≡ tape.old.cells.ghost_name }
 {
     tape.put_one(b' ');
-    put_decimal(n, tape);
+    tape.put(Buffer::new().format(n).as_bytes());
 }
 
 // Writes the number, if there is one, after a space.
+#[tactic(auto, using(crate::proofs::Lines::nothing_put))]
 fn put_some(number: Option<usize>, tape: &mut Tape<'_, u8>)
     ensures put { tape_in tape.new ≡ put_all (spaced (map decimal (option_to_list number))) (tape_in tape.old) }
     ensures same_cells { tape.new.cells.ghost_name ≡ tape.old.cells.ghost_name }
@@ -102,6 +87,7 @@ fn put_some(number: Option<usize>, tape: &mut Tape<'_, u8>)
 }
 
 // Writes each field after a space.
+#[tactic(auto, using(crate::proofs::Taping::all_put))]
 fn put_fields<T: Field>(fields: &[T], tape: &mut Tape<'_, u8>)
     ensures put { tape_in tape.new ≡ put_all (spaced (map T.text fields.now)) (tape_in tape.old) }
     ensures upper_bound { length (spaced (map T.text fields.now)) ≤ T.WIDTH * length fields.now }
@@ -113,6 +99,7 @@ fn put_fields<T: Field>(fields: &[T], tape: &mut Tape<'_, u8>)
 }
 
 // Is a slice of this length too short for a line with so many fields?
+#[tactic(auto, using(crate::proofs::Room::short_of_header, crate::proofs::Room::short_of_numbers))]
 pub fn is_short<T: Field>(length: usize, number: usize) -> bool
     ensures { result ≡ ltb length (room T.WIDTH number) }
 {
@@ -124,6 +111,7 @@ pub fn is_short<T: Field>(length: usize, number: usize) -> bool
 
 // A word, a number, if there is one, and fields: how many bytes the line has; none, with nothing stored, if the slice is too
 // short.
+#[tactic(auto, using(crate::proofs::Lines::too_short_lem))]
 fn write_line<T: Field>(
     word: &[u8],
     number: Option<usize>,
@@ -146,6 +134,7 @@ fn write_line<T: Field>(
 }
 
 // `ok`, the round count, the values.
+#[tactic(auto, using(crate::proofs::Lines::ok_fits), unfolding(crate::specs::Lines::ok_text))]
 pub fn ok_line(count: usize, values: &[i32], out: &mut [u8]) -> Option<usize>
     ensures { written_into result out.new ≡ line_into (room value_width (length values.now)) (ok_text count values.now) out.old }
 {
@@ -153,6 +142,7 @@ pub fn ok_line(count: usize, values: &[i32], out: &mut [u8]) -> Option<usize>
 }
 
 // `back`, the values.
+#[tactic(auto, unfolding(crate::specs::Lines::back_text, crate::specs::Lines::spaced))]
 pub fn back_line(values: &[i32], out: &mut [u8]) -> Option<usize>
     ensures { written_into result out.new ≡ line_into (room value_width (length values.now)) (back_text values.now) out.old }
 {
@@ -160,6 +150,7 @@ pub fn back_line(values: &[i32], out: &mut [u8]) -> Option<usize>
 }
 
 // `m`, the marks.
+#[tactic(auto, unfolding(crate::specs::Lines::marks_text, crate::specs::Lines::spaced))]
 pub fn marks_line(marks: &[u8], out: &mut [u8]) -> Option<usize>
     ensures { written_into result out.new ≡ line_into (room mark_width (length marks.now)) (marks_text marks.now) out.old }
 {
@@ -167,6 +158,7 @@ pub fn marks_line(marks: &[u8], out: &mut [u8]) -> Option<usize>
 }
 
 // `no`, the number.
+#[tactic(auto, using(crate::proofs::Lines::refusal_fits), unfolding(crate::specs::Lines::refusal_text))]
 pub fn refusal_line(number: u8, out: &mut [u8]) -> Option<usize>
     ensures { written_into result out.new ≡ line_into (room mark_width 0) (refusal_text number) out.old }
 {

@@ -1,5 +1,6 @@
 -- The marks of a run: the cells that the guards are evaluated over hold the values in use, and the marks are written one after another.
 use mathlib.Core.Path.{◌≡◌, refl, sym, ap, ap₂, ◌∙◌}
+use mathlib.Core.Bool.{Bool, true, false, cond}
 use mathlib.Core.List.{List, [], ◌∷◌, ◌++◌, append-nil}
 use Prim.Native.Nat.{ℕ, zero, suc, ◌+◌, ◌≤◌, ◌<◌}
 use native.Mathlib.Numerals.{add-one}
@@ -7,7 +8,11 @@ use native.Mathlib.Omega.{arith}
 use lib.IntN.{ℤ}
 use lib.ListN.{length, get_or, take, drop, set, replicate, length-replicate, length-take, drop_of_length-le}
 use lib.Seq.{length-take-le, set_at, drop-cons, append_snoc}
+use mir.Val.{bool_byte}
 use Rattle.evaluation.specs.declared.Evaluation.{Evaluation}
+use Rattle.evaluation.specs.declared.Evaluation.TheVariants.{Unknown, Failed, Value}
+use Rattle.evaluation.specs.Numbers.{eq_z, boolean}
+use Rattle.evaluation.specs.Meaning.{is_true}
 use Rattle.results.specs.Results.{over}
 use Rattle.scratch.specs.Blank.{unknown_cell}
 use Rattle.expressions.specs.Cells.{valuation_of}
@@ -22,6 +27,19 @@ use Rattle.engine.specs.Cells.{Loaded}
 use Rattle.engine.proofs.Counts.{meaning}
 use Rattle.marking.specs.Marks.{mark_of, marks_from, marks_over}
 use Rattle.variables.specs.declared.VariableRow.{VariableRow}
+
+-- ---- one mark
+
+byte : (b : Bool) → bool_byte b ≡ cond b 1 0
+byte true = refl
+byte false = refl
+
+-- where the guard did not fail
+pub marked_by_truth : {b : Bool} {n : ℕ} (g : Evaluation) → (g ≡ Failed → ⊥) → b ≡ is_true g → n ≡ bool_byte b → n ≡ mark_of g
+unfolding mark_of is_true
+marked_by_truth Unknown f t h = h ∙ ap bool_byte t
+marked_by_truth Failed f t h = absurd (f refl)
+marked_by_truth (Value v) f t h = h ∙ ap bool_byte t ∙ byte (eq_z v (boolean true))
 
 -- ---- the marks, one after another
 

@@ -11,13 +11,13 @@ use engine::{DecodedModel, transitions};
 use evaluation::Evaluation;
 
 // 1 true, 0 false, 2 failed.
+#[tactic(auto, unfolding(crate::specs::Marks::mark_of), using(crate::proofs::MarksWritten::marked_by_truth))]
 pub fn mark_of(guard: Evaluation) -> u8
     ensures { result ≡ mark_of guard }
 {
     match guard {
-        Evaluation::Unknown => 0,
         Evaluation::Failed => 2,
-        Evaluation::Value(value) => u8::from(value == 1),
+        _ => u8::from(guard.is_true()),
     }
 }
 

@@ -70,13 +70,8 @@ impl Model {
 
     pub const MAX_TRANSITIONS: usize = 255;
 
-    // Two for each node.
-    pub const MAX_LINKS: usize = 8000;
-
     // A model is small up to here: fewer cells have to be set for it.
     pub const FEW_NODES: usize = 1024;
-
-    pub const FEW_LINKS: usize = 2048;
 
     pub const FEW_VARIABLES: usize = 256;
 
@@ -90,7 +85,8 @@ impl Model {
     pub const HEADER: usize = 6;
 }
 
-// What a walk over a variable tells: its sort, ends and first value, and the place of the next node.
+// What a walk over a variable tells: its sort, ends and first value, and the place of the next node. The check reads the sort and the place
+// alone; the others are what its promise says of the nodes.
 #[derive(Clone, Copy, PartialEq, Eq, Debug)]
 pub struct Declaration {
     pub sort: Sort,

@@ -7,7 +7,8 @@ ghost use Rattle.results.specs.Results.{over};
 ghost use Rattle.results.specs.Results as results;
 ghost use Rattle.scratch.specs.Blank.{unknown_cell};
 ghost use Rattle.engine.specs.Lent.{OnLoadedIn};
-ghost use Rattle.standing.specs.Runs.{run, answered};
+ghost use Rattle.standing.specs.Runs.{moving_run, answered};
+ghost use Rattle.standing.specs.Lent.{SameRun};
 ghost use Rattle.marking.specs.Marks.{marks_over};
 ghost use Rattle.replaying.specs.Replays.{is_fired};
 ghost use Rattle.replaying.specs.Moves.{HasEntries, moved};
@@ -16,13 +17,13 @@ ghost use Rattle.steps.specs.Lent.{cells_left};
 ghost use Rattle.steps.specs.Answers.{seen_as, told_by};
 ghost use Rattle.moving.specs.Lent.{RoomFor};
 
-use engine::{DecodedModel, LoadedModel};
+use engine::{DecodedModel, LoadedModel, Work};
 use interpreter::Gathered;
 use reading::Gathering;
 use replaying::Move;
 use results::Refusal;
 use semantics::Firing;
-use standing::Run;
+use standing::{Declared, MovingRun, Run};
 use steps::moves;
 
 // The move over these values, worked out in arrays that are declared here.
@@ -52,8 +53,12 @@ fn replay_within<const NODES: usize, const VARIABLES: usize>(
         waits: &mut waits[..loaded.decoded.tables.kinds.len()],
         pending: 0,
     };
-    let states = &mut states[..count];
-    replaying::replay(loaded, states, cells, &mut gathering, values, run, step)
+    let mut work = Work {
+        states: &mut states[..count],
+        cells,
+        gathering: &mut gathering,
+    };
+    replaying::replay(loaded, &mut work, values, run, step)
 }
 
 // If the move was fired to its end, the values become the new ones, and the marks those of the new values.
@@ -62,44 +67,42 @@ fn conclude(
     decoded: &DecodedModel<'_>,
     new: &[i32],
     cells: &mut [Option<i32>],
-    values: &mut [i32],
-    marks: &mut [u8],
+    run: &mut MovingRun<'_>,
 )
-    requires { (length new.now ≡ length decoded.now.tables.variables.now) × (length decoded.now.tables.variables.now ≤ length values.old)
-        × (length decoded.now.tables.guards.now ≤ length marks.old) × (cells.old ≡ replicate (length decoded.now.tables.variables.now) unknown_cell) }
-    ensures stored { values.new ≡ cond (is_fired firing) (over new.now values.old) values.old }
+    requires { (length new.now ≡ length decoded.now.tables.variables.now) × (length decoded.now.tables.variables.now ≤ length run.old.values.now)
+        × (length decoded.now.tables.guards.now ≤ length run.old.marks.now) × (cells.old ≡ replicate (length decoded.now.tables.variables.now) unknown_cell) }
+    ensures stored { run.new.values.now ≡ cond (is_fired firing) (over new.now run.old.values.now) run.old.values.now }
     ensures marked { OnLoadedIn decoded.now.tables (λ m.
-        marks.new ≡ cond (is_fired firing) (marks_over m (over new.now values.old) marks.old) marks.old) }
+        run.new.marks.now ≡ cond (is_fired firing) (marks_over m (over new.now run.old.values.now) run.old.marks.now) run.old.marks.now) }
+    ensures same { SameRun run.old run.new }
 {
     if firing.is_err() {
         return;
     }
+    let values = &mut *run.values;
+    let marks = &mut *run.marks;
     propagation::store(new, values);
     marking::refresh(decoded, values, cells, marks);
 }
 
-// The tests, then the move on a copy of the values: they are replaced only if nothing is refused. Values and marks are no struct: both
-// are lent on at once, which the check of borrows does not cover from one.
+// The tests, then the move on a copy of the values: they are replaced only if nothing is refused.
 pub fn dispatch<const NODES: usize, const VARIABLES: usize>(
     loaded: &LoadedModel<'_>,
-    values: &mut [i32],
-    marks: &mut [u8],
-    history: &[u8],
-    n: usize,
+    run: &mut MovingRun<'_>,
     step: Move,
 ) -> Result<usize, Refusal>
     requires { RoomFor (length loaded.now.decoded.tables.kinds.now) (length loaded.now.decoded.tables.variables.now) NODES VARIABLES }
-    ensures { OnLoadedIn loaded.now.decoded.tables (λ m.
-        answered (seen_as (told_by step) result) (values.new, marks.new) ≡ cells_left (step_on m step (run values.old marks.old history.now n))) }
+    ensures moved { OnLoadedIn loaded.now.decoded.tables (λ m.
+        answered (seen_as (told_by step) result) (run.new.values.now, run.new.marks.now) ≡ cells_left (step_on m step (moving_run run.old))) }
+    ensures same { SameRun run.old run.new }
 {
     let tables = &loaded.decoded.tables;
-    let lent = Run {
-        values,
-        marks,
-        history,
-        count: n,
+    let lent = run.shared();
+    let declared = Declared {
+        transitions: tables.guards.len(),
+        variables: tables.variables,
     };
-    moves::test(tables.guards.len(), tables.variables, &lent, step)?;
+    moves::test(&declared, &lent, step)?;
     let count = tables.variables.len();
     let mut cells = [None; VARIABLES];
     let mut copy = [0i32; VARIABLES];
@@ -107,6 +110,6 @@ pub fn dispatch<const NODES: usize, const VARIABLES: usize>(
     let copy = &mut copy[..count];
     propagation::store(&lent.values[..count], copy);
     let firing = replay_within::<NODES, VARIABLES>(loaded, cells, copy, &lent, step);
-    conclude(firing, &loaded.decoded, copy, cells, values, marks);
+    conclude(firing, &loaded.decoded, copy, cells, run);
     moves::answer_to(step, firing)
 }

@@ -21,7 +21,8 @@ use Rattle.grammar.proofs.Fuel.{then_same, cond_same}
 use Rattle.parser.specs.declared.Level.{Level}
 use Rattle.parser.specs.declared.Level.TheVariants.{Product, Sum, Conjunction, Disjunction}
 use Rattle.parser.specs.Levels.{Next, operand_level, chain_from}
-use Rattle.parser.proofs.Steps.{reader, words_at, level_at, sign_ordinal}
+use Rattle.grammar.proofs.Ordinals.{held_sign}
+use Rattle.parser.proofs.Steps.{reader, words_at, level_at, sign_ordinal, relation_ordinal, held_word, level_call, level_sign, level_negation, level_whole, not_none}
 
 -- an operator of a level is no number and no variable
 pub chained_ordinal : (level : Level) (t : Token) → is_chained (suc (operand_level level)) t ≡ true → 2 < ordinal t
@@ -76,6 +77,15 @@ module _ (text : List ℕ) (at : ℕ) where
   unfolding level_by chain_by chain_from
   grouped_disjunction = level_at text 7 at (lit≤ tt)
 
+  -- the operands of a level, by the level
+  pub operand_sum : (level : Level) → level ≡ Sum
+      → read_level (operand_level level) (words_at text at) ≡ and_then (read_level call_level (words_at text at)) (λ p us. chain_from call_level p us)
+  operand_sum level e = rw e grouped_product
+
+  pub operand_disjunction : (level : Level) → level ≡ Disjunction
+      → read_level (operand_level level) (words_at text at) ≡ and_then (read_level negation_level (words_at text at)) (λ p us. chain_from negation_level p us)
+  operand_disjunction level e = rw e grouped_conjunction
+
   -- at the end of the operators
   pub chain_end : (below : ℕ) (p : Phrase) → words_at text at ≡ [] → chain_from below p (words_at text at) ≡ parsed p (words_at text at)
   unfolding chain_from chain
@@ -104,3 +114,6 @@ module _ (text : List ℕ) (at : ℕ) where
         chain_step
         ∙ then_same (read_sound (9 * length (words_at text next) + suc below) below (words_at text next) h) refl
         (λ q us k. enough below h (length (words_at text next)) (length us) (operation c p q) us (omega arith) (omega arith))
+
+-- what the levels read, for the search
+pub ruleset readings = (level_call, level_sign, level_negation, not_none, level_whole, grouped_product, grouped_sum, grouped_conjunction, grouped_disjunction, operand_sum, operand_disjunction, held_word, held_sign, sign_ordinal, relation_ordinal)

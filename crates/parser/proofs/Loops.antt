@@ -1,4 +1,4 @@
--- Operators that group from the left: what the loops keep, and what the levels above them make of it.
+-- Operators that group from the left: what the loop keeps.
 use mathlib.Core.Path.{◌≡◌, sym, ap, ◌∙◌}
 use mathlib.Core.Bool.{true}
 use mathlib.Core.List.{List}
@@ -9,7 +9,7 @@ use Rattle.kinds.specs.declared.Sort.{Sort}
 use Rattle.grammar.specs.declared.Token.{Token}
 use Rattle.grammar.specs.Phrases.{Phrase, whole_level, is_chained}
 use Rattle.grammar.specs.Phrases.Phrase.{operation}
-use Rattle.grammar.specs.Reading.{and_then, read_level}
+use Rattle.grammar.specs.Reading.{read_level}
 use Rattle.grammar.specs.Reading.Parse.{failed, parsed}
 use Rattle.composition.specs.declared.Node.{Node}
 use Rattle.composition.specs.declared.list.Nodes.{Nodes}
@@ -21,32 +21,13 @@ use Rattle.parser.proofs.Steps.{then_failed, then_parsed, words_at}
 use Rattle.parser.proofs.Grouping.{chain_goes}
 use Rattle.parser.proofs.Places.{two_stand, two_handed}
 
--- ---- a level of such operators, by its first operand
-
-abbrev pub Groups : List ℕ → ℕ → ℕ → ℕ → Type 0
-Groups text at l below =
-    read_level l (words_at text at) ≡ and_then (read_level below (words_at text at)) (λ p us. chain_from below p us)
-
-pub groups_failed : (text : List ℕ) (at l below : ℕ) → Groups text at l below → read_level below (words_at text at) ≡ failed → read_level l (words_at text at) ≡ failed
-groups_failed text at l below g e = g ∙ then_failed (read_level below (words_at text at)) (λ p us. chain_from below p us) e
-
--- read by what follows the first operand
-pub groups_read : (source : Source) (at l below : ℕ) {before : List Node} {others : Nodes} {part : Part} → Groups source.text.now at l below
-    → (a : ReadAs source at before others (read_level below (words_at source.text.now at)) part)
-    → read_level l (words_at source.text.now at) ≡ chain_from below a.phrase (words_at source.text.now part.next)
-groups_read source at l below {part = part} g a =
-    let text = source.text.now in
-    g ∙ then_parsed (read_level below (words_at text at)) (λ p us. chain_from below p us) a.phrase (words_at text part.next) a.reads
-
--- ---- the loop
-
 -- the phrase so far, from which the operators go on as from the first operand
 pub record Further (below : ℕ) (source : Source) (at : ℕ) (before : List Node) (p : Phrase) (first left : Part) (cells : Nodes) : Type 0 where
   pub phrase : Phrase
   pub stands : Stands source.sorts.now (length source.text.now) at before phrase left cells
   pub goes : chain_from below p (words_at source.text.now first.next) ≡ chain_from below phrase (words_at source.text.now left.next)
 
--- what the loop keeps
+-- the same for every beginning
 pub record Grouped (below : ℕ) (source : Source) (old : Nodes) (first : Part) (cells : Nodes) (left : Part) : Type 0 where
   pub handed : Handed source cells left
   pub later : first.next ≤ left.next

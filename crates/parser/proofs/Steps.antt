@@ -4,23 +4,21 @@ use mathlib.Core.Bool.{true, false, true≢false}
 use mathlib.Core.List.{List, [], ◌∷◌}
 use Prim.Native.Nat.{ℕ, suc, ◌+◌, ◌*◌, ◌≤◌, ◌<◌}
 use native.Mathlib.Omega.{arith}
-use lib.Dec.{T, lit≤, lit<}
+use lib.Dec.{lit≤}
 use lib.ListN.{length, drop}
 use Rattle.grammar.specs.declared.Token.{Token}
-use Rattle.grammar.specs.declared.Token.TheVariants.{Number, Variable, True, False, Div, Mod, If, Not, Open, Close, Plus, Minus, Equal, Unequal, Less, LessOrEqual, Greater, GreaterOrEqual}
+use Rattle.grammar.specs.declared.Token.TheVariants.{Not, Plus, Minus, Equal, Unequal, Less, LessOrEqual, Greater, GreaterOrEqual}
 use Rattle.grammar.specs.declared.Word.{Word}
 use Rattle.grammar.specs.Tokens.{ordinal, alike, tokens_of}
-use Rattle.grammar.specs.Phrases.{Phrase, call_level, sum_level, sign_level, relation_level, negation_level, disjunction_level, whole_level, is_sign, is_relation, is_call}
-use Rattle.grammar.specs.Phrases.Phrase.{numeral, truth, variable, enclosed, prefixed, operation}
-use Rattle.grammar.specs.Reading.{Parse, and_then, is_next, after_next, expecting, arguments_by, call_by, prefix_by, related_by, conditional_by, whole_by, level_by, read_level}
+use Rattle.grammar.specs.Phrases.{Phrase, call_level, sum_level, sign_level, relation_level, negation_level, whole_level, is_sign, is_relation}
+use Rattle.grammar.specs.Reading.{Parse, and_then, is_next, call_by, prefix_by, related_by, whole_by, level_by, read_level}
 use Rattle.grammar.specs.Reading.Parse.{failed, parsed}
-use Rattle.grammar.specs.Held.{held, capped, FirstWord}
-use Rattle.grammar.proofs.Ordinals.{same_alike, other_alike, held_ordinal, held_same, held_sign, held_relation}
+use Rattle.grammar.specs.Held.{held, FirstWord}
+use Rattle.grammar.proofs.Ordinals.{other_alike, held_ordinal, held_same}
 use Rattle.grammar.proofs.Found.{Sound}
 use Rattle.grammar.proofs.Found.Sound.{none, found}
 use Rattle.grammar.proofs.Sound.{read_sound}
 use Rattle.grammar.proofs.Fuel.{shorter, level_step}
-use Rattle.grammar.proofs.Complete.{call_begins}
 use Rattle.parser.specs.Levels.{Next}
 
 -- a level with fuel enough, as a reader
@@ -53,6 +51,10 @@ pub then_parsed : (x : Parse) (k : Phrase → List Token → Parse) (p : Phrase)
 unfolding and_then
 then_parsed x k p us e = rw e
 
+-- a word that is no number and no variable is held as itself
+pub held_word : (t : Token) → 2 < ordinal (held t) → held t ≡ t
+held_word t h = held_same t (omega (arith, held_ordinal t))
+
 -- nothing is read where no word is left
 level_none : (l : ℕ) → l ≤ whole_level → read_level l [] ≡ failed
 level_none l h = by (read_sound (9 * length {A = Token} [] + suc l) l [] h)
@@ -75,124 +77,31 @@ module _ (text : List ℕ) where
       let same : w.token ≡ f.token = f.is_held ∙ held_same f.token low in
       record { first = f.first ∙ ap (λ (t : Token). t ∷ words_at w.next) (sym same); after = f.after; within = f.within }
 
-  pub next_is : {at : ℕ} {w : Word} (c : Token) → 2 < ordinal c → FirstWord text at w → w.token ≡ c → Next text c at w.next
-  next_is {w = w} c h f e =
-      let n = next_word f (omega (arith, h, ap ordinal e)) in
-      record { first = n.first ∙ ap (λ (t : Token). t ∷ words_at w.next) e; after = f.after; within = f.within }
-
   pub next_other : {at : ℕ} {w : Word} (c : Token) → 2 < ordinal c → FirstWord text at w → (w.token ≡ c → ⊥) → is_next c (words_at at) ≡ false
   unfolding is_next
   next_other c h f n = rw (f.first, other_alike f.token c h (λ e. n (f.is_held ∙ ap held e ∙ held_same c h)))
-
-  pub next_nothing : (at : ℕ) (c : Token) → words_at at ≡ [] → is_next c (words_at at) ≡ false
-  unfolding is_next
-  next_nothing at c e = rw e
-
-  -- the token that must follow is there, or not
-  pub expected : {at next : ℕ} {c : Token} (k : List Token → Parse) → Next text c at next → expecting c (words_at at) k ≡ k (words_at next)
-  unfolding is_next after_next
-  expected {c = c} k n = rw (n.first, same_alike c c refl)
-
-  pub missing : (at : ℕ) (c : Token) (k : List Token → Parse) → is_next c (words_at at) ≡ false → expecting c (words_at at) k ≡ failed
-  missing at c k e = rw e
 
   -- ---- each level from the levels that it calls
 
   pub level_at : (l at : ℕ) → l ≤ whole_level → read_level l (words_at at) ≡ level_by reader l (words_at at)
   level_at l at h = level_step l (words_at at) h
 
-  -- no word is left
-  pub nothing_read : (l at : ℕ) → l ≤ whole_level → words_at at ≡ [] → read_level l (words_at at) ≡ failed
-  nothing_read l at h e = ap (λ ts. read_level l ts) e ∙ level_none l h
+  -- the same, level by level
+  pub level_call : (at : ℕ) → read_level call_level (words_at at) ≡ call_by reader (words_at at)
+  unfolding level_by
+  level_call at = level_at call_level at (lit≤ tt)
 
-  module _ {at next : ℕ} where
-    -- parentheses and calls
-    pub call_enclosed : Next text Open at next → read_level call_level (words_at at)
-        ≡ and_then (read_level whole_level (words_at next)) (λ p us. expecting Close us (λ vs. parsed (enclosed p) vs))
-    unfolding level_by call_by
-    call_enclosed n = level_at call_level at (lit≤ tt) ∙ rw n.first
+  pub level_sign : (at : ℕ) → read_level sign_level (words_at at) ≡ prefix_by reader is_sign sign_level sum_level (words_at at)
+  unfolding level_by
+  level_sign at = level_at sign_level at (lit≤ tt)
 
-    pub call_called : (c : Token) → T (is_call c) → Next text c at next → read_level call_level (words_at at) ≡ arguments_by reader c (words_at next)
-    unfolding level_by
-    call_called c h n = level_at call_level at (lit≤ tt) ∙ rw n.first (call_begins reader c (words_at next) h)
+  pub level_negation : (at : ℕ) → read_level negation_level (words_at at) ≡ prefix_by reader (λ c. alike c Not) negation_level relation_level (words_at at)
+  unfolding level_by
+  level_negation at = level_at negation_level at (lit≤ tt)
 
-    -- signs
-    pub sign_first : (c : Token) → is_sign c ≡ true → Next text c at next
-        → read_level sign_level (words_at at) ≡ and_then (read_level sign_level (words_at next)) (λ p us. parsed (prefixed c p) us)
-    unfolding level_by prefix_by
-    sign_first c h n = level_at sign_level at (lit≤ tt) ∙ rw (n.first, h)
-
-    -- not
-    pub not_first : Next text Not at next
-        → read_level negation_level (words_at at) ≡ and_then (read_level negation_level (words_at next)) (λ p us. parsed (prefixed Not p) us)
-    unfolding level_by prefix_by
-    not_first n = level_at negation_level at (lit≤ tt) ∙ rw n.first
-
-    -- if-then-else
-    pub if_first : Next text If at next → read_level whole_level (words_at at) ≡ conditional_by reader (words_at next)
-    unfolding level_by whole_by is_next after_next
-    if_first n = level_at whole_level at (lit≤ tt) ∙ rw n.first
-
-    -- relations
-    pub relation_first : (c : Token) (p : Phrase) → is_relation c ≡ true → Next text c at next
-        → related_by reader p (words_at at) ≡ and_then (read_level sign_level (words_at next)) (λ q us. parsed (operation c p q) us)
-    unfolding related_by
-    relation_first c p h n = rw (n.first, h)
-
-  -- single words
-  module _ {at : ℕ} {w : Word} (f : FirstWord text at w) where
-    pub call_number : (n : ℕ) → f.token ≡ Number n → read_level call_level (words_at at) ≡ parsed (numeral n) (words_at w.next)
-    unfolding level_by call_by
-    call_number n e = level_at call_level at (lit≤ tt) ∙ rw (f.first, e)
-
-    pub call_variable : (n : ℕ) → f.token ≡ Variable n → read_level call_level (words_at at) ≡ parsed (variable n) (words_at w.next)
-    unfolding level_by call_by
-    call_variable n e = level_at call_level at (lit≤ tt) ∙ rw (f.first, e)
-
-    pub call_true : w.token ≡ True → read_level call_level (words_at at) ≡ parsed (truth 1) (words_at w.next)
-    unfolding level_by call_by
-    call_true e = level_at call_level at (lit≤ tt) ∙ rw (next_is True (lit< tt) f e).first
-
-    pub call_false : w.token ≡ False → read_level call_level (words_at at) ≡ parsed (truth 0) (words_at w.next)
-    unfolding level_by call_by
-    call_false e = level_at call_level at (lit≤ tt) ∙ rw (next_is False (lit< tt) f e).first
-
-    -- any other word
-    pub call_other : (w.token ≡ Open → ⊥) → (w.token ≡ Div → ⊥) → (w.token ≡ Mod → ⊥) → ((n : ℕ) → w.token ≡ Number n → ⊥)
-        → ((n : ℕ) → w.token ≡ Variable n → ⊥) → (w.token ≡ True → ⊥) → (w.token ≡ False → ⊥) → read_level call_level (words_at at) ≡ failed
-    unfolding level_by call_by held
-    call_other o d m n v t u =
-        level_at call_level at (lit≤ tt) ∙ rw f.first
-        (by f.token (λ e. o (f.is_held ∙ e)) (λ e. d (f.is_held ∙ e)) (λ e. m (f.is_held ∙ e)) (λ k e. n k (f.is_held ∙ e)) (λ k e. v k (f.is_held ∙ e))
-        (λ e. t (f.is_held ∙ e)) (λ e. u (f.is_held ∙ e)))
-      where
-        by : (x : Token) → (held x ≡ Open → ⊥) → (held x ≡ Div → ⊥) → (held x ≡ Mod → ⊥) → ((n : ℕ) → held x ≡ Number n → ⊥)
-            → ((n : ℕ) → held x ≡ Variable n → ⊥) → (held x ≡ True → ⊥) → (held x ≡ False → ⊥) → call_by reader (x ∷ words_at w.next) ≡ failed
-        by Open o d m n v t u = absurd (o refl)
-        by Div o d m n v t u = absurd (d refl)
-        by Mod o d m n v t u = absurd (m refl)
-        by (Number k) o d m n v t u = absurd (n (capped k) refl)
-        by (Variable k) o d m n v t u = absurd (v (capped k) refl)
-        by True o d m n v t u = absurd (t refl)
-        by False o d m n v t u = absurd (u refl)
-        by _ o d m n v t u = refl
-
-    -- no sign, or no relation
-    pub sign_none : is_sign w.token ≡ false → read_level sign_level (words_at at) ≡ read_level sum_level (words_at at)
-    unfolding level_by prefix_by
-    sign_none e =
-        let none : is_sign f.token ≡ false = sym (held_sign f.token) ∙ ap (λ (t : Token). is_sign t) (sym f.is_held) ∙ e in
-        level_at sign_level at (lit≤ tt) ∙ rw (f.first, none)
-
-    pub relation_none : (p : Phrase) → is_relation w.token ≡ false → related_by reader p (words_at at) ≡ parsed p (words_at at)
-    unfolding related_by
-    relation_none p e =
-        let none : is_relation f.token ≡ false = sym (held_relation f.token) ∙ ap (λ (t : Token). is_relation t) (sym f.is_held) ∙ e in
-        rw (f.first, none)
-
-  pub relation_end : (at : ℕ) (p : Phrase) → words_at at ≡ [] → related_by reader p (words_at at) ≡ parsed p (words_at at)
-  unfolding related_by
-  relation_end at p e = rw e
+  pub level_whole : (at : ℕ) → read_level whole_level (words_at at) ≡ whole_by reader (words_at at)
+  unfolding level_by
+  level_whole at = level_at whole_level at (lit≤ tt)
 
   -- no `not`
   pub not_none : (at : ℕ) → is_next Not (words_at at) ≡ false
@@ -204,8 +113,4 @@ module _ (text : List ℕ) where
           → prefix_by reader (λ c. alike c Not) negation_level relation_level ts ≡ read_level relation_level ts
       by [] h = sym (level_none relation_level (lit≤ tt))
       by (t ∷ ts) h = rw h
-
-  -- no `if`
-  pub if_none : (at : ℕ) → is_next If (words_at at) ≡ false → read_level whole_level (words_at at) ≡ read_level disjunction_level (words_at at)
-  unfolding level_by whole_by
-  if_none at e = level_at whole_level at (lit≤ tt) ∙ rw e
+      -- no `if`

@@ -1,24 +1,17 @@
 -- A whole text.
 use mathlib.Core.Path.{◌≡◌}
-use mathlib.Core.List.{List, []}
+use mathlib.Core.List.{[]}
 use mathlib.Core.Option.{none}
-use Prim.Native.Nat.{ℕ}
 use native.Mathlib.Omega.{arith}
 use Rattle.grammar.specs.declared.Word.{Word}
 use Rattle.grammar.specs.Phrases.{whole_level}
 use Rattle.grammar.specs.Reading.{entire, read_level, phrase_of}
-use Rattle.grammar.specs.Reading.Parse.{failed}
 use Rattle.grammar.specs.Held.{FirstWord}
 use Rattle.composition.specs.declared.list.Nodes.{Nodes}
 use Rattle.composition.specs.declared.Part.{Part}
 use Rattle.parser.specs.declared.source.Source.{Source}
 use Rattle.parser.specs.Levels.{ReadAs, TextReadAs}
 use Rattle.parser.proofs.Steps.{words_at}
-
--- nothing can be read
-pub none_read : (text : List ℕ) → read_level whole_level (words_at text 0) ≡ failed → phrase_of text ≡ none
-unfolding phrase_of entire
-none_read text e = rw e
 
 module _ (source : Source) {cells : Nodes} {part : Part} (a : ReadAs source 0 [] cells (read_level whole_level (words_at source.text.now 0)) part) where
   -- words are left

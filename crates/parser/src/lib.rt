@@ -8,7 +8,7 @@
 //
 // `at` is a place in the text.
 
-#![tactic(auto)]
+#![tactic(auto, using(crate::proofs::Grouping::readings), unfolding(grammar::specs::Reading::and_then, grammar::specs::Reading::is_next, grammar::specs::Reading::after_next, grammar::specs::Reading::arguments_by, grammar::specs::Reading::call_by, grammar::specs::Reading::prefix_by, grammar::specs::Reading::related_by, grammar::specs::Reading::whole_by))]
 
 ghost use Rattle.std.specs.Prelude.{◌≡◌, ℕ, suc, List, ◌<◌, ◌≤◌, length, take, drop};
 ghost use Rattle.grammar.specs.declared.Token.TheVariants.{Open, Div, Mod};
@@ -95,6 +95,7 @@ impl Source<'_> {
     }
 
     // A number, a variable, true or false.
+    #[tactic(auto, using(crate::proofs::Steps::level_call), unfolding(grammar::specs::Reading::call_by, grammar::specs::Held::held))]
     fn single(&self, nodes: &mut Nodes, word: Word) -> Option<Part>
         requires { nodes.old.count < 400 }
         ensures { (at : ℕ) → FirstWord self.now.text.now at word
@@ -178,6 +179,7 @@ impl Source<'_> {
             (chain_from (operand_level level) p (tokens_of (drop first.next self.now.text.now))) result }
     {
         let mut left = first;
+        // It goes on while words follow, and ends where one is no operator of the level.
         while let Some(word) = self.word_at(left.next) {
             if !level.groups(word.token) {
                 return Some(left);
@@ -318,6 +320,7 @@ impl Source<'_> {
     }
     // The whole text; None where it is not in the grammar. One with more opening than closing parentheses, or fewer, is refused
     // beforehand: this halves the deepest nesting that is read.
+    #[tactic(auto, using(grammar::proofs::Balance::unbalanced_none), unfolding(grammar::specs::Reading::phrase_of, grammar::specs::Reading::entire))]
     pub fn parse(&self, nodes: &mut Nodes) -> Option<Part>
         ensures { TextRead self.now.sorts.now nodes.new (phrase_of self.now.text.now) result }
     {

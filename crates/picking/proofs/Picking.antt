@@ -1,63 +1,53 @@
 -- Pick, by the tests that the code makes: it looks at one guard after another, and on a file it answers alone.
 use mathlib.Core.Path.{◌≡◌, refl, sym, ap, ap₂, ◌∙◌}
-use mathlib.Core.Bool.{Bool, true, false, cond}
+use mathlib.Core.Bool.{true, false, cond}
+use Rattle.std.proofs.lemmas.Bool.{true≢false}
 use mathlib.Core.List.{List}
 use Rattle.std.specs.Prelude.{Option, Some, None}
 use Prim.Native.Nat.{ℕ, suc, ◌+◌, ◌-◌, ◌≤◌, ◌<◌}
 use native.Mathlib.Numerals.{add-one}
 use native.Mathlib.Omega.{arith}
-use borrow.Author.Tests.{eq-eqb, ne_eqb, lt-ltb, le-ltb}
+use borrow.Author.Tests.{eq-eqb, ne_eqb, le-ltb}
 use lib.Dec.{eqb}
-use lib.IntN.{ℤ, pos}
+use lib.IntN.{ℤ}
 use Rattle.evaluation.specs.declared.Evaluation.{Evaluation}
 use Rattle.evaluation.specs.declared.Evaluation.TheVariants.{Unknown, Failed, Value}
-use Rattle.evaluation.specs.Numbers.{eq_z}
-use Rattle.evaluation.proofs.Laws.{eq_z_true}
+use Rattle.evaluation.specs.Numbers.{eq_z, boolean}
+use Rattle.evaluation.specs.Meaning.{is_true}
 use lib.ListN.{length, take}
 use Rattle.model.specs.Check.{Verdict}
 use Rattle.model.specs.Check.Verdict.{refusal, accepted}
-use mathlib.Core.Logic.{inl, inr}
-use Rattle.results.specs.declared.refusal.Refusal.{Refusal}
-use Rattle.results.specs.Refusals.{number_of}
 use Rattle.semantics.specs.Meanings.{Meaning}
+use Rattle.standing.specs.declared.Declared.{Declared}
 use Rattle.standing.specs.Runs.{Run, Answer, answered}
-use Rattle.standing.specs.Runs.Answer.{refused, picked}
-use Rattle.standing.specs.Holding.{IsShort, holds}
+use Rattle.standing.specs.Runs.Answer.{picked}
+use Rattle.standing.specs.Holding.{IsEnough, holds, holds_declared}
 use Rattle.marking.specs.Marks.{mark_of, marks_from, marks_of}
+use Rattle.steps.specs.Declarations.{Declares}
+use Rattle.steps.proofs.Declarations.{rows_declared, holds_same, loaded_declares}
+use Rattle.engine.specs.Lent.{LoadedIn}
+use Rattle.engine.proofs.Counts.{meaning}
+use Rattle.tables.specs.declared.Tables.{Tables}
 use Rattle.steps.specs.Answers.{on_file, on_file_answer}
 use Rattle.inspection.specs.Queries.{first_fireable, pick}
-use Rattle.variables.specs.declared.VariableRow.{VariableRow}
 
--- ---- the refusals, or what is found
+-- what the tables of a model declare
+abbrev pub declared_by : Tables → Declared
+declared_by t = record { transitions = length t.guards.now; variables = t.variables }
 
-module _ (m : Meaning) (r : Run) where
-  pub pick_short : length r.values < length m.declarations → refused 9 ≡ pick m r
+pub declares : (t : Tables) (l : LoadedIn t) → Declares (meaning l) (declared_by t)
+declares t l = loaded_declares l refl refl
+
+-- ---- what is found on a run, over what is declared
+
+module _ (m : Meaning) (d : Declared) (s : Declares m d) (r : Run) (enough : IsEnough d r) where
+  pub pick_done : holds_declared d r ≡ true → (t : Option ℕ) → t ≡ first_fireable (marks_of m r.values) 0 → picked t ≡ pick m r
   unfolding pick
-  pick_short short = rw (lt-ltb (length r.values) (length m.declarations) short)
-
-  module _ (enough : length m.declarations ≤ length r.values) where
-    pub pick_few : length r.marks < m.transitions → refused 10 ≡ pick m r
-    unfolding pick
-    pick_few few = rw (le-ltb (length r.values) (length m.declarations) enough, lt-ltb (length r.marks) m.transitions few)
-
-    module _ (room : m.transitions ≤ length r.marks) where
-      pub pick_stale : holds m r ≡ false → refused 20 ≡ pick m r
-      unfolding pick
-      pick_stale h = rw (le-ltb (length r.values) (length m.declarations) enough, le-ltb (length r.marks) m.transitions room, h)
-
-      pub pick_done : holds m r ≡ true → (t : Option ℕ) → t ≡ first_fireable (marks_of m r.values) 0 → picked t ≡ pick m r
-      unfolding pick
-      pick_done h t e = rw (le-ltb (length r.values) (length m.declarations) enough, le-ltb (length r.marks) m.transitions room, h, e)
-
--- too few values or too few marks
-pub pick_measured : (m : Meaning) (r : Run) (transitions : ℕ) (rows : List VariableRow) → length rows ≡ length m.declarations → transitions ≡ m.transitions
-    → {e : Refusal} → IsShort transitions rows r e → refused (number_of e) ≡ pick m r
-unfolding number_of
-pick_measured m r transitions rows declared counted short =
-    elim short [
-      | inl h ↦ rw h.0 (pick_short m r (omega (arith, declared, h.1)))
-      | inr h ↦ rw h.0 (pick_few m r (omega (arith, declared, h.1)) (omega (arith, counted, h.2)))
-    ]
+  pick_done h t e =
+      let values : length m.declarations ≤ length r.values = omega (arith, rows_declared s, enough.0) in
+      let marks : m.transitions ≤ length r.marks = omega (arith, s.counted, enough.1) in
+      let held : holds m r ≡ true = sym (holds_same s r) ∙ h in
+      rw (le-ltb (length r.values) (length m.declarations) values, le-ltb (length r.marks) m.transitions marks, held, e)
 
 -- ---- what the marks that are left come to
 
@@ -90,23 +80,19 @@ all_marks m values used total e q =
 
 -- ---- the mark of a guard that is true, and of another
 
-module _ (g : Evaluation) where
-  pub marked_true : g ≡ Value (pos 1) → mark_of g ≡ 1
-  unfolding mark_of eq_z
-  marked_true e = rw e refl
+pub marked_true : (g : Evaluation) → is_true g ≡ true → mark_of g ≡ 1
+unfolding mark_of is_true
+marked_true Unknown e = absurd (true≢false (sym e))
+marked_true Failed e = absurd (true≢false (sym e))
+marked_true (Value v) e = ap (λ t. cond t 1 0) e
 
-  pub marked_other : (g ≡ Value (pos 1) → ⊥) → mark_of g ≡ 1 → ⊥
-  unfolding mark_of
-  marked_other n = by g refl
-    where
-      value : (v : ℤ) → g ≡ Value v → (t : Bool) → eq_z v (pos 1) ≡ t → ◌≡◌ {A = ℕ} (cond t 1 0) 1 → ⊥
-      value v e true q h = n (e ∙ ap Value (eq_z_true v (pos 1) q))
-      value v e false q h = omega (arith, h)
-
-      by : (x : Evaluation) → g ≡ x → mark_of x ≡ 1 → ⊥
-      by Unknown e h = omega (arith, h)
-      by Failed e h = omega (arith, h)
-      by (Value v) e h = value v e (eq_z v (pos 1)) refl h
+pub marked_other : (g : Evaluation) → is_true g ≡ false → mark_of g ≡ 1 → ⊥
+unfolding mark_of is_true
+marked_other Unknown e h = omega (arith, h)
+marked_other Failed e h = omega (arith, h)
+marked_other (Value v) e h =
+    let n : ◌≡◌ {A = ℕ} (cond (eq_z v (boolean true)) 1 0) 0 = ap (λ t. cond t 1 0) e in
+    omega (arith, n, h)
 
 -- ---- an answer alone
 

@@ -10,13 +10,11 @@ ghost use Rattle.standing.specs.Runs.Answer.{picked};
 ghost use Rattle.steps.specs.Answers.{seen_as, on_file_answer};
 ghost use Rattle.inspection.specs.Queries as queries;
 
+use decoding::Decoding;
 use engine::{DecodedModel, transitions};
-use evaluation::Evaluation;
 use model::Model;
 use results::Refusal;
-use standing::Run;
-use tables::Tables;
-use variables::VariableRow;
+use standing::{Declared, Run};
 
 // 9, 10, 20, then the first transition whose guard is true, whatever the marks held; the guards after it are not looked at.
 fn pick_loaded(
@@ -29,15 +27,18 @@ fn pick_loaded(
 {
     let tables = &decoded.tables;
     let transitions = tables.guards.len();
-    run.measure(transitions, tables.variables)?;
-    if !run.holds(transitions, tables.variables) {
-        return Err(Refusal::InvalidRun);
-    }
+    let declared = Declared {
+        transitions,
+        variables: tables.variables,
+    };
+    run.measure(&declared)?;
+    run.check(&declared)?;
     let count = tables.variables.len();
     propagation::overwrite(&run.values[..count], cells);
+    // By a loop: a `find` was tried, and what its test ensures was out of reach of the proof.
     for transition in 0..transitions {
         let guard = transitions::guard(decoded, cells, transition);
-        if guard == Evaluation::Value(1) {
+        if guard.is_true() {
             return Ok(Some(transition));
         }
     }
@@ -45,31 +46,14 @@ fn pick_loaded(
 }
 
 // The lowest transition whose guard is true, or none: decodes the model and works the guards out.
+#[tactic(auto, unfolding(steps::specs::Answers::on_file_answer, decoding::specs::Decoding::prepared_by))]
 pub fn pick(model: &[u8], run: &Run<'_>) -> Result<Option<usize>, Refusal>
     ensures { seen_as picked result ≡ on_file_answer (verdict model.now) (λ m. queries.pick m (run_in run.now)) }
 {
-    let mut parameters = [0i32; Model::MAX_NODES];
-    let mut variables = [VariableRow::BLANK; Model::MAX_VARIABLES];
-    let mut nexts = [0u16; Model::MAX_NODES];
-    let mut guards = [0u16; Model::MAX_TRANSITIONS];
+    let mut arrays = Decoding::BLANK;
     let mut cells = [None; Model::MAX_VARIABLES];
-    let loaded = decoding::prepare(
-        model,
-        &mut parameters,
-        &mut variables,
-        &mut nexts,
-        &mut guards,
-    )?;
-    let nodes = loaded.sizes.nodes;
-    let count = loaded.sizes.states + loaded.sizes.flows;
-    let tables = Tables {
-        model: loaded,
-        kinds: decoding::kinds_of(model, nodes),
-        parameters: &parameters[..nodes],
-        variables: &variables[..count],
-        nexts: &nexts[..nodes],
-        guards: &guards[..loaded.sizes.transitions],
-    };
+    let ready = arrays.prepare(model)?;
+    let tables = arrays.tables(model, ready);
     let decoded = DecodedModel { tables };
-    pick_loaded(&decoded, run, &mut cells[..count])
+    pick_loaded(&decoded, run, &mut cells[..ready.sizes.variables()])
 }

@@ -4,77 +4,65 @@
 
 #![tactic(auto)]
 
+ghost use Rattle.std.specs.Prelude.{◌≡◌, ◌+◌, ◌^◌, ◌<◌, length};
+
+use cases::Case;
 use dialogue::{Dialogue, Program};
 use std::fs::File;
 use std::io;
-use std::io::Read;
-
-// How many bytes of the wanted output have been printed, and whether no other was; what comes after another byte is counted still.
-#[derive(Clone, Copy, PartialEq, Eq, Debug)]
-struct Output<'a> {
-    wanted: &'a [u8],
-    at: usize,
-    is_same: bool,
-}
-
-impl<'a> Output<'a> {
-    // With these bytes after it.
-    fn with(self, bytes: &[u8]) -> Output<'a> {
-        let rest = self.wanted.get(self.at..).unwrap_or(b"");
-        Output {
-            wanted: self.wanted,
-            at: self.at.saturating_add(bytes.len()),
-            is_same: self.is_same && rest.starts_with(bytes),
-        }
-    }
-
-    // Is it the wanted one, to its end?
-    fn is_whole(self) -> bool {
-        self.is_same && self.at == self.wanted.len()
-    }
-}
 
 // Bytes of a part of the input: few, so that lines go across parts.
 const PART: usize = 7;
 
-// Answers each line that a part of the input ends, and compares it as it is printed.
-fn answer_part<'a>(begun: Output<'a>, dialogue: &mut Dialogue, part: &[u8]) -> Output<'a> {
-    let mut output = begun;
-    let mut at = 0;
-    // Each step is as long as the line that was taken.
-    while at < part.len() {
-        let taken = dialogue.take_line(part, at);
-        output = output.with(dialogue.printed(taken.length));
-        at = taken.next;
+// The header of a case: the lengths of the model file, of the input and of the output.
+#[derive(Clone, Copy)]
+struct Head {
+    model: usize,
+    input: usize,
+    output: usize,
+    ghost four_bytes: { (model < 2 ^ 32) × (input < 2 ^ 32) × (output < 2 ^ 32) },
+}
+
+impl From<[u8; 12]> for Head {
+    fn from(bytes: [u8; 12]) -> Head {
+        Head {
+            model: cases::number::<4>(&bytes, 0),
+            input: cases::number::<4>(&bytes, 4),
+            output: cases::number::<4>(&bytes, 8),
+        }
     }
-    output
+}
+
+// Answers each line that a part of the input ends, and compares it as it is printed: what is still wanted; none, if another byte was printed.
+fn answer_part<'a>(wanted: &'a [u8], dialogue: &mut Dialogue, part: &[u8]) -> Option<&'a [u8]> {
+    let mut rest = wanted;
+    for piece in part.split_inclusive(|byte| *byte == b'\n') {
+        let taken = dialogue.take_line(piece, 0);
+        rest = rest.strip_prefix(dialogue.printed(taken.length))?;
+    }
+    Some(rest)
 }
 
 // The lines of the input, taken part by part to its end.
-fn answer_all<'a>(begun: Output<'a>, dialogue: &mut Dialogue, input: &[u8]) -> Output<'a> {
-    let mut output = begun;
+fn answer_all<'a>(wanted: &'a [u8], dialogue: &mut Dialogue, input: &[u8]) -> Option<&'a [u8]> {
+    let mut rest = wanted;
     for part in input.chunks(PART) {
-        output = answer_part(output, dialogue, part);
+        rest = answer_part(rest, dialogue, part)?;
     }
     let length = dialogue.close();
-    output.with(dialogue.printed(length))
+    rest.strip_prefix(dialogue.printed(length))
 }
 
-// Starts the run and, unless that is refused, answers the input: does the program print the wanted output?
-fn is_equal(model: &[u8], input: &[u8], wanted: &[u8]) -> bool {
+// Starts the run and, unless that is refused, answers the input: what is still wanted then; none, if another byte was printed.
+fn answered<'a>(model: &[u8], input: &[u8], wanted: &'a [u8]) -> Option<&'a [u8]> {
     let mut dialogue = Dialogue::empty();
     let bytes = keep(model, &mut dialogue.file);
     let opening = dialogue.open(bytes);
-    let nothing = Output {
-        wanted,
-        at: 0,
-        is_same: true,
-    };
-    let begun = nothing.with(dialogue.printed(opening.length));
+    let rest = wanted.strip_prefix(dialogue.printed(opening.length))?;
     if !opening.is_started {
-        return begun.is_whole();
+        return Some(rest);
     }
-    answer_all(begun, &mut dialogue, input).is_whole()
+    answer_all(rest, &mut dialogue, input)
 }
 
 // Stores the first bytes of a model, as gtsrun keeps them of its file; how many.
@@ -84,25 +72,25 @@ fn keep(model: &[u8], file: &mut [u8; Program::FILE_BYTES]) -> usize {
     bytes
 }
 
-// Reads a case and runs it; none at the end of the file.
-fn next_case(source: &mut impl Read, body: &mut [u8]) -> io::Result<Option<bool>> {
-    let Some(head): Option<[u8; 12]> = cases::next_bytes(source)? else {
-        return Ok(None);
-    };
-    let first = cases::number::<4>(&head, 0);
-    let second = first + cases::number::<4>(&head, 4);
-    let third = second + cases::number::<4>(&head, 8);
-    if body.len() < third || !cases::is_read(source, body, third)? {
-        return Ok(None);
+impl Case<12> for Head {
+    ghost size = { λ head. head.model + head.input + head.output };
+
+    fn body_length(self) -> usize {
+        self.model + self.input + self.output
     }
-    let case = &body[..third];
-    let (model, rest) = case.split_at(first);
-    let (input, wanted) = rest.split_at(second - first);
-    Ok(Some(is_equal(model, input, wanted)))
+
+    fn is_as_stored<R: Print>(self, _rt: &R, body: &[u8]) -> io::Result<bool> {
+        let (model, rest) = body.split_at(self.model);
+        let (input, wanted) = rest.split_at(self.input);
+        let rest = answered(model, input, wanted);
+        Ok(rest.is_some_and(|bytes| bytes.is_empty()))
+    }
 }
 
 fn main(rt: HostRuntime) -> io::Result<()> {
     let mut source = File::open(&rt, "cases")?;
     let mut body = [0u8; 32768];
-    cases::run(&rt, "programs", || next_case(&mut source, &mut body))
+    cases::run(&rt, "programs", || {
+        cases::next_case::<12, Head, _, _>(&rt, &mut source, &mut body)
+    })
 }

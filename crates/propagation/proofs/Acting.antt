@@ -1,7 +1,6 @@
 -- What the code makes of an action: gathered over blank cells, its values replace the old states.
-use Rattle.std.specs.Prelude.{Option as Optional}
-use Rattle.std.specs.Prelude.{Result, Ok, Err}
-use mathlib.Core.Path.{◌≡◌, refl, sym, ap, ap₂, ◌∙◌, fun_ext}
+use Rattle.std.specs.Prelude.{Option as Optional, Result, Ok, Err}
+use mathlib.Core.Path.{◌≡◌, refl, sym, ap, ◌∙◌, fun_ext}
 use mathlib.Core.List.{List, [], ◌∷◌}
 use mathlib.Core.Option.{Option, some, none}
 use Prim.Native.Nat.{ℕ, zero, suc, ◌+◌, ◌≤◌, ◌<◌}
@@ -79,17 +78,17 @@ module _ {ks : List ℕ} {ps : List ℤ} {nexts : List ℕ} {rows : List Variabl
   pub few_states : length old ≤ length rows
   few_states = omega (arith, length_old, rows_counted)
 
-  module _ (nf : Gathered) (nothing : nf ≡ nothing_found) (blank : List (Optional ℤ)) (empty : blank ≡ replicate (length rows) unknown_cell) (queue₀ waits₀ : List ℕ)
+  module _ (blank : List (Optional ℤ)) (empty : blank ≡ replicate (length rows) unknown_cell) (queue₀ waits₀ : List ℕ)
       (r : Gathered) (given : List (Optional ℤ)) (queued : ℕ) (queue waits : List ℕ)
       (told : (i : Instruction) → InstructionAt ks ps i at
-      → held r given queued queue waits ≡ read_by (lows_in rows) (highs_in rows) (valuation_of cells₀) at 1 i (held nf blank 0 queue₀ waits₀))
+      → held r given queued queue waits ≡ read_by (lows_in rows) (highs_in rows) (valuation_of cells₀) at 1 i (held nothing_found blank 0 queue₀ waits₀))
       (long : length given ≡ length rows) where
     gathered : gathering r given
         ≡ gather_all (lows_in rows) (highs_in rows) (effects a.action (valuation_of cells₀)) (gathering nothing_found (replicate (length rows) unknown_cell))
     unfolding read_by
     gathered =
         ap (λ h. h.gathered) (told a.action a.stands)
-        ∙ ap₂ (λ f g. gather_all (lows_in rows) (highs_in rows) (effects a.action (valuation_of cells₀)) (gathering f g)) nothing empty
+        ∙ ap (λ g. gather_all (lows_in rows) (highs_in rows) (effects a.action (valuation_of cells₀)) (gathering nothing_found g)) empty
 
     unknown : valuation_of (replicate (length rows) unknown_cell) ≡ nothing_known
     unknown = fun_ext (nothing_held (length rows) 0)

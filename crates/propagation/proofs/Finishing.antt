@@ -1,6 +1,5 @@
 -- The reading after the reset, over what still waits.
-use Rattle.std.specs.Prelude.{Option as Optional}
-use Rattle.std.specs.Prelude.{Result}
+use Rattle.std.specs.Prelude.{Option as Optional, Result}
 use mathlib.Core.Path.{◌≡◌, refl, sym, ap, ◌∙◌}
 use mathlib.Core.Bool.{false}
 use mathlib.Core.List.{List, [], ◌∷◌, ◌++◌, append-nil, Memᴰ}

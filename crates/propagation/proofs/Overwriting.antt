@@ -1,23 +1,17 @@
 -- A loop that goes over a list from the front, and makes each element that of another list, in place. After i turns the list is
 -- `partly new old i`. Then the lists that the loops of this crate make: values over cells, and `filled`.
 use mathlib.Core.Path.{◌≡◌, refl, sym, ap, ◌∙◌}
-use mathlib.Core.Bool.{true, false, true≢false}
 use mathlib.Core.List.{List, [], ◌∷◌, ◌++◌}
 use Prim.Native.Nat.{ℕ, zero, suc, ◌+◌, ◌≤◌, ◌<◌}
 use native.Mathlib.Nat.{not-suc-le-zero, le_of_suc-le-suc}
 use native.Mathlib.Numerals.{add-one}
 use native.Mathlib.Omega.{arith}
-use borrow.Author.Tests.{le-leb}
-use lib.Dec.{T}
-use lib.IntN.{ℤ, pos, negsuc}
+use lib.IntN.{ℤ, pos}
 use lib.ListN.{length, take, drop, get_or, set, take-append-drop, length-append, length-take, length-drop, get_or-append, drop_of_length-le}
 use lib.Seq.{take-suc, drop-cons, set_at, get_or_at, append_snoc, drop-append_seam}
-use mir.Syntax.{w32}
-use mir.Val.{SFits}
-use Rattle.evaluation.specs.Numbers.{representable}
 use Rattle.results.specs.Results.{over}
 use Rattle.propagation.specs.Cells.{cells_of, held_or}
-use Rattle.std.specs.Prelude.{Option, Some, None, unwrap_or, is_some}
+use Rattle.std.specs.Prelude.{Option, Some, None, unwrap_or}
 use Rattle.std.proofs.lemmas.List.{get_or-map, length-map}
 
 module _ {A : Type 0} (new old : List A) where
@@ -45,11 +39,6 @@ module _ {A : Type 0} (new old : List A) (long : length new ≡ length old) wher
 
     pub partly_set : (a : A) → a ≡ get_or new i d → set (partly new old i) i a ≡ partly new old (i + 1)
     partly_set = partly_put new old i d below within
-
-    pub partly_keep : get_or old i d ≡ get_or new i d → partly new old i ≡ partly new old (i + 1)
-    partly_keep e =
-        rw (add-one i, drop-cons old i d within, take-suc new i d below, e)
-        (sym (append_snoc (take i new) (get_or new i d) (drop (suc i) old)))
 
   pub partly_done : (i : ℕ) → drop i new ≡ drop i old → partly new old i ≡ new
   partly_done i e = rw (← e) (take-append-drop i new)
@@ -82,10 +71,6 @@ module _ {A : Type 0} (values cells₀ cells : List A) (i : ℕ) (fits : length 
     pub over_set : (x : A) → x ≡ get_or values i d → set cells i x ≡ partly (over values cells₀) cells₀ (i + 1)
     over_set x e = rw is (partly_set (over values cells₀) cells₀ (length_over values cells₀ fits) i d (omega arith) x (e ∙ sym over_there))
 
-    pub over_keep : get_or cells i d ≡ get_or values i d → cells ≡ partly (over values cells₀) cells₀ (i + 1)
-    over_keep e =
-        is ∙ partly_keep (over values cells₀) cells₀ (length_over values cells₀ fits) i d (omega arith) (sym over_here ∙ e ∙ sym over_there)
-
 -- ---- cells that hold values
 
 pub cell_of : (values : List ℤ) (i : ℕ) → i < length values → get_or (cells_of values) i None ≡ Some (get_or values i (pos 0))
@@ -93,14 +78,6 @@ cell_of values i h = get_or-map Some values i (pos 0) None h
 
 pub cell_count : (values : List ℤ) → length (cells_of values) ≡ length values
 cell_count values = length-map values Some
-
-pub number_held : (z : ℤ) → SFits w32 z → T (representable z)
-number_held (pos n) f = rw (le-leb n 2147483647 (omega (arith, f.sfits))) tt
-number_held (negsuc n) f = rw (le-leb n 2147483647 (omega (arith, f.sfits))) tt
-
--- every element below a number is a number of 32 bits
-abbrev pub NumbersBelow : ℕ → List ℤ → Type 0
-NumbersBelow i values = (k : ℕ) → k < i → T (representable (get_or values k (pos 0)))
 
 -- ---- what cells hold, in place of values
 
@@ -125,13 +102,14 @@ module _ (cells : List (Option ℤ)) (values₀ values : List ℤ) (i : ℕ) (is
       (drop_of_length-le (held_or cells values₀) (omega (arith, length_held_or cells values₀)) ∙ sym (drop_of_length-le values₀ l))
 
   module _ (h : i < length values₀) where
-    pub held_set : (x : ℤ) → get_or cells i None ≡ Some x → set values i x ≡ partly (held_or cells values₀) values₀ (i + 1)
-    held_set x e =
-        ap (λ l. set l i x) is ∙ partly_set (held_or cells values₀) values₀ (length_held_or cells values₀) i (pos 0) h x (sym (get_held_or cells values₀ i h ∙ rw e))
+    -- the value is as it was
+    held_here : get_or values i (pos 0) ≡ get_or values₀ i (pos 0)
+    held_here = rw is (partly_here (held_or cells values₀) values₀ (length_held_or cells values₀) i (pos 0) h)
 
-    pub held_keep : get_or cells i None ≡ None → values ≡ partly (held_or cells values₀) values₀ (i + 1)
-    held_keep e =
-        is ∙ partly_keep (held_or cells values₀) values₀ (length_held_or cells values₀) i (pos 0) h (sym (get_held_or cells values₀ i h ∙ rw e))
+    pub held_set : (x : ℤ) → x ≡ unwrap_or (get_or cells i None) (get_or values i (pos 0)) → set values i x ≡ partly (held_or cells values₀) values₀ (i + 1)
+    held_set x e =
+        ap (λ l. set l i x) is ∙ partly_set (held_or cells values₀) values₀ (length_held_or cells values₀) i (pos 0) h x
+        (e ∙ ap (unwrap_or (get_or cells i None)) held_here ∙ sym (get_held_or cells values₀ i h))
 
 -- the loop that fills cells which hold nothing
 module _ (values : List ℤ) (cells₀ cells : List (Option ℤ)) (i : ℕ) (fits : length values ≤ length cells₀)
@@ -150,20 +128,6 @@ module _ (values : List ℤ) (cells₀ cells : List (Option ℤ)) (i : ℕ) (fit
       cell_of (held_or cells₀ values) i (omega (arith, length_held_or cells₀ values))
       ∙ ap Some (get_held_or cells₀ values i h ∙ ap (λ c. unwrap_or c (get_or values i (pos 0))) (sym same))
 
-  pub filled_set : is_some (get_or cells i None) ≡ false → (x : ℤ) → x ≡ get_or values i (pos 0)
+  pub filled_set : (x : ℤ) → x ≡ unwrap_or (get_or cells i None) (get_or values i (pos 0))
       → set cells i (Some x) ≡ partly (over (cells_of (held_or cells₀ values)) cells₀) cells₀ (i + 1)
-  filled_set n x e =
-      over_set (cells_of (held_or cells₀ values)) cells₀ cells i enough is below_end None (Some x)
-      (by (get_or cells i None) n ∙ sym wanted)
-    where
-      by : (c : Option ℤ) → is_some c ≡ false → Some x ≡ Some (unwrap_or c (get_or values i (pos 0)))
-      by None m = ap Some e
-      by (Some w) m = absurd (true≢false m)
-
-  pub filled_keep : is_some (get_or cells i None) ≡ true → cells ≡ partly (over (cells_of (held_or cells₀ values)) cells₀) cells₀ (i + 1)
-  filled_keep n =
-      over_keep (cells_of (held_or cells₀ values)) cells₀ cells i enough is below_end None (by (get_or cells i None) n ∙ sym wanted)
-    where
-      by : (c : Option ℤ) → is_some c ≡ true → c ≡ Some (unwrap_or c (get_or values i (pos 0)))
-      by None m = absurd (true≢false (sym m))
-      by (Some w) m = refl
+  filled_set x e = over_set (cells_of (held_or cells₀ values)) cells₀ cells i enough is below_end None (Some x) (ap Some e ∙ sym wanted)

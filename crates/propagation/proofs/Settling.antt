@@ -1,8 +1,7 @@
 -- What the code makes of the assertion: the states over blank cells, the rounds, the first values, one more reading. The
 -- answer and the flows are those of `settle`.
-use Rattle.std.specs.Prelude.{Option as Optional, Some}
+use Rattle.std.specs.Prelude.{Option as Optional, Some, Result, Ok, Err}
 use Rattle.std.proofs.lemmas.List.{drop-map}
-use Rattle.std.specs.Prelude.{Result, Ok, Err}
 use mathlib.Core.Path.{◌≡◌, refl, sym, ap, ◌∙◌, subst, fun_ext}
 use mathlib.Core.List.{List, map}
 use mathlib.Core.Option.{Option, some, none}

@@ -1,7 +1,6 @@
 -- How the code holds the states and flows of actions and of the assertion, and what it may ask of the nodes lent to it.
-use Rattle.std.specs.Prelude.{◌≡◌, List, [], ◌∷◌, map, ℕ, suc, ◌≤◌, ◌<◌, ℤ, pos, T, length, get_or, take, drop, Result, Ok, Err, Option as Optional, Some, unwrap_or}
+use Rattle.std.specs.Prelude.{◌≡◌, List, [], ◌∷◌, map, ℕ, suc, ◌≤◌, ℤ, length, take, drop, Result, Ok, Err, Option as Optional, Some, unwrap_or}
 use Rattle.std.proofs.Math.Option.{Option, some, none}
-use Rattle.evaluation.specs.Numbers.{representable}
 use Rattle.results.specs.Results.{Answered, answered}
 use Rattle.model.specs.Trees.{Instruction, System, variables}
 use Rattle.model.specs.Standing.{InstructionAt}
@@ -21,10 +20,6 @@ use Rattle.rounds.specs.Cells.{AssertionStands}
 abbrev pub Fits : ℕ → ℕ → List (Optional ℤ) → List (Optional ℤ) → List ℕ → List ℕ → Type 0
 Fits variables nodes cells given queue waits =
     (length cells ≡ variables) × (length given ≡ variables) × (length queue ≡ variables) × (length waits ≡ nodes)
-
--- every value is a number of 32 bits
-abbrev pub AllRepresentable : List ℤ → Type 0
-AllRepresentable values = (x : ℕ) → x < length values → T (representable (get_or values x (pos 0)))
 
 -- the cells of variables that have these values
 abbrev pub cells_of : List ℤ → List (Optional ℤ)
@@ -63,7 +58,7 @@ module _ (ks : List ℕ) (ps : List ℤ) where
     pub state_cells : states ≡ length assertion.system.states
     pub flow_cells : flows ≡ length assertion.system.flows
 
-  -- an action of a well-formed system stands at the place, over the values of all variables, and with the old states
+  -- an action of a well-formed system stands at the place, over the values of all variables, which the cells hold, and with the old states
   pub record ActionStands (nexts : List ℕ) (rows : List VariableRow) (cells : List (Optional ℤ)) (old : List ℤ) (at : ℕ) : Type 0 where
     pub values : List ℤ
     pub system : System

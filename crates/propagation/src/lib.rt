@@ -13,13 +13,14 @@ ghost use Rattle.semantics.specs.Actions as actions;
 ghost use Rattle.semantics.specs.Propagation.{settled_from, settle};
 ghost use Rattle.semantics.specs.Propagation.Reached.{reached};
 ghost use Rattle.reading.specs.Readings.{SameCells};
-ghost use Rattle.rounds.specs.Lent.{AssertionHeld, IndexHeld, RestingIn};
-ghost use Rattle.propagation.specs.Cells.{AllRepresentable, cells_of, held_or, flows_by_settling, CountWithin, changed_by, states_by_acting};
+ghost use Rattle.rounds.specs.Lent.{AssertionHeld, RestingIn};
+ghost use Rattle.propagation.specs.Cells.{cells_of, held_or, flows_by_settling, CountWithin, changed_by, states_by_acting};
 ghost use Rattle.propagation.specs.Lent.{Emptied, FitsIn, BlankIn, BlankCellsIn, PropagationHeld, ActionHeld};
 
 use interpreter::{Fault, Gathered};
 use reading::Gathering;
-use tables::{Index, Tables};
+use rounds::IndexedTables;
+use tables::Tables;
 use variables::VariableRow;
 
 // The first cells become these.
@@ -30,10 +31,11 @@ pub fn store(from: &[i32], to: &mut [i32])
     to[..from.len()].copy_from_slice(from);
 }
 
-// The first cells become these values.
+// The first cells become these values. Cells are taken by number, here and in `fill` and `replace`: of those that are lent one by one to a
+// `zip` nothing is known afterwards.
 pub fn overwrite(values: &[i32], cells: &mut [Option<i32>])
     requires { length values.now ≤ length cells.old }
-    ensures { (cells.new ≡ over (cells_of values.now) cells.old) × AllRepresentable values.now }
+    ensures { cells.new ≡ over (cells_of values.now) cells.old }
 {
     for (i, value) in values.iter().enumerate() {
         cells[i] = Some(*value);
@@ -46,9 +48,7 @@ fn fill(variables: &[VariableRow], cells: &mut [Option<i32>])
     ensures { cells.new ≡ over (cells_of (held_or cells.old (firsts_in variables.now))) cells.old }
 {
     for (i, row) in variables.iter().enumerate() {
-        if cells[i].is_none() {
-            cells[i] = Some(row.first);
-        }
+        cells[i].get_or_insert(row.first);
     }
 }
 
@@ -58,9 +58,7 @@ fn replace(cells: &[Option<i32>], values: &mut [i32])
     ensures { values.new ≡ held_or cells.now values.old }
 {
     for (i, value) in values.iter_mut().enumerate() {
-        if let Some(number) = cells[i] {
-            *value = number;
-        }
+        *value = cells[i].unwrap_or(*value);
     }
 }
 
@@ -81,16 +79,14 @@ fn clear(gathering: &mut Gathering<'_>)
     ensures emptied { Emptied gathering.new }
     ensures same { SameCells gathering.old gathering.new }
 {
-    gathering.found = Gathered::default();
+    gathering.begin();
     gathering.given.fill(None);
     gathering.queue.fill(0);
-    gathering.queued = 0;
     gathering.waits.fill(0);
-    gathering.pending = 0;
 }
 
 // After the rounds: flows still unknown take their first values, and what still waits is read once more. The flows are written only where
-// that finds no fault.
+// that finds no fault. The marks still count, so the gathering does not begin again.
 fn finish(
     tables: &Tables<'_>,
     states: usize,
@@ -117,43 +113,41 @@ fn finish(
 
 // The assertion over these states: the rounds, then the end. The cells that it works in are left as they come.
 fn settle_flows(
-    tables: &Tables<'_>,
-    index: &Index<'_>,
+    indexed: &IndexedTables<'_>,
     states: &[i32],
     cells: &mut [Option<i32>],
     gathering: &mut Gathering<'_>,
     flows: &mut [i32],
 ) -> Result<usize, Fault>
-    requires { PropagationHeld tables.now (length states.now) (length flows.old) × IndexHeld tables.now index.now × BlankCellsIn tables.now cells.old gathering.old }
-    ensures settled { (p : PropagationHeld tables.now (length states.now) (length flows.old))
+    requires { PropagationHeld indexed.now.tables.now (length states.now) (length flows.old) × BlankCellsIn indexed.now.tables.now cells.old gathering.old }
+    ensures settled { (p : PropagationHeld indexed.now.tables.now (length states.now) (length flows.old))
         → answered result flows.new ≡ flows_by_settling (length states.now) flows.old (settle p.assertion.system states.now) }
     ensures bounded { CountWithin (length flows.old) result }
     ensures same { SameCells gathering.old gathering.new }
 {
     overwrite(states, cells);
     overwrite(states, gathering.given);
-    let count = rounds::rounds(tables, index, cells, gathering)?;
-    finish(tables, states.len(), cells, gathering, flows, count)
+    let count = rounds::rounds(indexed, cells, gathering)?;
+    finish(indexed.tables, states.len(), cells, gathering, flows, count)
 }
 
 // The assertion over these states: the flows are written only when it settles.
 pub fn propagate(
-    tables: &Tables<'_>,
-    index: &Index<'_>,
+    indexed: &IndexedTables<'_>,
     states: &[i32],
     cells: &mut [Option<i32>],
     gathering: &mut Gathering<'_>,
     flows: &mut [i32],
 ) -> Result<usize, Fault>
-    requires { PropagationHeld tables.now (length states.now) (length flows.old) × IndexHeld tables.now index.now × BlankCellsIn tables.now cells.old gathering.old }
-    ensures settled { (p : PropagationHeld tables.now (length states.now) (length flows.old))
+    requires { PropagationHeld indexed.now.tables.now (length states.now) (length flows.old) × BlankCellsIn indexed.now.tables.now cells.old gathering.old }
+    ensures settled { (p : PropagationHeld indexed.now.tables.now (length states.now) (length flows.old))
         → answered result flows.new ≡ flows_by_settling (length states.now) flows.old (settle p.assertion.system states.now) }
     ensures bounded { CountWithin (length flows.old) result }
-    ensures blank { BlankCellsIn tables.now cells.new gathering.new }
+    ensures blank { BlankCellsIn indexed.now.tables.now cells.new gathering.new }
     ensures emptied { Emptied gathering.new }
     ensures same { SameCells gathering.old gathering.new }
 {
-    let settled = settle_flows(tables, index, states, cells, gathering, flows);
+    let settled = settle_flows(indexed, states, cells, gathering, flows);
     cells.fill(None);
     clear(gathering);
     settled
@@ -174,9 +168,7 @@ pub fn act(
     ensures emptied { Emptied gathering.new }
     ensures same { SameCells gathering.old gathering.new }
 {
-    gathering.found = Gathered::default();
-    gathering.queued = 0;
-    gathering.pending = 0;
+    gathering.begin();
     reading::gather(tables, cells, gathering, 1, action);
     let changed = change(gathering.found, gathering.given, states);
     clear(gathering);

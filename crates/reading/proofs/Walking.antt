@@ -1,7 +1,7 @@
 -- One node of an instruction: what `assignment`, `test` and `step` ask and give.
 use mathlib.Core.Path.{◌≡◌, refl, sym, ap, subst, ◌∙◌}
 use mathlib.Core.Logic.{◌⊎◌, inl, inr, ⊎_elim}
-use mathlib.Core.Bool.{true, false}
+use mathlib.Core.Bool.{true, false, true≢false}
 use mathlib.Core.List.{List, [], ◌∷◌, ◌++◌, append-nil}
 use Prim.Native.Nat.{ℕ, suc, ◌+◌, ◌-◌, ◌<◌, ◌^◌}
 use native.Mathlib.Omega.{arith}
@@ -15,6 +15,7 @@ use denote.Enum.Declared.{tag_of}
 use Rattle.evaluation.specs.declared.Evaluation.{Evaluation}
 use Rattle.evaluation.specs.declared.Evaluation.TheVariants.{Unknown, Failed, Value}
 use Rattle.evaluation.specs.Numbers.{eq_z, boolean}
+use Rattle.evaluation.specs.Meaning.{is_true}
 use Rattle.evaluation.specs.contracts.Evaluation.{the_type}
 use Rattle.evaluation.proofs.Signed.{read_back}
 use Rattle.model.specs.Trees.{Expression, Instruction, count}
@@ -118,10 +119,19 @@ module _ (ks : List ℕ) (ps : List ℤ) where
       unfolding InstructionAt
       place_past nexts places = places.instruction i r.next.at (subst (λ n. InstructionAt ks ps i n) (sym body_place) h.2) ∙ omega (arith, body_place)
 
-    pub tested_true : {v : ℤ} → r.evaluation ≡ Value v → eq_z v (boolean true) ≡ true
+    tested_value : {v : ℤ} → r.evaluation ≡ Value v → eq_z v (boolean true) ≡ true
         → (c : Expression) (i : Instruction) → InstructionAt ks ps (if_then c i) at → Walks now r.next.at 1 (if_then c i)
     unfolding walked_by at_once due_after chosen_branch size_of size_of_all count gather_all under news_of mark_at_once stamp_of found_by
-    tested_true p t c i h = rw (noting, p, condition c i h p, t, body_due c i h, append-nil start.news)
+    tested_value p t c i h = rw (noting, p, condition c i h p, t, body_due c i h, append-nil start.news)
+
+    pub tested_true : is_true r.evaluation ≡ true → (c : Expression) (i : Instruction) → InstructionAt ks ps (if_then c i) at → Walks now r.next.at 1 (if_then c i)
+    unfolding is_true
+    tested_true = by r.evaluation refl
+      where
+        by : (v : Evaluation) → r.evaluation ≡ v → is_true v ≡ true → (c : Expression) (i : Instruction) → InstructionAt ks ps (if_then c i) at → Walks now r.next.at 1 (if_then c i)
+        by Unknown p t = absurd (true≢false (sym t))
+        by Failed p t = absurd (true≢false (sym t))
+        by (Value v) p t = tested_value p t
 
     module _ (nexts : List ℕ) (places : NextPlaces ks ps nexts) where
       tested_unknown : r.evaluation ≡ Unknown → (c : Expression) (i : Instruction) → InstructionAt ks ps (if_then c i) at → Walks now (get_or nexts r.next.at 0) 0 (if_then c i)
@@ -132,13 +142,19 @@ module _ (ks : List ℕ) (ps : List ℤ) where
       unfolding walked_by at_once due_after chosen_branch size_of size_of_all count gather_all gather under news_of mark_at_once stamp_of found_by
       tested_failed p c i h = rw (noting, p, condition c i h p, place_past c i h nexts places, append-nil start.news)
 
-      pub tested_nothing : OneOf all_but_value (tag_of the_type r.evaluation) → (c : Expression) (i : Instruction) → InstructionAt ks ps (if_then c i) at → Walks now (get_or nexts r.next.at 0) 0 (if_then c i)
-      tested_nothing k c i h = ⊎_elim (λ p. tested_unknown p c i h) (λ p. tested_failed p c i h) (no_value r.evaluation k)
-
-      pub tested_false : {v : ℤ} → r.evaluation ≡ Value v → eq_z v (boolean true) ≡ false
+      tested_false : {v : ℤ} → r.evaluation ≡ Value v → eq_z v (boolean true) ≡ false
           → (c : Expression) (i : Instruction) → InstructionAt ks ps (if_then c i) at → Walks now (get_or nexts r.next.at 0) 0 (if_then c i)
       unfolding walked_by at_once due_after chosen_branch size_of size_of_all count gather_all under news_of mark_at_once stamp_of found_by
       tested_false p t c i h = rw (noting, p, condition c i h p, t, place_past c i h nexts places, append-nil start.news)
+
+      pub tested_other : is_true r.evaluation ≡ false → (c : Expression) (i : Instruction) → InstructionAt ks ps (if_then c i) at → Walks now (get_or nexts r.next.at 0) 0 (if_then c i)
+      unfolding is_true
+      tested_other = by r.evaluation refl
+        where
+          by : (v : Evaluation) → r.evaluation ≡ v → is_true v ≡ false → (c : Expression) (i : Instruction) → InstructionAt ks ps (if_then c i) at → Walks now (get_or nexts r.next.at 0) 0 (if_then c i)
+          by Unknown p t = tested_unknown p
+          by Failed p t = tested_failed p
+          by (Value v) p t = tested_false p t
 
   -- ---- any instruction, by its kind
 

@@ -8,9 +8,8 @@ ghost use Rattle.model.specs.Trees.{Expression, Instruction};
 ghost use Rattle.model.specs.Trees.Instruction.{assign, if_then};
 ghost use Rattle.model.specs.Standing.{InstructionAt};
 ghost use Rattle.expressions.specs.Cells.{valuation_of};
+ghost use Rattle.interpreter.specs.Gathering.{nothing_found};
 ghost use Rattle.interpreter.specs.Cells.{InstructionStands, AssignmentStands, TestStands};
-ghost use Rattle.waiting.specs.News.{Room};
-ghost use Rattle.waiting.specs.Marks.{mark_count};
 ghost use Rattle.reading.specs.Readings.{held_in, marking, noted, giving, read_by, walked, walked_by, Whole, SameCells};
 
 use evaluation::Evaluation;
@@ -27,7 +26,8 @@ const IF_THEN: u8 = Kind::IfThen as u8;
 
 // What readings gather, in cells that are lent: what was found, the values given, the flows that became known, the first `queued` of the
 // queue, and the marks of what waits, `pending` of them set. A count is stored before or after what it counts, so between the two there
-// is no invariant.
+// is no invariant. A mark is a round, and 0 where nothing waits: an Option would take twice the memory, which is fixed. The queue is read
+// by place while it grows, so it is no tape.
 #[derive(Drop)]
 pub struct Gathering<'a> {
     pub found: Gathered,
@@ -39,6 +39,15 @@ pub struct Gathering<'a> {
 }
 
 impl Gathering<'_> {
+    // Nothing is found, and of the queue and the marks nothing counts, as at the beginning of a reading.
+    pub fn begin(&mut self)
+        ensures { self.new ≡ record self.old { found = nothing_found; queued = 0; pending = 0 } }
+    {
+        self.found = Gathered::default();
+        self.queued = 0;
+        self.pending = 0;
+    }
+
     // The instruction at place `at` is marked as waiting since a round, or, by 0, as not waiting.
     fn mark(&mut self, at: usize, stamp: u16)
         requires { (at < length self.old.waits.now) × Whole self.old }
@@ -52,6 +61,7 @@ impl Gathering<'_> {
     }
 
     // What came of the own expression of the instruction at place `at`: it waits where that is unknown, and something may have failed.
+    #[tactic(auto, unfolding(crate::specs::Readings::found_by, waiting::specs::Marks::stamp_of))]
     fn note(&mut self, at: usize, round: u16, evaluation: Evaluation)
         requires { (at < length self.old.waits.now) × Whole self.old }
         ensures noted { held_in self.new ≡ noted evaluation at round (held_in self.old) }
@@ -147,13 +157,11 @@ fn test(
     );
     let body = condition.next.at;
     gathering.note(at, round, condition.evaluation);
-    if let Evaluation::Value(value) = condition.evaluation
-        && value == 1
-    {
+    if condition.evaluation.is_true() {
         return Walk { next: body, due: 1 };
     }
     Walk {
-        next: tables.nexts[body] as usize,
+        next: usize::from(tables.nexts[body]),
         due: 0,
     }
 }

@@ -1,6 +1,5 @@
--- What the slices of a decoded model tell of its meaning: the tests of lengths, the initial values, whether a run holds.
+-- What the slices of a decoded model tell of its meaning: its initial values, and that it writes each cell.
 use mathlib.Core.Path.{◌≡◌, refl, sym, ap, ◌∙◌}
-use mathlib.Core.Bool.{Bool, true, false, not}
 use mathlib.Core.List.{List, [], ◌∷◌, map}
 use Prim.Native.Nat.{ℕ, zero, suc, ◌≤◌}
 use native.Mathlib.Omega.{arith}
@@ -15,11 +14,8 @@ use Rattle.variables.specs.Rows.{variable_row, firsts_in}
 use Rattle.variables.proofs.Columns.{firsts_of, column_length}
 use Rattle.engine.specs.Cells.{Loaded}
 use Rattle.engine.proofs.Loading.{loaded_states}
-use Rattle.engine.proofs.Counts.{meaning, rows_count, guards_count}
+use Rattle.engine.proofs.Counts.{meaning, rows_count}
 use Rattle.semantics.specs.Meanings.{meaning_of}
-use Rattle.standing.specs.Runs.{Run}
-use Rattle.standing.specs.Holding.{ends_of, holds_over, holds}
-use Rattle.standing.proofs.Holding as standing
 use Rattle.replaying.specs.Replays.{initial}
 use Rattle.replaying.proofs.Written.{Complete}
 use Rattle.replaying.proofs.Ends.{settle_complete}
@@ -31,13 +27,6 @@ take_map f (suc n) (a ∷ l) = ap (λ k. f a ∷ k) (take_map f n l)
 
 module _ {model : Model} {kinds : List ℕ} {parameters : List ℤ} {rows : List VariableRow} {nexts guards : List ℕ}
     (d : Loaded model kinds parameters rows nexts guards) where
-  -- what the code's tests of lengths tell
-  pub enough_values : (values : List ℤ) → length rows ≤ length values → length (meaning d).declarations ≤ length values
-  enough_values values h = omega (arith, rows_count d)
-
-  pub from_transitions : (t : ℕ) → length guards ≤ t → (meaning d).transitions ≤ t
-  from_transitions t h = omega (arith, guards_count d)
-
   pub meaning_complete : Complete (meaning d)
   unfolding meaning_of
   meaning_complete = settle_complete d.decoded.system
@@ -61,18 +50,6 @@ module _ {model : Model} {kinds : List ℕ} {parameters : List ℤ} {rows : List
     first_part : take model.sizes.states cells ≡ firsts_in (take model.sizes.states rows)
     first_part = ap (take model.sizes.states) e ∙ take_at (firsts_in (take model.sizes.states rows)) _ model.sizes.states first_count
 
-    pub initial_count : model.sizes.states ≡ length (take model.sizes.states cells)
-    initial_count = sym (ap length first_part ∙ first_count)
-
-    pub initial_part : take model.sizes.states cells ≡ initial (meaning d)
-    initial_part = first_part ∙ first_states
-
-  -- the code's test whether the run holds
-  module _ (r : Run) (b : Bool) (e : b ≡ holds_over (length guards) (map ends_of rows) r) where
-    pub stale : not b ≡ true → holds (meaning d) r ≡ false
+    pub initial_part : take (meaning d).states cells ≡ initial (meaning d)
     unfolding meaning_of
-    stale = standing.stale (meaning d) (length guards) rows (guards_count d) d.decoded.variables_decoded r b e
-
-    pub held : not b ≡ false → holds (meaning d) r ≡ true
-    unfolding meaning_of
-    held = standing.held (meaning d) (length guards) rows (guards_count d) d.decoded.variables_decoded r b e
+    initial_part = ap (λ s. take s cells) (sym (loaded_states d)) ∙ first_part ∙ first_states

@@ -4,15 +4,17 @@
 
 #![tactic(auto)]
 
-ghost use Rattle.std.specs.Prelude.{◌≡◌, not, ◌&&◌, ◌≤◌, List, ℕ, false, is_ok, length};
+ghost use Rattle.std.specs.Prelude.{◌≡◌, not, ◌&&◌, ◌≤◌, false, is_ok, length};
 ghost use Rattle.results.specs.Results.{answered};
 ghost use Rattle.standing.specs.Runs.{run, store};
 ghost use Rattle.lines.specs.Lines.{room, mark_width, written_into};
+ghost use Rattle.run.specs.Lent.{store_in, SameCells};
 ghost use Rattle.replies.specs.Replies.{reply, opening, is_started};
-ghost use Rattle.replies.specs.Printing.{lacks_room, is_short, line_of, text_into, reply_into, Replied};
+ghost use Rattle.replies.specs.Printing.{is_short, line_of, reply_into, Replied};
 
 use commands::Command;
 use results::Refusal;
+use run::Store;
 
 // The start: is the run started, and how many bytes its line has; none, if there was no room for it. A start that is refused has a line too.
 #[derive(Clone, Copy, PartialEq, Eq, Debug)]
@@ -21,14 +23,17 @@ pub struct Opening {
     pub written: Option<usize>,
 }
 
-// Is a slice of this length too short for some line of a run with so many values, and so many marks to print?
-fn is_short(length: usize, values: usize, marks: usize) -> bool
-    ensures { result ≡ lacks_room length values marks }
+// Is a slice too short for some line of the run, with so many values, or of its marks, with so many cells to copy them into?
+fn is_short(out: &[u8], store: &Store<'_>) -> bool
+    ensures { result ≡ is_short out.now (store_in store.now) }
 {
-    lines::is_short::<i32>(length, values) || lines::is_short::<u8>(length, marks)
+    let length = out.len();
+    lines::is_short::<i32>(length, store.values.len())
+        || lines::is_short::<u8>(length, store.buffer.len())
 }
 
 // The line that was written, or that of the refusal.
+#[tactic(auto, unfolding(lines::specs::Lines::line_into))]
 fn written(line: Result<Option<usize>, Refusal>, out: &mut [u8]) -> Option<usize>
     ensures { room mark_width 0 ≤ length out.old → written_into result out.new ≡ line_of line out.old }
 {
@@ -39,21 +44,22 @@ fn written(line: Result<Option<usize>, Refusal>, out: &mut [u8]) -> Option<usize
 }
 
 // Carries out a command, 13 if there is none, and writes its line unless it is refused.
+#[tactic(auto, unfolding(run::specs::Lists::call_by, run::specs::Lists::call_on, steps::specs::Answers::on_file, crate::specs::Replies::reply, crate::specs::Replies::run_text, crate::specs::Replies::look_text, lines::specs::Lines::line_into, results::specs::Refusals::number_of))]
 fn carry_out(
     command: Option<Command>,
     model: &[u8],
-    values: &mut [i32],
-    marks: &mut [u8],
-    history: &mut [u8],
-    n: &mut usize,
-    buffer: &mut [u8],
+    store: &mut Store<'_>,
     out: &mut [u8],
 ) -> Result<Option<usize>, Refusal>
-    ensures { lacks_room (length out.old) (length values.old) (length buffer.old) ≡ false
-        → Replied result out.old out.new (store (run values.new marks.new history.new n.new) buffer.new)
-        (reply model.now command (store (run values.old marks.old history.old n.old) buffer.old)) }
+    ensures replied { is_short out.old (store_in store.old) ≡ false
+        → Replied result out.old out.new (store_in store.new) (reply model.now command (store_in store.old)) }
+    ensures same { SameCells store.old store.new }
 {
     let command = command.ok_or(Refusal::NoCommand)?;
+    let values = &mut *store.values;
+    let marks = &mut *store.marks;
+    let history = &mut *store.history;
+    let n = &mut store.n;
     match command {
         Command::Fire(transition) => {
             let count = run::fire(model, values, marks, history, n, transition)?;
@@ -64,14 +70,16 @@ fn carry_out(
             Ok(lines::back_line(values, out))
         }
         Command::Marks => {
-            run::marks(model, values, marks, history, *n, buffer)?;
+            store.copy_marks(model)?;
+            let buffer = &mut *store.buffer;
             Ok(lines::marks_line(buffer, out))
         }
     }
 }
 
 // Carries out a command, or refuses a line that is none, and writes its line. The run is lent slice by slice, since its owner lends parts
-// of arrays: of a part in a struct it is not known afterwards that it is that part.
+// of arrays: of a part that is lent in a struct to be changed it is not known afterwards that it is that part.
+#[tactic(auto, unfolding(crate::specs::Printing::reply_into))]
 pub fn respond(
     command: Option<Command>,
     model: &[u8],
@@ -86,31 +94,38 @@ pub fn respond(
         ≡ reply_into out.old (store (run values.old marks.old history.old n.old) buffer.old)
         (reply model.now command (store (run values.old marks.old history.old n.old) buffer.old)) }
 {
-    if is_short(out.len(), values.len(), buffer.len()) {
+    let mut store = Store {
+        values,
+        marks,
+        history,
+        n: *n,
+        buffer,
+    };
+    if is_short(out, &store) {
         return None;
     }
-    let line = carry_out(command, model, values, marks, history, n, buffer, out);
+    let line = carry_out(command, model, &mut store, out);
+    *n = store.n;
     written(line, out)
 }
 
 // The start, and its line unless it is refused.
-fn begin(
-    model: &[u8],
-    values: &mut [i32],
-    marks: &mut [u8],
-    n: &mut usize,
-    out: &mut [u8],
-) -> Result<Option<usize>, Refusal>
-    ensures started { (history buffer : List ℕ) → is_ok result ≡ is_started model.now (store (run values.old marks.old history n.old) buffer) }
-    ensures replied { (history buffer : List ℕ) → lacks_room (length out.old) (length values.old) (length buffer) ≡ false
-        → Replied result out.old out.new (store (run values.new marks.new history n.new) buffer)
-        (opening model.now (store (run values.old marks.old history n.old) buffer)) }
+#[tactic(auto, unfolding(run::specs::Lists::call_by, run::specs::Lists::call_on, steps::specs::Answers::on_file, crate::specs::Replies::run_text, crate::specs::Replies::is_accepted, lines::specs::Lines::line_into, results::specs::Refusals::number_of))]
+fn begin(model: &[u8], store: &mut Store<'_>, out: &mut [u8]) -> Result<Option<usize>, Refusal>
+    ensures started { is_ok result ≡ is_started model.now (store_in store.old) }
+    ensures replied { is_short out.old (store_in store.old) ≡ false
+        → Replied result out.old out.new (store_in store.new) (opening model.now (store_in store.old)) }
+    ensures same { SameCells store.old store.new }
 {
+    let values = &mut *store.values;
+    let marks = &mut *store.marks;
+    let n = &mut store.n;
     let count = run::start(model, values, marks, n)?;
     Ok(lines::ok_line(count, values, out))
 }
 
 // The start and its line.
+#[tactic(auto, unfolding(crate::specs::Printing::reply_into))]
 pub fn open(
     model: &[u8],
     values: &mut [i32],
@@ -126,13 +141,21 @@ pub fn open(
         ≡ reply_into out.old (store (run values.old marks.old history.old n.old) buffer.old)
         (opening model.now (store (run values.old marks.old history.old n.old) buffer.old)) }
 {
-    if is_short(out.len(), values.len(), buffer.len()) {
+    let mut store = Store {
+        values,
+        marks,
+        history,
+        n: *n,
+        buffer,
+    };
+    if is_short(out, &store) {
         return Opening {
             is_started: false,
             written: None,
         };
     }
-    let line = begin(model, values, marks, n, out);
+    let line = begin(model, &mut store, out);
+    *n = store.n;
     Opening {
         is_started: line.is_ok(),
         written: written(line, out),

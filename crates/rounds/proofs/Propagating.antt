@@ -1,7 +1,6 @@
 -- The rounds as the code makes them: each turn reads the assertion over the cells, and the rounds from there are those from the
 -- beginning. A turn that gives a new value leaves fewer cells that hold nothing.
-use Rattle.std.specs.Prelude.{Option as Optional}
-use Rattle.std.specs.Prelude.{Ok, Err}
+use Rattle.std.specs.Prelude.{Option as Optional, Ok, Err}
 use mathlib.Core.Path.{◌≡◌, refl, sym, ◌∙◌}
 use mathlib.Core.Bool.{true, false, true≢false}
 use mathlib.Core.List.{List}

@@ -1,5 +1,5 @@
 -- The rounds: one reading of all, then turns over what waits. What is known between two rounds holds again after the next.
-use Rattle.std.specs.Prelude.{Option as Optional, None}
+use Rattle.std.specs.Prelude.{Option as Optional, None, Result, Ok, Err}
 use mathlib.Core.Path.{◌≡◌, refl, sym, ap, ap₂, subst, fun_ext, ◌∙◌}
 use mathlib.Core.Logic.{◌⊎◌, inl, inr, ⊎_elim}
 use mathlib.Core.Bool.{true, false, true≢false}
@@ -51,7 +51,6 @@ use Rattle.waiting.proofs.Mentions.{le_or_lt}
 use Rattle.waiting.proofs.Counting.{none_counted, none_marked}
 use Rattle.waiting.proofs.Waking.{positive, woken_begins, marked_after, enough_read, quiet_where_passed}
 use Rattle.reading.specs.Readings.{held, read_by}
-use Rattle.std.specs.Prelude.{Result, Ok, Err}
 use Rattle.rounds.specs.Cells.{AssertionStands, reached_in}
 use Rattle.rounds.specs.Rounds.{Pending, Queued, Waking, SomeWaking, StillWaking, Resting, Going, Between, Turn, Unread, Unsettled, Ready}
 use Rattle.rounds.proofs.Propagating.{going_begins, round_goes, round_rests, length_variables, rows_counted, assertion_gathers}
@@ -305,10 +304,6 @@ module _ {ks : List ℕ} {ps : List ℤ} {nexts : List ℕ} {rows : List Variabl
 
 module _ {ks : List ℕ} {ps : List ℤ} {nexts : List ℕ} {rows : List VariableRow} {at : ℕ} {cells₀ cells given : List (Optional ℤ)} {queue waits : List ℕ} {found : Gathered} {queued pending r done : ℕ}
     (some : AssertionStands ks ps nexts rows at) (t : Turn ks ps nexts rows at cells₀ cells given queue waits found queued pending r done) where
-  -- the rounds so far are counted in 16 bits, and one more
-  pub round_within : r + 1 < 65536
-  round_within = omega (arith, (t.between some).going.bound, (t.between some).first, some.well_formed.flows)
-
   module _ (clear : fault_in found ≡ none) {cells' : List (Optional ℤ)} (applied : cells' ≡ given) where
     module _ {empty : Gathered} (nothing : empty ≡ nothing_found) (long : length waits ≡ length ks) where
       begins : (a : AssertionStands ks ps nexts rows at) → Waking ks ps nexts rows at cells' (r + 1) a (valuation_of cells) (take queued queue) empty given queued queue waits

@@ -14,7 +14,7 @@ module _ (t : Tables) where
 
   -- the index is that of the assertion
   abbrev pub IndexHeld : Index → Type 0
-  IndexHeld i = Indexed t.kinds.now t.parameters.now t.model.assertion (length t.variables.now) i.heads.now i.links.now
+  IndexHeld i = Indexed t.kinds.now t.parameters.now t.model.assertion (length t.variables.now) i.heads.now i.mentions.now i.owners.now
 
   -- the cells that are worked in fit the tables, and what waits is marked and counted
   abbrev pub FittingIn : List (Option ℤ) → Gathering → Type 0

@@ -1,6 +1,5 @@
 -- What the functions of the rounds ask and promise: a round in which some of what waited has been read again, and what is known between two rounds.
-use Rattle.std.specs.Prelude.{Option as Optional, None}
-use Rattle.std.specs.Prelude.{◌≡◌, ◌⊎◌, true, false, ℕ, suc, ◌+◌, ◌-◌, ◌≤◌, ◌<◌, ℤ, length, get_or, take, drop, replicate}
+use Rattle.std.specs.Prelude.{Option as Optional, None, ◌≡◌, ◌⊎◌, true, false, ℕ, suc, ◌+◌, ◌-◌, ◌≤◌, ◌<◌, ℤ, length, get_or, take, drop, replicate}
 use mathlib.Core.List.{List, ◌++◌, Memᴰ}
 use Rattle.std.proofs.Math.Option.{none}
 use Rattle.model.specs.Trees.{System, variables}

@@ -19,7 +19,16 @@ use interpreter::{Fault, Gathered};
 use reading::Gathering;
 use tables::{Index, Tables};
 
+// The tables of a model, and the index of its assertion.
+#[derive(Clone, Copy)]
+pub struct IndexedTables<'a> {
+    pub tables: &'a Tables<'a>,
+    pub index: &'a Index<'a>,
+    pub ghost held: { IndexHeld tables.now index.now },
+}
+
 // The fault found, the lowest class first.
+#[tactic(auto, unfolding(crate::specs::Cells::finding_of, interpreter::specs::Gathering::fault_in))]
 pub fn fault_in(found: Gathered) -> Result<(), Fault>
     ensures { result ≡ finding_of (fault_in found) }
 {
@@ -35,7 +44,7 @@ pub fn fault_in(found: Gathered) -> Result<(), Fault>
     Ok(())
 }
 
-// The cells of the flows in the queue from `done` on become what was given.
+// The cells of the flows in the queue from `done` on become what was given. The queue names them in any order, so they are set by number.
 fn apply(gathering: &Gathering<'_>, done: usize, cells: &mut [Option<i32>])
     requires { Pending gathering.now.queue.now done gathering.now.queued cells.old gathering.now.given.now
         × Queued gathering.now.queue.now gathering.now.queued (length gathering.now.given.now) × (done ≤ gathering.now.queued) }
@@ -70,21 +79,22 @@ fn visit(
     reading::gather(tables, cells, gathering, round, at);
 }
 
-// What waits and mentions the variable is read, from the first mention on, by the links.
+// What waits and mentions the variable is read, from the first mention on.
 fn wake(
-    tables: &Tables<'_>,
-    index: &Index<'_>,
+    indexed: &IndexedTables<'_>,
     cells: &[Option<i32>],
     gathering: &mut Gathering<'_>,
     round: u16,
     variable: usize,
 )
-    requires { SomeWakingIn tables.now cells.now round gathering.old × FittingIn tables.now cells.now gathering.old × IndexHeld tables.now index.now
-        × (variable < length tables.now.variables.now) }
-    ensures still { StillWakingIn tables.now cells.now round gathering.old gathering.new }
-    ensures passed { Passed tables.now.kinds.now tables.now.parameters.now tables.now.model.assertion round gathering.new.waits.now variable }
+    requires { SomeWakingIn indexed.now.tables.now cells.now round gathering.old × FittingIn indexed.now.tables.now cells.now gathering.old
+        × (variable < length indexed.now.tables.now.variables.now) }
+    ensures still { StillWakingIn indexed.now.tables.now cells.now round gathering.old gathering.new }
+    ensures passed { Passed indexed.now.tables.now.kinds.now indexed.now.tables.now.parameters.now indexed.now.tables.now.model.assertion round gathering.new.waits.now variable }
     ensures same { SameCells gathering.old gathering.new }
 {
+    let tables = indexed.tables;
+    let index = indexed.index;
     let nodes = tables.kinds.len();
     let mut mention = usize::from(index.heads[variable]);
     // Each mention tells the next, so there is no sequence to go over.
@@ -92,35 +102,34 @@ fn wake(
         if gathering.pending == 0 {
             return;
         }
-        let owner = usize::from(index.links[nodes + mention]);
+        let owner = usize::from(index.owners[mention]);
         visit(tables, cells, gathering, round, owner);
-        mention = usize::from(index.links[mention]);
+        mention = usize::from(index.mentions[mention]);
     }
 }
 
 // What waits and mentions a flow in the queue is read, for those from `done` on. The queue grows meanwhile, so it is read by place.
 fn wake_all(
-    tables: &Tables<'_>,
-    index: &Index<'_>,
+    indexed: &IndexedTables<'_>,
     cells: &[Option<i32>],
     gathering: &mut Gathering<'_>,
     round: u16,
     done: usize,
 )
-    requires { SomeWakingIn tables.now cells.now round gathering.old × FittingIn tables.now cells.now gathering.old × IndexHeld tables.now index.now
-        × Queued gathering.old.queue.now gathering.old.queued (length tables.now.variables.now) × (done ≤ gathering.old.queued) }
-    ensures still { StillWakingIn tables.now cells.now round gathering.old gathering.new }
+    requires { SomeWakingIn indexed.now.tables.now cells.now round gathering.old × FittingIn indexed.now.tables.now cells.now gathering.old
+        × Queued gathering.old.queue.now gathering.old.queued (length indexed.now.tables.now.variables.now) × (done ≤ gathering.old.queued) }
+    ensures still { StillWakingIn indexed.now.tables.now cells.now round gathering.old gathering.new }
     ensures passed { (x : ℕ) → Memᴰ x (drop done (take gathering.old.queued gathering.old.queue.now))
-        → Passed tables.now.kinds.now tables.now.parameters.now tables.now.model.assertion round gathering.new.waits.now x }
+        → Passed indexed.now.tables.now.kinds.now indexed.now.tables.now.parameters.now indexed.now.tables.now.model.assertion round gathering.new.waits.now x }
     ensures same { SameCells gathering.old gathering.new }
 {
     for k in done..gathering.queued {
         let variable = usize::from(gathering.queue[k]);
-        wake(tables, index, cells, gathering, round, variable);
+        wake(indexed, cells, gathering, round, variable);
     }
 }
 
-// Everything that waits since an earlier round is read, from the assertion on.
+// Everything that waits since an earlier round is read, from the assertion on. A reading changes the marks, so they are asked by place.
 pub fn scan(tables: &Tables<'_>, cells: &[Option<i32>], gathering: &mut Gathering<'_>, round: u16)
     requires { SomeWakingIn tables.now cells.now round gathering.old × FittingIn tables.now cells.now gathering.old }
     ensures still { StillWakingIn tables.now cells.now round gathering.old gathering.new }
@@ -135,57 +144,55 @@ pub fn scan(tables: &Tables<'_>, cells: &[Option<i32>], gathering: &mut Gatherin
     }
 }
 
-// One round: the first reads the assertion, a later one what waits and mentions a flow that the last made known.
+// One round: the first reads the assertion, a later one what waits and mentions a flow that the last made known. The queue and the marks go on
+// from round to round, so nothing begins here but what is found.
 fn read_round(
-    tables: &Tables<'_>,
-    index: &Index<'_>,
+    indexed: &IndexedTables<'_>,
     cells: &mut [Option<i32>],
     gathering: &mut Gathering<'_>,
     round: u16,
     done: usize,
 )
-    requires { SomeReadyIn tables.now cells.old gathering.old round done × FittingIn tables.now cells.old gathering.old × IndexHeld tables.now index.now }
-    ensures turn { (start : List (Option ℤ)) → ReadyIn tables.now start cells.old gathering.old round done
-        → TurnIn tables.now start cells.new gathering.new round gathering.old.queued }
+    requires { SomeReadyIn indexed.now.tables.now cells.old gathering.old round done × FittingIn indexed.now.tables.now cells.old gathering.old }
+    ensures turn { (start : List (Option ℤ)) → ReadyIn indexed.now.tables.now start cells.old gathering.old round done
+        → TurnIn indexed.now.tables.now start cells.new gathering.new round gathering.old.queued }
     ensures applied { cells.new ≡ gathering.old.given.now }
     ensures same { SameCells gathering.old gathering.new }
 {
     gathering.found = Gathered::default();
     if round == 1 {
+        let tables = indexed.tables;
         reading::gather(tables, cells, gathering, round, tables.model.assertion);
         return;
     }
     apply(gathering, done, cells);
-    wake_all(tables, index, cells, gathering, round, done);
+    wake_all(indexed, cells, gathering, round, done);
 }
 
 // Rounds over the cells until one sets nothing, or a fault is met: how many were made.
 pub fn rounds(
-    tables: &Tables<'_>,
-    index: &Index<'_>,
+    indexed: &IndexedTables<'_>,
     cells: &mut [Option<i32>],
     gathering: &mut Gathering<'_>,
 ) -> Result<usize, Fault>
-    requires { AssertionHeld tables.now
-        × FittingIn tables.now cells.old (record gathering.old { queued = 0; pending = 0 })
-        × IndexHeld tables.now index.now
-        × (gathering.old.waits.now ≡ replicate (length tables.now.kinds.now) 0) × (gathering.old.given.now ≡ cells.old) }
-    ensures reached { (a : AssertionHeld tables.now)
+    requires { AssertionHeld indexed.now.tables.now
+        × FittingIn indexed.now.tables.now cells.old (record gathering.old { queued = 0; pending = 0 })
+        × (gathering.old.waits.now ≡ replicate (length indexed.now.tables.now.kinds.now) 0) × (gathering.old.given.now ≡ cells.old) }
+    ensures reached { (a : AssertionHeld indexed.now.tables.now)
         → (reached_in result cells.new ≡ propagation_specs.rounds (trees.variables a.system) a.system.assertion (suc (length a.system.flows)) 0 (valuation_of cells.old))
-        × ((count : ℕ) → result ≡ Ok count → RestingIn tables.now a cells.new gathering.new count) }
+        × ((count : ℕ) → result ≡ Ok count → RestingIn indexed.now.tables.now a cells.new gathering.new count) }
     ensures found { (finding_of (fault_in gathering.new.found) ≡ ending result) × IfOk result (λ _. gathering.new.found.fresh ≡ false) }
-    ensures counted { Queued gathering.new.queue.now gathering.new.queued (length tables.now.variables.now)
+    ensures counted { Queued gathering.new.queue.now gathering.new.queued (length indexed.now.tables.now.variables.now)
         × (gathering.new.pending ≡ mark_count gathering.new.waits.now) }
     ensures same { SameCells gathering.old gathering.new }
 {
-    gathering.queued = 0;
-    gathering.pending = 0;
+    gathering.begin();
     let mut round: u16 = 1;
     let mut done = 0;
     // The form that 01 names: a loop that yields its outcome by break.
     loop {
         let queued = gathering.queued;
-        read_round(tables, index, cells, gathering, round, done);
+        read_round(indexed, cells, gathering, round, done);
         done = queued;
         match fault_in(gathering.found) {
             Err(fault) => break Err(fault),

@@ -133,6 +133,11 @@ module _ (v : Verdict) (values : List ℤ) (marks history : List ℕ) (n : ℕ) 
 
 -- ---- the code's answers on a file
 
+-- what is said of the run that was moved holds of the slices that it was made of
+pub placed : {a : Answer} {values new : List ℤ} {marks marked history : List ℕ} {n : ℕ} {d : runs.Done Run}
+    → values ≡ new → marks ≡ marked → answered a (run new marked history n) ≡ d → answered a (run values marks history n) ≡ d
+placed v m e = rw (v, m) e
+
 module _ (v : Verdict) (values : List ℤ) (marks history : List ℕ) (n : ℕ) (new : List ℤ) (marked : List ℕ) where
   -- a move answered so, and left the new values and marks
   abbrev pub Advanced : Move → Result ℕ Refusal → Run → Type 0

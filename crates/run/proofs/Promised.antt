@@ -54,9 +54,9 @@ module _ (m : List ℕ) (fits : (i : ℕ) → Fits w8 (get_or m i 0)) where
       (answer_of_lem (fire_reached m s (rounds count) _ t (fire_on_file (verdict m) values marks history n (rounds count) new marked t (rw q at e))))
 
   -- one call, given by value, whose answer tells this
-  pub performed : (call c : Call) (s : Store) (a : Result declared.Answer Refusal) (s' : Store) → call ≡ c → {x : Answer} → seen_as told a ≡ x
-      → Promise m c s (answered x s') → PerformPromise m call s a s'
-  performed call c s a s' called tells p = rw (called, tells) (p, bounded m bytes c s (answered _ s') p)
+  pub performed : {call c : Call} (s : Store) (a : Result declared.Answer Refusal) {s' : Store} → call ≡ c → {x : Answer}
+      → Promise m c s (answered x s') → seen_as told a ≡ x → PerformPromise m call s a s'
+  performed {c = c} s a {s'} called p tells = rw (called, tells) (p, bounded m bytes c s (answered _ s') p)
 
 pub undo_allowed : (m : List ℕ) (values : List ℤ) (marks history : List ℕ) (n : ℕ) (r : Result ℕ Refusal) (new : List ℤ) (marked : List ℕ) (count : ℕ) → r ≡ Ok count
     → Advanced (verdict m) values marks history n new marked moves.Undo r (run values marks history n)

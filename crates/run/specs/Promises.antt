@@ -7,7 +7,7 @@ use Rattle.model.specs.Check.{verdict, answer_of}
 use Rattle.run.specs.declared.Call.{Call}
 use Rattle.run.specs.declared.Answer as declared
 use Rattle.standing.specs.declared.RangeCheck.{RangeCheck}
-use Rattle.standing.specs.Runs.{Answer, Store, run, answered}
+use Rattle.standing.specs.Runs.{Answer, Run, Store, run, answered}
 use Rattle.standing.specs.Runs.Answer.{rounds, done, number, sizes, picked}
 use Rattle.steps.specs.Answers.{seen_as, on_file, on_file_answer}
 use Rattle.steps.specs.Calls as calls
@@ -50,15 +50,15 @@ UndoPromise m values marks history n r values' marks' n' =
     answered (seen_as (λ _. done) r) (run values' marks' history n')
     ≡ on_file (verdict m) (λ m. calls.undo m (run values marks history n)) (run values marks history n)
 
-abbrev pub MarksPromise : List ℕ → List ℤ → List ℕ → List ℕ → ℕ → List ℕ → Result (Unit {0}) Refusal → List ℕ → Type 0
-MarksPromise m values marks history n buffer r buffer' =
-    answered (seen_as (λ _. done) r) buffer' ≡ on_file (verdict m) (λ m. queries.marks m (run values marks history n) buffer) buffer
+abbrev pub MarksPromise : List ℕ → Run → List ℕ → Result (Unit {0}) Refusal → List ℕ → Type 0
+MarksPromise m lent buffer r buffer' =
+    answered (seen_as (λ _. done) r) buffer' ≡ on_file (verdict m) (λ m. queries.marks m lent buffer) buffer
 
-abbrev pub ValuePromise : List ℕ → List ℤ → List ℕ → List ℕ → ℕ → ℕ → Result ℤ Refusal → Type 0
-ValuePromise m values marks history n x r = seen_as number r ≡ on_file_answer (verdict m) (λ m. queries.value m x (run values marks history n))
+abbrev pub ValuePromise : List ℕ → Run → ℕ → Result ℤ Refusal → Type 0
+ValuePromise m lent x r = seen_as number r ≡ on_file_answer (verdict m) (λ m. queries.value m x lent)
 
-abbrev pub PickPromise : List ℕ → List ℤ → List ℕ → List ℕ → ℕ → Result (Option ℕ) Refusal → Type 0
-PickPromise m values marks history n r = seen_as picked r ≡ on_file_answer (verdict m) (λ m. queries.pick m (run values marks history n))
+abbrev pub PickPromise : List ℕ → Run → Result (Option ℕ) Refusal → Type 0
+PickPromise m lent r = seen_as picked r ≡ on_file_answer (verdict m) (λ m. queries.pick m lent)
 
 -- neither the marks nor the history nor n is lent
 abbrev pub FirstOutsidePromise : List ℕ → List ℤ → Result RangeCheck Refusal → Type 0

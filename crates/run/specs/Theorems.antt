@@ -33,13 +33,13 @@ pub record CallsReached : Type 0 where
       (values' : List ℤ) (marks' : List ℕ) (n' : ℕ) → UndoPromise m values marks history n r values' marks' n'
       → Promise m Undo (store (run values marks history n) buffer) (answered (seen_as (λ _. done) r) (store (run values' marks' history n') buffer))
   pub marks : (m : List ℕ) (values : List ℤ) (marks history : List ℕ) (n : ℕ) (buffer : List ℕ) (r : Result (Unit {0}) Refusal) (buffer' : List ℕ)
-      → MarksPromise m values marks history n buffer r buffer'
+      → MarksPromise m (run values marks history n) buffer r buffer'
       → Promise m Marks (store (run values marks history n) buffer) (answered (seen_as (λ _. done) r) (store (run values marks history n) buffer'))
   pub value : (m : List ℕ) (values : List ℤ) (marks history : List ℕ) (n x : ℕ) (buffer : List ℕ) (r : Result ℤ Refusal)
-      → ValuePromise m values marks history n x r
+      → ValuePromise m (run values marks history n) x r
       → Promise m (Value x) (store (run values marks history n) buffer) (answered (seen_as number r) (store (run values marks history n) buffer))
   pub pick : (m : List ℕ) (values : List ℤ) (marks history : List ℕ) (n : ℕ) (buffer : List ℕ) (r : Result (Option ℕ) Refusal)
-      → PickPromise m values marks history n r
+      → PickPromise m (run values marks history n) r
       → Promise m Pick (store (run values marks history n) buffer) (answered (seen_as picked r) (store (run values marks history n) buffer))
   pub first_outside : (m : List ℕ) (values : List ℤ) (marks history : List ℕ) (n : ℕ) (buffer : List ℕ) (r : Result RangeCheck Refusal)
       → FirstOutsidePromise m values r

@@ -2,13 +2,15 @@
 
 #![tactic(auto)]
 
+ghost use Rattle.std.specs.Prelude.{◌≡◌};
 ghost use Rattle.run.specs.Promises.{CheckPromise, StartPromise, FirePromise, UndoPromise, MarksPromise, ValuePromise, PickPromise, FirstOutsidePromise, PerformPromise};
 ghost use Rattle.run.specs.Lent.{store_in, SameCells};
+ghost use Rattle.standing.specs.Runs.{run_in};
 
 use model::Sizes;
 use replaying::Move;
 use results::Refusal;
-use standing::{RangeCheck, Run};
+use standing::{MovingRun, RangeCheck, Run};
 
 // A call, with its transition or variable number.
 #[derive(Clone, Copy, PartialEq, Eq, Debug)]
@@ -45,6 +47,34 @@ pub struct Store<'a> {
     pub buffer: &'a mut [u8],
 }
 
+impl Store<'_> {
+    // The run, as the calls that only read are lent it.
+    pub fn run(&self) -> Run<'_>
+        ensures { run_in result ≡ (store_in self.now).run }
+    {
+        Run::new(self.values, self.marks, self.history, self.n)
+    }
+
+    // The marks call, into the buffer. Not by `run`, which borrows the buffer too.
+    pub fn copy_marks(&mut self, model: &[u8]) -> Result<(), Refusal>
+        ensures copied { MarksPromise model.now (store_in self.old).run self.old.buffer.now result self.new.buffer.now }
+        ensures run { (store_in self.new).run ≡ (store_in self.old).run }
+        ensures same { SameCells self.old self.new }
+    {
+        let values = &mut *self.values;
+        let marks = &mut *self.marks;
+        let history = &mut *self.history;
+        let run = Run {
+            values,
+            marks,
+            history,
+            count: self.n,
+        };
+        let buffer = &mut *self.buffer;
+        self::marks(model, &run, buffer)
+    }
+}
+
 // The check of a model: its five sizes.
 pub fn check(model: &[u8]) -> Result<Sizes, Refusal>
     ensures { CheckPromise model.now result }
@@ -62,7 +92,13 @@ pub fn start(
     ensures { StartPromise model.now values.old marks.old n.old result
         values.new marks.new n.new }
 {
-    let rounds = advancing::advance(model, values, marks, &[0u8; 0], 0, Move::Start)?;
+    let mut run = MovingRun {
+        values,
+        marks,
+        history: &[0u8; 0],
+        count: 0,
+    };
+    let rounds = advancing::advance(model, &mut run, Move::Start)?;
     *n = 0;
     Ok(rounds)
 }
@@ -80,7 +116,13 @@ pub fn fire(
         values.new marks.new history.new n.new }
 {
     let count = *n;
-    let rounds = advancing::advance(model, values, marks, history, count, Move::Fire(transition))?;
+    let mut run = MovingRun {
+        values,
+        marks,
+        history,
+        count,
+    };
+    let rounds = advancing::advance(model, &mut run, Move::Fire(transition))?;
     history[count] = transition as u8;
     *n = count + 1;
     Ok(rounds)
@@ -98,68 +140,36 @@ pub fn undo(
         values.new marks.new n.new }
 {
     let count = *n;
-    advancing::advance(model, values, marks, history, count, Move::Undo)?;
+    let mut run = MovingRun {
+        values,
+        marks,
+        history,
+        count,
+    };
+    advancing::advance(model, &mut run, Move::Undo)?;
     *n = count - 1;
     Ok(())
 }
 
 // The marks that the run holds, copied, whatever its guards come to; start, fire and undo leave those of the guards.
-pub fn marks(
-    model: &[u8],
-    values: &[i32],
-    marks: &[u8],
-    history: &[u8],
-    n: usize,
-    buffer: &mut [u8],
-) -> Result<(), Refusal>
-    ensures { MarksPromise model.now values.now marks.now history.now n buffer.old result buffer.new }
+pub fn marks(model: &[u8], run: &Run<'_>, buffer: &mut [u8]) -> Result<(), Refusal>
+    ensures { MarksPromise model.now (run_in run.now) buffer.old result buffer.new }
 {
-    let run = Run {
-        values,
-        marks,
-        history,
-        count: n,
-    };
-    inspection::marks(model, &run, buffer)
+    inspection::marks(model, run, buffer)
 }
 
-// The value of a variable; the calls that only read differ in what they hand the run to.
-pub fn value(
-    model: &[u8],
-    values: &[i32],
-    marks: &[u8],
-    history: &[u8],
-    n: usize,
-    variable: usize,
-) -> Result<i32, Refusal>
-    ensures { ValuePromise model.now values.now marks.now history.now n variable result }
+// The value of a variable.
+pub fn value(model: &[u8], run: &Run<'_>, variable: usize) -> Result<i32, Refusal>
+    ensures { ValuePromise model.now (run_in run.now) variable result }
 {
-    let run = Run {
-        values,
-        marks,
-        history,
-        count: n,
-    };
-    inspection::value(model, &run, variable)
+    inspection::value(model, run, variable)
 }
 
 // The fireable transition with the lowest number, or none exactly if no guard is true.
-pub fn pick(
-    model: &[u8],
-    values: &[i32],
-    marks: &[u8],
-    history: &[u8],
-    n: usize,
-) -> Result<Option<usize>, Refusal>
-    ensures { PickPromise model.now values.now marks.now history.now n result }
+pub fn pick(model: &[u8], run: &Run<'_>) -> Result<Option<usize>, Refusal>
+    ensures { PickPromise model.now (run_in run.now) result }
 {
-    let run = Run {
-        values,
-        marks,
-        history,
-        count: n,
-    };
-    picking::pick(model, &run)
+    picking::pick(model, run)
 }
 
 // The first variable whose value is outside its ends or none, and how many values were looked at. The values alone are lent.
@@ -178,7 +188,6 @@ pub fn perform(call: Call, model: &[u8], store: &mut Store<'_>) -> Result<Answer
     let marks = &mut *store.marks;
     let history = &mut *store.history;
     let n = &mut store.n;
-    let buffer = &mut *store.buffer;
     match call {
         Call::Check => check(model).map(Answer::Sizes),
         Call::Start => start(model, values, marks, n).map(Answer::Rounds),
@@ -186,13 +195,9 @@ pub fn perform(call: Call, model: &[u8], store: &mut Store<'_>) -> Result<Answer
             fire(model, values, marks, history, n, transition).map(Answer::Rounds)
         }
         Call::Undo => undo(model, values, marks, history, n).map(|()| Answer::Done),
-        Call::Marks => {
-            self::marks(model, values, marks, history, *n, buffer).map(|()| Answer::Done)
-        }
-        Call::Value(variable) => {
-            value(model, values, marks, history, *n, variable).map(Answer::Number)
-        }
-        Call::Pick => pick(model, values, marks, history, *n).map(Answer::Picked),
+        Call::Marks => store.copy_marks(model).map(|()| Answer::Done),
+        Call::Value(variable) => value(model, &store.run(), variable).map(Answer::Number),
+        Call::Pick => pick(model, &store.run()).map(Answer::Picked),
         Call::FirstOutside => first_outside(model, values).map(Answer::Outside),
     }
 }

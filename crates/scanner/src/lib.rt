@@ -38,7 +38,7 @@ static WORDS: [(&[u8], Token); 22] = [
 ];
 
 // The greatest number that can be typed.
-const GREATEST: u32 = 2147483647;
+const GREATEST: u32 = i32::MAX as u32;
 
 // The token of a word with a meaning of its own.
 fn fixed_token(word: &[u8]) -> Option<Token>

@@ -40,11 +40,6 @@ module _ {A : Type 0} where
   any_mono p q f [] h = h
   any_mono p q f (a ∷ l) h = or_mono (p a) (any p l) (q a) (any q l) (f a) (any_mono p q f l) h
 
-  pub any_or : (p q : A → Bool) (l : List A) → any (λ a. p a || q a) l ≡ (any p l || any q l)
-  unfolding any
-  any_or p q [] = refl
-  any_or p q (a ∷ l) = rw (any_or p q l) (or_inner (p a) (q a) (any p l) (any q l))
-
 pub or_exchange : (a b c : Bool) → (a || (b || c)) ≡ (b || (a || c))
 or_exchange a b c = sym (or_assoc a b c) ∙ ap (λ t. t || c) (or_comm a b) ∙ or_assoc b a c
 

@@ -3,29 +3,28 @@
 use mathlib.Core.Path.{◌≡◌, refl, sym, ap, ◌∙◌}
 use mathlib.Core.Bool.{Bool, true, false, cond, not, ◌&&◌}
 use mathlib.Core.List.{List, [], ◌∷◌, map}
-use Prim.Native.Nat.{ℕ, zero, suc, ◌+◌, ◌≤◌, ◌<◌, ◌^◌}
+use Prim.Native.Nat.{ℕ, zero, suc, ◌+◌, ◌≤◌, ◌<◌}
 use native.Mathlib.Numerals.{add-one}
 use native.Mathlib.Omega.{arith}
 use borrow.Author.Tests.{not-true, not-false}
 use lib.IntN.{ℤ, pos}
-use lib.Signed.{mag, le_z}
-use mir.Syntax.{w32}
-use mir.Val.{to_z, of_z}
+use lib.Signed.{le_z}
 use lib.ListN.{length, get_or, drop}
-use Rattle.std.specs.Prelude.{Option, Some, None, is_none}
-use Rattle.evaluation.proofs.Signed.{read_test}
+use Rattle.std.specs.Prelude.{Option, Some, None}
+use Rattle.std.specs.Borrow.{Bor}
+use Rattle.std.specs.Slice.{IsItemAt}
+use Rattle.std.proofs.lemmas.List.{map-id}
 use Rattle.model.specs.Trees.{Variable}
 use Rattle.variables.specs.declared.VariableRow.{VariableRow}
-use Rattle.variables.specs.Rows.{variable_rows, lows_in, highs_in, within_ends}
-use Rattle.semantics.specs.Meanings.{Meaning}
-use Rattle.standing.specs.Runs.{Run}
-use Rattle.standing.specs.Holding.{ends_of, first_outside, history_holds, marks_within, holds_over, holds}
+use Rattle.variables.specs.Rows.{variable_rows, within_row}
+use Rattle.variables.proofs.Columns.{blank}
+use Rattle.standing.specs.Holding.{ends_of, first_outside, all_below}
 
 -- ---- the values
 
 -- the value at a place lies within the ends there
 abbrev is_in_ends : List VariableRow → List ℤ → ℕ → Bool
-is_in_ends rows values i = within_ends (lows_in rows) (highs_in rows) i (get_or values i (pos 0))
+is_in_ends rows values i = within_row (get_or rows i blank) (get_or values i (pos 0))
 
 nil : (i : ℕ) → ◌≡◌ {A = List ℤ} (drop i []) []
 nil zero = refl
@@ -73,20 +72,25 @@ module _ (rows : List VariableRow) (values : List ℤ) where
     pub all_within : i ≤ length rows → length rows ≤ i → None ≡ whole
     all_within below past = sym (left ∙ ended rows values i i past)
 
-    module _ (h : i < length rows) where
-      pub none_there : length values ≤ i → Some i ≡ whole
-      none_there m = sym (left ∙ missing rows values i i h m)
+    -- the value is there and within, or not
+    module _ (h : i < length rows) (given : Option (Bor ℤ)) (got : IsItemAt values i given) (b : Bool)
+        (none : given ≡ None → b ≡ false) (some : (value : Bor ℤ) → given ≡ Some value → b ≡ within_row (get_or rows i blank) value.now) where
+      pub decided : whole ≡ cond b (first_outside (drop (suc i) (map ends_of rows)) (drop (suc i) values) (suc i)) (Some i)
+      decided = left ∙ go given got none some
+        where
+          go : (given : Option (Bor ℤ)) → IsItemAt values i given → (given ≡ None → b ≡ false)
+              → ((value : Bor ℤ) → given ≡ Some value → b ≡ within_row (get_or rows i blank) value.now)
+              → first_outside (drop i (map ends_of rows)) (drop i values) i ≡ cond b (first_outside (drop (suc i) (map ends_of rows)) (drop (suc i) values) (suc i)) (Some i)
+          go None got none some = rw (none refl) (missing rows values i i h got.3)
+          go (Some value) got none some =
+              let same : value.now ≡ get_or values i (pos 0) = got.4 (omega arith) (pos 0) in
+              rw (some value refl, same) (step rows values i i h got.3.0)
 
-      module _ (k : i < length values) (v : mag (get_or values i (pos 0)) < 2 ^ 31)
-          {r : Bool} (test : r ≡ within_ends (lows_in rows) (highs_in rows) i (to_z w32 (of_z w32 (get_or values i (pos 0))))) where
-        told : {t : Bool} → r ≡ t → is_in_ends rows values i ≡ t
-        told = read_test (within_ends (lows_in rows) (highs_in rows) i) (record { sfits = v }) test
+      pub outside_there : not b ≡ true → Some i ≡ whole
+      outside_there e = let o : b ≡ false = not-true b e in sym (rw o at decided)
 
-        pub outside_there : not r ≡ true → Some i ≡ whole
-        outside_there e = sym (left ∙ let o : is_in_ends rows values i ≡ false = told (not-true r e) in rw o at (step rows values i i h k))
-
-        pub goes_on : not r ≡ false → Left (i + 1)
-        goes_on e = rw (add-one i) (left ∙ let o : is_in_ends rows values i ≡ true = told (not-false r e) in rw o at (step rows values i i h k))
+      pub goes_on : not b ≡ false → Left (i + 1)
+      goes_on e = let o : b ≡ true = not-false b e in rw (add-one i) (rw o at decided)
 
 -- the ends of the rows of a model are those of its variables
 pub outside_rows : (vs : List Variable) (values : List ℤ) (x : ℕ) → first_outside (map ends_of (variable_rows vs)) values x ≡ first_outside vs values x
@@ -95,18 +99,9 @@ outside_rows [] values x = refl
 outside_rows (v ∷ vs) [] x = refl
 outside_rows (v ∷ vs) (c ∷ cs) x = ap (λ o. cond (le_z v.low c && le_z c v.high) o (Some x)) (outside_rows vs cs (suc x))
 
--- ---- the test over rows is the test over a model
+-- ---- numbers below a bound
 
-module _ (m : Meaning) (transitions : ℕ) (rows : List VariableRow) (counted : transitions ≡ m.transitions) (declared : rows ≡ variable_rows m.declarations)
-    (r : Run) (b : Bool) (e : b ≡ holds_over transitions (map ends_of rows) r) where
-  run_holds : b ≡ holds m r
-  run_holds =
-      e ∙ ap (λ l. holds_over transitions (map ends_of l) r) declared
-      ∙ ap (λ o. history_holds transitions r.count r.history && (marks_within transitions r.marks && is_none o)) (outside_rows m.declarations r.values 0)
-      ∙ ap (λ t. holds_over t m.declarations r) counted
-
-  pub stale : not b ≡ true → holds m r ≡ false
-  stale t = sym run_holds ∙ not-true b t
-
-  pub held : not b ≡ false → holds m r ≡ true
-  held t = sym run_holds ∙ not-false b t
+-- what all_below answers of numbers, each of which stands for itself
+pub below_itself : (bound : ℕ) (cells : List ℕ) (r : Bool)
+    → ((number : ℕ → ℕ) → ((cell n : ℕ) → n ≡ cell → n ≡ number cell) → r ≡ all_below bound (map number cells)) → r ≡ all_below bound cells
+below_itself bound cells r answers = answers (λ n. n) (λ cell n e. e) ∙ ap (all_below bound) (map-id cells)

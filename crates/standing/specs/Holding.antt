@@ -1,6 +1,6 @@
 -- 9, 10 and 20: does a run fit a model. 01: "every other call takes 9 and, start excepted, 20"; A4: 10 "in every call on a run". A3's
 -- check of the values takes 9 alone.
-use Rattle.std.specs.Prelude.{◌≡◌, ◌⊎◌, ◌≤◌, ◌<◌, Bool, cond, ◌&&◌, List, [], ◌∷◌, ℕ, suc, leb, ltb, ℤ, length, take, Option, Some, None, is_none}
+use Rattle.std.specs.Prelude.{◌≡◌, ◌⊎◌, ◌≤◌, ◌<◌, Bool, cond, ◌&&◌, List, [], ◌∷◌, map, ℕ, suc, leb, ltb, ℤ, length, take, Option, Some, None, is_none}
 use Rattle.std.specs.List.{list_all}
 use Rattle.std.specs.Int.Signed.{le_z}
 use Rattle.kinds.specs.declared.Sort.TheVariants.{Number}
@@ -8,6 +8,7 @@ use Rattle.model.specs.Trees.{Variable}
 use Rattle.results.specs.declared.refusal.Refusal.{Refusal}
 use Rattle.results.specs.declared.refusal.Refusal.TheVariants.{ShortValues, ShortSlice}
 use Rattle.semantics.specs.Meanings.{Meaning}
+use Rattle.standing.specs.declared.Declared.{Declared}
 use Rattle.standing.specs.Runs.{Run}
 use Rattle.variables.specs.declared.VariableRow.{VariableRow}
 
@@ -20,11 +21,15 @@ too_short m values = ltb (length values) (length m.declarations)
 abbrev pub too_few : Meaning → List ℕ → Bool
 too_few m marks = ltb (length marks) m.transitions
 
--- 9, or else 10: too few values for these rows of variables, or too few marks for so many transitions
-abbrev pub IsShort : ℕ → List VariableRow → Run → Refusal → Type 0
-IsShort transitions rows r e =
-    ((e ≡ ShortValues) × (length r.values < length rows))
-    ⊎ ((e ≡ ShortSlice) × (length rows ≤ length r.values) × (length r.marks < transitions))
+-- neither 9 nor 10: a value for each of these variables, a mark for each of these transitions
+abbrev pub IsEnough : Declared → Run → Type 0
+IsEnough d r = (length d.variables.now ≤ length r.values) × (d.transitions ≤ length r.marks)
+
+-- 9, or else 10: too few values for these variables, or too few marks for so many transitions
+abbrev pub IsShort : Declared → Run → Refusal → Type 0
+IsShort d r e =
+    ((e ≡ ShortValues) × (length r.values < length d.variables.now))
+    ⊎ ((e ≡ ShortSlice) × (length d.variables.now ≤ length r.values) × (length r.marks < d.transitions))
 
 -- every number of a list is below t
 abbrev pub all_below : ℕ → List ℕ → Bool
@@ -60,3 +65,7 @@ holds m r = holds_over m.transitions m.declarations r
 -- the variable with the ends and the first value of a row; its sort, which nothing here asks, is not in the row
 abbrev pub ends_of : VariableRow → Variable
 ends_of row = record { sort = Number; low = row.low; high = row.high; first = row.first }
+
+-- 20 as a whole, over what is declared
+abbrev pub holds_declared : Declared → Run → Bool
+holds_declared d r = holds_over d.transitions (map ends_of d.variables.now) r

@@ -2,3 +2,5 @@
 -- 01's own:
 pub mod Runs
 pub mod Holding
+-- how the code goes about it:
+pub mod Lent

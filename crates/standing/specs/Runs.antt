@@ -3,6 +3,7 @@
 use Rattle.std.specs.Prelude.{List, ℕ, ℤ, Option}
 use Rattle.model.specs.declared.Sizes.{Sizes}
 use Rattle.standing.specs.declared.Run.{Run as Lent}
+use Rattle.standing.specs.declared.MovingRun.{MovingRun}
 use Rattle.results.specs.Results.{Answered}
 pub use Rattle.results.specs.Results.{answered}
 
@@ -23,6 +24,10 @@ run values marks history count = record { values = values; marks = marks; histor
 -- the run that is lent as slices and a count
 abbrev pub run_in : Lent → Run
 run_in r = run r.values.now r.marks.now r.history.now r.count
+
+-- the run that a move is lent
+abbrev pub moving_run : MovingRun → Run
+moving_run r = run r.values.now r.marks.now r.history.now r.count
 
 abbrev pub store : Run → List ℕ → Store
 store r buffer = record { run = r; buffer = buffer }

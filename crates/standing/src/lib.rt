@@ -2,9 +2,10 @@
 
 #![tactic(auto)]
 
-ghost use Rattle.std.specs.Prelude.{◌≡◌, ◌≤◌, ◌<◌, IfSome, IfOk, IfErr, map, length, take};
-ghost use Rattle.standing.specs.Runs.{run_in};
-ghost use Rattle.standing.specs.Holding.{ends_of, first_outside, looked_at, all_below, history_holds, holds_over, IsShort};
+ghost use Rattle.std.specs.Prelude.{◌≡◌, ◌<◌, ℕ, true, false, IfSome, IfOk, IfErr, map, length};
+ghost use Rattle.results.specs.declared.refusal.Refusal.TheVariants.{InvalidRun};
+ghost use Rattle.standing.specs.Runs.{run, run_in, moving_run};
+ghost use Rattle.standing.specs.Holding.{ends_of, first_outside, looked_at, all_below, history_holds, marks_within, holds_declared, IsEnough, IsShort};
 
 use results::Refusal;
 use variables::VariableRow;
@@ -21,6 +22,22 @@ pub struct Run<'a> {
     pub count: usize,
 }
 
+// A run as it is lent to a move: values and marks to be changed; the history and the count are read, and follow its answer.
+#[derive(Drop)]
+pub struct MovingRun<'a> {
+    pub values: &'a mut [i32],
+    pub marks: &'a mut [u8],
+    pub history: &'a [u8],
+    pub count: usize,
+}
+
+// What the tests of a call on a run ask of a model: how many transitions it has, and the rows of its variables.
+#[derive(Clone, Copy)]
+pub struct Declared<'a> {
+    pub transitions: usize,
+    pub variables: &'a [VariableRow],
+}
+
 // What a check of values found: the first variable outside its ends or none, and how many values it looked at.
 #[derive(Clone, Copy, PartialEq, Eq, Debug)]
 pub struct RangeCheck {
@@ -29,13 +46,16 @@ pub struct RangeCheck {
 }
 
 // The first variable outside its ends, or none; no value after that one is looked at. A value that is missing is outside.
-// By a loop: a find would need a contract for its test, which is longer.
+// By a loop: the test of a `find` would look at the second slice too, and owe a contract, which is longer.
 fn first_outside(variables: &[VariableRow], values: &[i32]) -> Option<usize>
     ensures first { result ≡ first_outside (map ends_of variables.now) values.now 0 }
     ensures declared { IfSome result (λ x. x < length variables.now) }
 {
-    for variable in 0..variables.len() {
-        if values.len() <= variable || !variables[variable].is_within(values[variable]) {
+    for (variable, row) in variables.iter().enumerate() {
+        if !values
+            .get(variable)
+            .is_some_and(|value| row.is_within(*value))
+        {
             return Some(variable);
         }
     }
@@ -55,45 +75,81 @@ pub fn check_ranges(variables: &[VariableRow], values: &[i32]) -> RangeCheck
     }
 }
 
-// Is each of the first `count` cells below the bound; of all, if there are fewer.
-fn all_below(bound: usize, count: usize, cells: &[u8]) -> bool
-    ensures { result ≡ all_below bound (take count cells.now) }
+// Is each number below the bound: bytes, or numbers as wide as they come.
+pub fn all_below<T: Copy + Into<usize>>(bound: usize, cells: &[T]) -> bool
+    ensures { (number : T → ℕ) → ((cell : T) (n : ℕ) → T.converts cell n → n ≡ number cell)
+        → result ≡ all_below bound (map number cells.now) }
 {
-    cells
-        .iter()
-        .take(count)
-        .all(|cell| usize::from(*cell) < bound)
+    cells.iter().all(|cell| (*cell).into() < bound)
+}
+
+impl<'a> Run<'a> {
+    // The run of these slices and this count.
+    pub fn new(values: &'a [i32], marks: &'a [u8], history: &'a [u8], count: usize) -> Run<'a>
+        ensures { run_in result ≡ run values.now marks.now history.now count }
+    {
+        Run {
+            values,
+            marks,
+            history,
+            count,
+        }
+    }
+}
+
+impl MovingRun<'_> {
+    // The run as it is before the move.
+    pub fn shared(&self) -> Run<'_>
+        ensures { run_in result ≡ moving_run self.now }
+    {
+        Run::new(self.values, self.marks, self.history, self.count)
+    }
 }
 
 impl Run<'_> {
-    // Are there a value for each variable and a mark for each transition.
-    pub fn measure(&self, transitions: usize, variables: &[VariableRow]) -> Result<(), Refusal>
-        ensures enough { IfOk result (λ _. (length variables.now ≤ length self.now.values.now) × (transitions ≤ length self.now.marks.now)) }
-        ensures short { IfErr result (λ e. IsShort transitions variables.now (run_in self.now) e) }
+    // Are there a value for each variable and a mark for each transition: 9, 10.
+    pub fn measure(&self, declared: &Declared<'_>) -> Result<(), Refusal>
+        ensures enough { IfOk result (λ _. IsEnough declared.now (run_in self.now)) }
+        ensures short { IfErr result (λ e. IsShort declared.now (run_in self.now) e) }
     {
-        if self.values.len() < variables.len() {
+        if self.values.len() < declared.variables.len() {
             return Err(Refusal::ShortValues);
         }
-        if self.marks.len() < transitions {
+        if self.marks.len() < declared.transitions {
             return Err(Refusal::ShortSlice);
         }
         Ok(())
     }
 
     // Is the count within the history, and is every recorded entry a transition.
-    #[tactic(auto, unfolding(crate::specs::Holding::history_holds))]
     fn history_holds(&self, transitions: usize) -> bool
         ensures { result ≡ history_holds transitions self.now.count self.now.history.now }
     {
-        self.count <= self.history.len() && all_below(transitions, self.count, self.history)
+        self.count <= self.history.len() && all_below(transitions, &self.history[..self.count])
     }
 
-    // Does the run hold, over so many transitions and the rows of the variables.
-    pub fn holds(&self, transitions: usize, variables: &[VariableRow]) -> bool
-        ensures { result ≡ holds_over transitions (map ends_of variables.now) (run_in self.now) }
+    // Is every mark of a transition 0, 1 or 2; every mark, if there are fewer than transitions.
+    fn marks_hold(&self, transitions: usize) -> bool
+        ensures { result ≡ marks_within transitions self.now.marks.now }
     {
-        self.history_holds(transitions)
-            && all_below(MARKS, transitions, self.marks)
-            && check_ranges(variables, self.values).outside.is_none()
+        all_below(MARKS, &self.marks[..transitions.min(self.marks.len())])
+    }
+
+    // Does the run hold: 20 if it does not.
+    pub fn check(&self, declared: &Declared<'_>) -> Result<(), Refusal>
+        ensures held { IfOk result (λ _. holds_declared declared.now (run_in self.now) ≡ true) }
+        ensures stale { IfErr result (λ e. (e ≡ InvalidRun) × (holds_declared declared.now (run_in self.now) ≡ false)) }
+    {
+        let transitions = declared.transitions;
+        let holds = self.history_holds(transitions)
+            && self.marks_hold(transitions)
+            && check_ranges(declared.variables, self.values)
+                .outside
+                .is_none();
+        if holds {
+            Ok(())
+        } else {
+            Err(Refusal::InvalidRun)
+        }
     }
 }

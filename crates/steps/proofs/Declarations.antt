@@ -1,21 +1,35 @@
--- How many variables are declared; a loaded model declares its own.
+-- What is declared: how many variables there are, and whether a run holds; a loaded model declares its own.
 use mathlib.Core.Path.{◌≡◌, ap, ◌∙◌}
-use mathlib.Core.List.{List}
+use mathlib.Core.Bool.{◌&&◌}
+use mathlib.Core.List.{List, map}
 use Prim.Native.Nat.{ℕ}
 use lib.IntN.{ℤ}
 use lib.ListN.{length, length-map}
+use Rattle.std.specs.Prelude.{is_none}
 use Rattle.model.specs.declared.Model.{Model}
 use Rattle.variables.specs.declared.VariableRow.{VariableRow}
 use Rattle.variables.specs.Rows.{variable_row}
 use Rattle.semantics.specs.Meanings.{Meaning, meaning_of}
 use Rattle.engine.specs.Cells.{Loaded}
 use Rattle.engine.proofs.Counts.{meaning, guards_count}
+use Rattle.standing.specs.declared.Declared.{Declared}
+use Rattle.standing.specs.Runs.{Run}
+use Rattle.standing.specs.Holding.{ends_of, history_holds, marks_within, holds, holds_over, holds_declared}
+use Rattle.standing.proofs.Holding.{outside_rows}
 use Rattle.steps.specs.Declarations.{Declares}
 
-pub rows_declared : {m : Meaning} {transitions : ℕ} {rows : List VariableRow} → Declares m transitions rows → length rows ≡ length m.declarations
-rows_declared {m} d = ap length d.declared ∙ length-map m.declarations variable_row
+module _ {m : Meaning} {d : Declared} (s : Declares m d) where
+  pub rows_declared : length d.variables.now ≡ length m.declarations
+  rows_declared = ap length s.declared ∙ length-map m.declarations variable_row
+
+  -- the test over what is declared is the test over the model
+  pub holds_same : (r : Run) → holds_declared d r ≡ holds m r
+  holds_same r =
+      ap (λ rows. holds_over d.transitions (map ends_of rows) r) s.declared
+      ∙ ap (λ o. history_holds d.transitions r.count r.history && (marks_within d.transitions r.marks && is_none o)) (outside_rows m.declarations r.values 0)
+      ∙ ap (λ t. holds_over t m.declarations r) s.counted
 
 pub loaded_declares : {model : Model} {kinds : List ℕ} {parameters : List ℤ} {rows : List VariableRow} {nexts guards : List ℕ}
-    (d : Loaded model kinds parameters rows nexts guards) → Declares (meaning d) (length guards) rows
+    (l : Loaded model kinds parameters rows nexts guards) {d : Declared} → d.transitions ≡ length guards → d.variables.now ≡ rows → Declares (meaning l) d
 unfolding meaning_of
-loaded_declares d = record { counted = guards_count d; declared = d.decoded.variables_decoded }
+loaded_declares l counted declared = record { counted = counted ∙ guards_count l; declared = declared ∙ l.decoded.variables_decoded }

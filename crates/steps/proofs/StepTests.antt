@@ -3,23 +3,20 @@ use mathlib.Core.Path.{◌≡◌, refl, sym, ap, ap₂, ◌∙◌}
 use mathlib.Core.Bool.{Bool, true, false, cond, not, ◌&&◌}
 use mathlib.Core.List.{List, [], ◌∷◌, ◌++◌, append-nil}
 use mathlib.Core.Option.{Option, some, none, none-ne-some, some-injective}
-use Prim.Native.Nat.{ℕ, ◌-◌, ◌≤◌, ◌<◌}
+use Prim.Native.Nat.{ℕ, ◌-◌, ◌≤◌}
 use native.Mathlib.Omega.{arith}
-use borrow.Author.Tests.{lt-ltb, le-ltb, ltb-false, leb-true, eq-eqb, ne_eqb, not-false}
+use borrow.Author.Tests.{ltb-false, leb-true, eq-eqb, ne_eqb, not-false}
 use lib.Dec.{leb, ltb, eqb}
 use lib.IntN.{ℤ}
 use lib.ListN.{length, take, drop, drop_of_length-le, take-append-drop}
 use lib.Seq.{length-take-le}
-use mathlib.Core.Logic.{inl, inr}
-use Rattle.results.specs.declared.refusal.Refusal.{Refusal}
-use Rattle.results.specs.Refusals.{number_of}
 use Rattle.results.specs.Results.{over}
 use Rattle.semantics.specs.Firing.{Firing}
 use Rattle.semantics.specs.Meanings.{Meaning}
 use Rattle.semantics.specs.Firing.{fired, begun}
 use Rattle.standing.specs.Runs.{Run, Answer, Done, answered}
 use Rattle.standing.specs.Runs.Answer.{refused, done}
-use Rattle.standing.specs.Holding.{IsShort, too_short, too_few, holds, history_holds}
+use Rattle.standing.specs.Holding.{too_short, too_few, holds, history_holds}
 use Rattle.marking.specs.Marks.{marks_over}
 use Rattle.replaying.specs.declared.Move.{Move}
 use Rattle.replaying.specs.declared.Move.TheVariants.{Start, Fire, Undo}
@@ -30,38 +27,10 @@ use Rattle.replaying.proofs.Longer.{longer, moved_longer}
 use Rattle.replaying.proofs.Refiring.{outcome_of, refired}
 use Rattle.steps.specs.Calls.{answer_of, started_by, start, fired_by, fire, undone_by, undo, step_on}
 use Rattle.steps.specs.Lent.{refused_at, refused_by, refused_before, answer_to, Cells, cells_left}
-use Rattle.variables.specs.declared.VariableRow.{VariableRow}
 
 -- ---- the tests
 
 module _ (m : Meaning) (r : Run) where
-  module _ (s : Move) where
-    pub values_short : length r.values < length m.declarations → some 9 ≡ refused_before m s r
-    unfolding refused_before
-    values_short h = rw (lt-ltb (length r.values) (length m.declarations) h)
-
-    module _ (enough : length m.declarations ≤ length r.values) where
-      pub marks_few : length r.marks < m.transitions → some 10 ≡ refused_before m s r
-      unfolding refused_before
-      marks_few h = rw (le-ltb (length r.values) (length m.declarations) enough, lt-ltb (length r.marks) m.transitions h)
-
-      pub both_enough : m.transitions ≤ length r.marks → (o : Option ℕ) → o ≡ refused_by m s r → o ≡ refused_before m s r
-      unfolding refused_before
-      both_enough room o e = rw (le-ltb (length r.values) (length m.declarations) enough, le-ltb (length r.marks) m.transitions room) e
-
-    pub measured : (transitions : ℕ) (rows : List VariableRow) {e : Refusal} → length rows ≡ length m.declarations → transitions ≡ m.transitions
-        → IsShort transitions rows r e → some (number_of e) ≡ refused_before m s r
-    unfolding number_of
-    measured transitions rows declared counted short =
-        elim short [
-          | inl h ↦ rw h.0 (values_short (omega (arith, declared, h.1)))
-          | inr h ↦ rw h.0 (marks_few (omega (arith, declared, h.1)) (omega (arith, counted, h.2)))
-        ]
-
-  pub start_passed : none ≡ refused_by m Start r
-  unfolding refused_by
-  start_passed = refl
-
   module _ (end k : ℕ) where
     pub history_stale : holds m r ≡ false → some 20 ≡ refused_at m end k r
     history_stale h = rw h
@@ -72,19 +41,6 @@ module _ (m : Meaning) (r : Run) where
 
       pub history_goes : (r.count ≡ end → ⊥) → none ≡ refused_at m end k r
       history_goes h = rw (held, ne_eqb r.count end h)
-
-  module _ (t : ℕ) where
-    pub fire_unknown : m.transitions ≤ t → some 11 ≡ refused_by m (Fire t) r
-    unfolding refused_by
-    fire_unknown h = rw (le-ltb t m.transitions h)
-
-    pub fire_tested : t < m.transitions → (o : Option ℕ) → o ≡ refused_at m (length r.history) 21 r → o ≡ refused_by m (Fire t) r
-    unfolding refused_by
-    fire_tested h o e = rw (lt-ltb t m.transitions h) e
-
-  pub undo_tested : (o : Option ℕ) → o ≡ refused_at m 0 22 r → o ≡ refused_by m Undo r
-  unfolding refused_by
-  undo_tested o e = e
 
 -- ---- what the tests come to
 
@@ -192,13 +148,6 @@ module _ (m : Meaning) (r : Run) where
     step_moved s passed e = moved_to s e ∙ ap cells_left (sym (step_passed s passed))
 
 -- ---- on a copy of the values
-
--- what is chosen by a test that is known
-pub chosen_new : {A : Type 0} (b : Bool) (new old : A) → b ≡ true → new ≡ cond b new old
-chosen_new b new old e = rw e
-
-pub chosen_old : {A : Type 0} (b : Bool) (new old : A) → b ≡ false → old ≡ cond b new old
-chosen_old b new old e = rw e
 
 pub over_all : {A : Type 0} (new old : List A) → length old ≡ length new → over new old ≡ new
 over_all new old e = ap (λ l. new ++ l) (drop_of_length-le old {i = length new} (omega (arith, e))) ∙ append-nil new

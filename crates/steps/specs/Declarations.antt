@@ -1,10 +1,10 @@
--- What a call on a run asks of a model where it works no guard out: how many transitions it has, and its variables.
-use Rattle.std.specs.Prelude.{◌≡◌, List, ℕ, ℤ}
-use Rattle.variables.specs.declared.VariableRow.{VariableRow}
+-- What the tests of a call on a run ask of a model: how many transitions it has, and its variables.
+use Rattle.std.specs.Prelude.{◌≡◌}
 use Rattle.variables.specs.Rows.{variable_rows}
 use Rattle.semantics.specs.Meanings.{Meaning}
+use Rattle.standing.specs.declared.Declared.{Declared}
 
 -- so many transitions and these rows of variables are a model's
-pub record Declares (m : Meaning) (transitions : ℕ) (rows : List VariableRow) : Type 0 where
-  pub counted : transitions ≡ m.transitions
-  pub declared : rows ≡ variable_rows m.declarations
+pub record Declares (m : Meaning) (d : Declared) : Type 0 where
+  pub counted : d.transitions ≡ m.transitions
+  pub declared : d.variables.now ≡ variable_rows m.declarations

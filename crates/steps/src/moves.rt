@@ -14,8 +14,7 @@ use interpreter::Fault;
 use replaying::Move;
 use results::Refusal;
 use semantics::{Firing, NotFired};
-use standing::Run;
-use variables::VariableRow;
+use standing::{Declared, Run};
 
 // 23 to 30.
 #[tactic(auto, unfolding(crate::specs::Calls::answer_of, results::specs::Refusals::number_of, interpreter::specs::Instructions::fault_number))]
@@ -47,18 +46,14 @@ pub fn answer_to(step: Move, firing: Firing) -> Result<usize, Refusal>
 
 // 20, and this refusal where n is at this end of the history.
 fn test_history(
-    transitions: usize,
-    variables: &[VariableRow],
+    declared: &Declared<'_>,
     run: &Run<'_>,
     end: usize,
     at_end: Refusal,
 ) -> Result<(), Refusal>
-    ensures { (m : Meaning) → Declares m transitions variables.now
-        → tested result ≡ refused_at m end (number_of at_end) (run_in run.now) }
+    ensures { (m : Meaning) → Declares m declared.now → tested result ≡ refused_at m end (number_of at_end) (run_in run.now) }
 {
-    if !run.holds(transitions, variables) {
-        return Err(Refusal::InvalidRun);
-    }
+    run.check(declared)?;
     if run.count == end {
         return Err(at_end);
     }
@@ -66,25 +61,20 @@ fn test_history(
 }
 
 // 9, 10, then what is tried for the move: 11, 20, 21 for fire, 20, 22 for undo.
-pub fn test(
-    transitions: usize,
-    variables: &[VariableRow],
-    run: &Run<'_>,
-    step: Move,
-) -> Result<(), Refusal>
-    ensures { (m : Meaning) → Declares m transitions variables.now
-        → tested result ≡ refused_before m step (run_in run.now) }
+#[tactic(auto, using(crate::proofs::Declarations::rows_declared), unfolding(crate::specs::Lent::tested, crate::specs::Lent::refused_before, crate::specs::Lent::refused_by, results::specs::Refusals::number_of))]
+pub fn test(declared: &Declared<'_>, run: &Run<'_>, step: Move) -> Result<(), Refusal>
+    ensures { (m : Meaning) → Declares m declared.now → tested result ≡ refused_before m step (run_in run.now) }
 {
-    run.measure(transitions, variables)?;
+    run.measure(declared)?;
     match step {
         Move::Start => Ok(()),
         Move::Fire(transition) => {
-            if transitions <= transition {
+            if declared.transitions <= transition {
                 return Err(Refusal::NoSuchTransition);
             }
             let end = run.history.len();
-            test_history(transitions, variables, run, end, Refusal::FullHistory)
+            test_history(declared, run, end, Refusal::FullHistory)
         }
-        Move::Undo => test_history(transitions, variables, run, 0, Refusal::EmptyHistory),
+        Move::Undo => test_history(declared, run, 0, Refusal::EmptyHistory),
     }
 }

@@ -9,19 +9,22 @@ use lib.ListN.{length, take, length-map}
 use Rattle.results.specs.Results.{Answered, answered, over}
 use Rattle.kinds.specs.declared.Sort.{Sort}
 use Rattle.model.specs.declared.Model.{Model}
-use Rattle.model.specs.Trees.{Transition, System, variables, sorts_of}
+use Rattle.model.specs.Trees.{Variable, Transition, System, variables, sorts_of}
 use Rattle.model.specs.Sizes.{byte_layout}
-use Rattle.model.specs.Check.{verdict, kinds_in, parameters_in}
+use Rattle.model.specs.Walk.{row_at, variable_at}
+use Rattle.model.specs.Check.{verdict, parameters_in}
 use Rattle.standing.specs.Holding.{all_below}
 use Rattle.std.proofs.Common.{Result, Err}
 use Rattle.results.specs.declared.refusal.Refusal.{Refusal}
-use Rattle.decoding.specs.Decoding.{Arrays, VariablesRead, prepared_by}
+use Rattle.tables.specs.declared.Tables.{Tables}
+use Rattle.decoding.specs.Decoding.{Arrays, LentOf, VariablesRead, prepared_by}
 use Rattle.decoding.proofs.Decoded.{decoded_variables}
 use Rattle.decoding.proofs.Preparing.{variables_read}
-use Rattle.decoding.proofs.InUse.{DecodedIn, take_over, refused_verdict}
-use Rattle.results.specs.declared.refusal.Refusal.TheVariants.{NoSuchTransition, NoMembers}
+use Rattle.decoding.proofs.InUse.{InUse, take_over, refused_verdict}
+use Rattle.steps.proofs.Parts.{loaded_lent}
+use Rattle.results.specs.declared.refusal.Refusal.TheVariants.{NoSuchTransition}
 use Rattle.synchronisation.specs.Synchronisations.{members_of, together, is_empty, extended_into, joined_into, synchronised_in, synchronised_by}
-use Rattle.synchronisation.specs.Members.{MembersFound}
+use Rattle.synchronisation.specs.Members.{SystemIn, MembersFound}
 use Rattle.synchronisation.proofs.Listed.{is_there, members_there}
 
 -- ---- what is there, and what is not
@@ -39,9 +42,6 @@ some_of (some a) e = (a, refl)
 -- ---- the refusals of the lists, or the new model
 
 module _ (t : System) (ms os old : List ℕ) where
-  pub none_given : (is_empty ms && is_empty os) ≡ true → answered (Err NoMembers) old ≡ synchronised_in t ms os old
-  none_given e = rw e
-
   module _ (given : (is_empty ms && is_empty os) ≡ false) where
     past_empty : synchronised_in t ms os old ≡ joined_into t (members_of t.transitions ms) (members_of t.transitions os) old
     past_empty = rw given
@@ -89,29 +89,31 @@ pub model_refused : (m : List ℕ) (before after : Arrays) (r : Result Model Ref
 unfolding synchronised_by
 model_refused m before after r e {n} h ms os old = rw (refused_verdict m before after r n (verdict m) e h)
 
-module _ (m : List ℕ) (a : Arrays) (d : Model) (x : DecodedIn m a d) where
-  pub model_accepted : (ms os old : List ℕ) {y : Answered (Result ℕ Refusal) (List ℕ)} → y ≡ synchronised_in x.system ms os old
+module _ (m : List ℕ) (a : Arrays) (d : Model) (u : InUse m a d) where
+  pub model_accepted : (ms os old : List ℕ) {y : Answered (Result ℕ Refusal) (List ℕ)} → y ≡ synchronised_in u.decoding.system ms os old
       → y ≡ synchronised_by (verdict m) ms os old
   unfolding synchronised_by
-  model_accepted ms os old h = h ∙ ap (λ v. synchronised_by v ms os old) (sym x.checked)
+  model_accepted ms os old h = h ∙ ap (λ v. synchronised_by v ms os old) (sym u.decoding.checked)
 
   -- the sorts of an accepted model's variables, read off its kinds
-  abbrev count : ℕ
-  count = d.sizes.states + d.sizes.flows
+  module _ (t : Tables) (l : LentOf m a d t) (count : ℕ) (e : count ≡ d.sizes.states + d.sizes.flows) where
+    abbrev declared : VariablesRead t.kinds.now (parameters_in byte_layout d.sizes.nodes m) count
+    declared =
+        let r = variables_read m d.sizes t.kinds.now _ l.kinds refl u.decoding.system u.decoding.checked in
+        record { variables = r.variables; next = r.next; row = ap (λ n. row_at (variable_at t.kinds.now (parameters_in byte_layout d.sizes.nodes m)) n 0) e ∙ r.row }
 
-  module _ (kinds : List ℕ) (k : kinds ≡ kinds_in byte_layout d.sizes.nodes m) where
-    abbrev declared : VariablesRead kinds (parameters_in byte_layout d.sizes.nodes m) count
-    declared = variables_read m d.sizes kinds _ k refl x.system x.checked
-
-    pub sorts_asked : (ps : List ℤ) × VariablesRead kinds ps count
+    pub sorts_asked : (ps : List ℤ) × VariablesRead t.kinds.now ps count
     sorts_asked = (parameters_in byte_layout d.sizes.nodes m, declared)
 
-    module _ (old sorts : List Sort) (read : (ps : List ℤ) (r : VariablesRead kinds ps count) → sorts ≡ over (sorts_of r.variables) old) where
-      sorts_count : length (sorts_of (variables x.system)) ≡ count
-      sorts_count = length-map (variables x.system) (λ v. v.sort) ∙ decoded_variables m d _ _ _ _ _ x
+    module _ (old sorts : List Sort) (read : (ps : List ℤ) (r : VariablesRead t.kinds.now ps count) → sorts ≡ over (sorts_of r.variables) old) where
+      abbrev vs : List Variable
+      vs = variables u.decoding.system
 
-      pub sorts_held_lem : take count sorts ≡ sorts_of (variables x.system)
-      sorts_held_lem = ap (take count) (read _ declared) ∙ take_over (sorts_of (variables x.system)) old count sorts_count
+      sorts_count : length (sorts_of vs) ≡ count
+      sorts_count = length-map vs (λ v. v.sort) ∙ decoded_variables m d _ _ _ _ _ u.decoding ∙ sym e
 
-      pub sorts_counted : count ≡ length (take count sorts)
-      sorts_counted = sym (ap length sorts_held_lem ∙ sorts_count)
+      pub sorts_held : take count sorts ≡ sorts_of vs
+      sorts_held = ap (take count) (read _ declared) ∙ take_over (sorts_of vs) old count sorts_count
+
+      abbrev pub system_lent : SystemIn t (take count sorts)
+      system_lent = record { rows = t.variables.now; loaded = loaded_lent m a d u t l; sorts_held = sorts_held }

@@ -1,12 +1,10 @@
 -- What is put on a sheet, piece by piece and as a whole.
-use mathlib.Core.Path.{◌≡◌, refl, sym, ap, ◌∙◌}
+use mathlib.Core.Path.{◌≡◌, sym, ap, ◌∙◌}
 use mathlib.Core.List.{List, [], ◌∷◌, ◌++◌, map, map-append}
-use Prim.Native.Nat.{ℕ, ◌+◌, ◌≤◌, ◌<◌}
-use native.Mathlib.Numerals.{add-one}
+use Prim.Native.Nat.{ℕ, ◌≤◌}
 use native.Mathlib.Omega.{arith}
-use lib.IntN.{ℤ, pos}
-use lib.ListN.{length, get_or, take, length-map, length-drop, length-take}
-use lib.Seq.{slice, slice-cons}
+use lib.IntN.{ℤ}
+use lib.ListN.{length, length-map}
 use Rattle.std.specs.List.{between}
 use Rattle.std.proofs.lemmas.Slice.{between_is}
 use Rattle.results.specs.Results.{over}
@@ -52,37 +50,33 @@ nodes_none ns s h g =
     sheet_path (put_none (map (λ n. n.kind) ns) s.kinds.cells s.kinds.at h)
     (put_none (map (λ n. n.parameter) ns) s.parameters.cells s.parameters.at g)
 
--- nothing is left from its end on
-no_slice : {A : Type 0} (from past : ℕ) (l : List A) → past ≤ from → slice from past l ≡ []
-no_slice from past l h = empty (slice from past l) (omega (arith, length-drop from (take past l), length-take past l))
-  where
-    empty : {A : Type 0} (l : List A) → length l ≤ 0 → l ≡ []
-    empty [] h = refl
-    empty (x ∷ l) h = absurd (omega arith)
+-- the first node that is left has been put, with the number x that was read
+pub part_more : {ks ks' : List ℕ} {ps ps' : List ℤ} {k : ℕ} {p x : ℤ} (s : Sheet) {t v : Sheet} → ks ≡ k ∷ ks' → ps ≡ p ∷ ps' → x ≡ p
+    → t ≡ put_nodes (node k x ∷ []) s → put_columns ks ps s ≡ v → put_columns ks' ps' t ≡ v
+unfolding put_all
+part_more {ks' = ks'} {ps' = ps'} {k = k} s e f read put whole =
+    ap (put_columns ks' ps') put
+    ∙ ap (λ (x : ℤ). put_columns ks' ps' (put_nodes (node k x ∷ []) s)) read
+    ∙ sheet_path (ap (λ (l : List ℕ). put_all l s.kinds) (sym e)) (ap (λ (l : List ℤ). put_all l s.parameters) (sym f))
+    ∙ whole
 
-module _ (ks : List ℕ) (ps : List ℤ) (past : ℕ) where
-  -- the first node that is left has been put, with the number x that was read
-  pub part_more : (i : ℕ) (s : Sheet) {t v : Sheet} {x : ℤ} → i < past → past ≤ length ks → past ≤ length ps → x ≡ get_or ps i (pos 0)
-      → t ≡ put_nodes (node (get_or ks i 0) x ∷ []) s → put_columns (slice i past ks) (slice i past ps) s ≡ v
-      → put_columns (slice (i + 1) past ks) (slice (i + 1) past ps) t ≡ v
-  unfolding put_all
-  part_more i s h g f read e whole =
-      ap (put_columns (slice (i + 1) past ks) (slice (i + 1) past ps)) e
-      ∙ ap (λ (x : ℤ). put_columns (slice (i + 1) past ks) (slice (i + 1) past ps) (put_nodes (node (get_or ks i 0) x ∷ []) s)) read
-      ∙ ap (λ n. put_columns (slice n past ks) (slice n past ps) (put_nodes (node (get_or ks i 0) (get_or ps i (pos 0)) ∷ []) s)) (add-one i)
-      ∙ sheet_path (ap (λ (l : List ℕ). put_all l s.kinds) (sym (slice-cons i past ks 0 h g)))
-      (ap (λ (l : List ℤ). put_all l s.parameters) (sym (slice-cons i past ps (pos 0) h f)))
-      ∙ whole
+module _ {ks : List ℕ} {ps : List ℤ} (ns : List Node) (from past : ℕ) (b : Between ks ps ns from past) where
+  -- both parts are as long
+  pub part_long : length (between from past ks) ≡ length (between from past ps)
+  part_long =
+      ap length (between_is ks from past ∙ b.kinds)
+      ∙ length-map ns (λ n. n.kind)
+      ∙ sym (ap length (between_is ps from past ∙ b.parameters) ∙ length-map ns (λ n. n.parameter))
 
   -- none is left
-  pub part_all : (ns : List Node) (from i : ℕ) (s : Sheet) {t : Sheet} → past ≤ i → Between ks ps ns from past
-      → put_columns (slice i past ks) (slice i past ps) t ≡ put_columns (slice from past ks) (slice from past ps) s → t ≡ put_nodes ns s
+  pub part_all : {ks' : List ℕ} {ps' : List ℤ} (s : Sheet) {t : Sheet} → ks' ≡ [] → ps' ≡ []
+      → put_columns ks' ps' t ≡ put_columns (between from past ks) (between from past ps) s → t ≡ put_nodes ns s
   unfolding put_all
-  part_all ns from i s {t} h b whole =
-      sheet_path (ap (λ (l : List ℕ). put_all l t.kinds) (sym (no_slice i past ks h)))
-      (ap (λ (l : List ℤ). put_all l t.parameters) (sym (no_slice i past ps h)))
+  part_all s {t} e f whole =
+      sheet_path (ap (λ (l : List ℕ). put_all l t.kinds) (sym e)) (ap (λ (l : List ℤ). put_all l t.parameters) (sym f))
       ∙ whole
-      ∙ sheet_path (ap (λ (l : List ℕ). put_all l s.kinds) b.kinds) (ap (λ (l : List ℤ). put_all l s.parameters) b.parameters)
+      ∙ sheet_path (ap (λ (l : List ℕ). put_all l s.kinds) (between_is ks from past ∙ b.kinds))
+      (ap (λ (l : List ℤ). put_all l s.parameters) (between_is ps from past ∙ b.parameters))
 
 -- ---- all of them, from the first cell on
 

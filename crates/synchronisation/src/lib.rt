@@ -6,17 +6,16 @@ ghost use Rattle.std.specs.Prelude.{◌≡◌, ◌&&◌, length};
 ghost use Rattle.results.specs.Results.{answered};
 ghost use Rattle.model.specs.Trees.{variables, sorts_of};
 ghost use Rattle.model.specs.Check.{verdict};
-ghost use Rattle.standing.specs.Holding.{all_below};
 ghost use Rattle.synchronisation.specs.Synchronisations.{is_empty, together, extended_into, synchronised_in, synchronised_by};
 ghost use Rattle.synchronisation.specs.Members.{may_fit, SystemIn, JoinIn, ExtensionStands, joined_system};
 
+use decoding::Decoding;
 use model::{Layout, Model, Sizes, Sort, check};
 use nodes::{Members, Sheet};
 use results::Refusal;
 use syntax::Tree;
 use tables::Tables;
 use tapes::Tape;
-use variables::VariableRow;
 
 mod nodes; // nodes.rt: the nodes of the new model
 
@@ -28,13 +27,6 @@ impl Members<'_> {
     {
         self.mandatory.is_empty() && self.optional.is_empty()
     }
-}
-
-// Is every member the number of a transition? What the crate standing asks of the same name is of bytes, and of the first of them.
-fn all_below(members: &[usize], transitions: usize) -> bool
-    ensures { result ≡ all_below transitions members.now }
-{
-    members.iter().all(|member| *member < transitions)
 }
 
 // Can the new model keep the limits, by the sizes of the old one and the numbers of members? Each member has at least one node.
@@ -90,7 +82,9 @@ fn extend(
     }
     let mut kinds = [0u8; nodes::ROOM];
     let mut parameters = [0i32; nodes::ROOM];
+    let tables = *tables;
     let mut sheet = Sheet {
+        tables,
         kinds: Tape {
             cells: &mut kinds,
             at: 0,
@@ -100,7 +94,7 @@ fn extend(
             at: 0,
         },
     };
-    sheet.put_system(tables, members);
+    sheet.put_system(members);
     let count = sheet.kinds.at;
     if Model::MAX_NODES < count {
         return Err(Refusal::LimitPassed);
@@ -136,10 +130,10 @@ fn join(
         return Err(Refusal::NoMembers);
     }
     let transitions = tables.guards.len();
-    if !all_below(members.mandatory, transitions) {
+    if !standing::all_below(transitions, members.mandatory) {
         return Err(Refusal::NoSuchTransition);
     }
-    if !all_below(members.optional, transitions) {
+    if !standing::all_below(transitions, members.optional) {
         return Err(Refusal::NoSuchTransition);
     }
     extend(tables, sorts, members, out)
@@ -156,30 +150,12 @@ pub fn synchronise(
     ensures { answered result out.new
         ≡ synchronised_by (verdict model.now) mandatory.now optional.now out.old }
 {
-    let mut parameters = [0i32; Model::MAX_NODES];
-    let mut variables = [VariableRow::BLANK; Model::MAX_VARIABLES];
-    let mut nexts = [0u16; Model::MAX_NODES];
-    let mut guards = [0u16; Model::MAX_TRANSITIONS];
-    let ready = decoding::prepare(
-        model,
-        &mut parameters,
-        &mut variables,
-        &mut nexts,
-        &mut guards,
-    )?;
-    let nodes = ready.sizes.nodes;
-    let count = ready.sizes.states + ready.sizes.flows;
-    let kinds = decoding::kinds_of(model, nodes);
+    let mut arrays = Decoding::BLANK;
+    let ready = arrays.prepare(model)?;
+    let tables = arrays.tables(model, ready);
+    let count = ready.sizes.variables();
     let mut sorts = [Sort::Boolean; Model::MAX_VARIABLES];
-    decoding::sorts_in(kinds, count, &mut sorts);
-    let tables = Tables {
-        model: ready,
-        kinds,
-        parameters: &parameters[..nodes],
-        variables: &variables[..count],
-        nexts: &nexts[..nodes],
-        guards: &guards[..ready.sizes.transitions],
-    };
+    decoding::sorts_in(tables.kinds, count, &mut sorts);
     let members = Members {
         mandatory,
         optional,

@@ -120,7 +120,7 @@ impl Node {
 }
 
 impl Cursor {
-    // At the first node.
+    // At the first node (01 names this form).
     pub fn empty() -> Self
         ensures { result.at ≡ 0 }
     {

@@ -17,9 +17,11 @@ pub struct Tables<'a> {
     pub guards: &'a [u16],
 }
 
-// Where each variable is mentioned first, and for each node the next mention of the same variable; past these each node's owner.
+// Where each variable is mentioned first, and for each node the next mention of the same variable, and its owner. The number of nodes stands
+// for no mention: cells of an Option would take twice the memory, which is fixed.
 #[derive(Clone, Copy)]
 pub struct Index<'a> {
     pub heads: &'a [u16],
-    pub links: &'a [u16],
+    pub mentions: &'a [u16],
+    pub owners: &'a [u16],
 }

@@ -48,7 +48,7 @@ impl From<[u8; 16]> for Head {
 }
 
 // The answer of a case is the number of its nodes.
-impl Case for Head {
+impl Case<16> for Head {
     ghost size = { λ head. head.model + head.text + 5 * head.nodes };
 
     fn body_length(self) -> usize {
@@ -96,6 +96,6 @@ fn main(rt: HostRuntime) -> io::Result<()> {
     let mut file = File::open(&rt, "cases")?;
     let mut buffer = [0u8; 16384];
     cases::run(&rt, "texts", || {
-        cases::next_case::<Head, _, _>(&rt, &mut file, &mut buffer)
+        cases::next_case::<16, Head, _, _>(&rt, &mut file, &mut buffer)
     })
 }

@@ -2,25 +2,25 @@
 use mathlib.Core.Path.{◌≡◌, sym, ap, ◌∙◌}
 use mathlib.Core.List.{List}
 use Prim.Native.Nat.{ℕ, ◌+◌}
-use lib.ListN.{take}
+use lib.ListN.{take, get_or}
+use mir.Syntax.{w8}
+use mir.Val.{Fits}
 use Rattle.results.specs.Results.{Answered, answered}
 use Rattle.model.specs.declared.Sizes.{Sizes}
-use Rattle.std.proofs.Common.{Result, Err}
+use Rattle.std.proofs.Common.{Result, Ok}
 use Rattle.results.specs.declared.refusal.Refusal.{Refusal}
 use Rattle.kinds.specs.declared.Sort.{Sort}
-use Rattle.model.specs.Trees.{sorts_of}
 use Rattle.model.specs.Check.{verdict}
 use Rattle.decoding.specs.Decoding.{sorts_after}
-use Rattle.decoding.proofs.VariablesInUse.{SortsInUse, after_refused}
+use Rattle.decoding.proofs.VariablesInUse.{SortsInUse, sorts_in_use}
 use Rattle.texts.specs.Texts.{Slices, typed_over, typed_in}
 
-module _ (m text : List ℕ) (left : List Sort) (s : Slices) where
-  -- beside a refused model
-  pub model_refused : (old : List Sort) (r : Result Sizes Refusal) (n : Refusal) → answered r left ≡ sorts_after (verdict m) old → r ≡ Err n
-      → answered (Err n) s ≡ typed_in (verdict m) text s
-  unfolding typed_in
-  model_refused old r n e h = ap (λ v. typed_in v text s) (sym (after_refused sorts_of old left r n (verdict m) e h))
+-- the sorts of an accepted model's variables
+pub sorts_found : {m : List ℕ} (old : List Sort) {left : List Sort} {r : Result Sizes Refusal} {s : Sizes} → ((i : ℕ) → Fits w8 (get_or m i 0))
+    → answered r left ≡ sorts_after (verdict m) old → r ≡ Ok s → SortsInUse m s left
+sorts_found {m} old {left} {r} {s} bytes e q = sorts_in_use m bytes old left s r e q
 
+module _ (m text : List ℕ) (left : List Sort) (s : Slices) where
   -- over the variables of an accepted one
   pub model_accepted : (z : Sizes) (a : Answered (Result ℕ Refusal) Slices) → SortsInUse m z left → a ≡ typed_over (take (z.states + z.flows) left) text s
       → a ≡ typed_in (verdict m) text s

@@ -21,6 +21,7 @@ pub const MAX_TEXT: usize = 200;
 pub const MIN_NODES: usize = composition::MAX_NODES;
 
 // The nodes of a text over variables of these sorts.
+#[tactic(auto, unfolding(crate::specs::Texts::typed_over, crate::specs::Texts::meant_by, crate::specs::Texts::written_into))]
 fn write_over(text: &[u8], sorts: &[Sort], cells: &mut Cells<'_>) -> Result<usize, Refusal>
     requires { length sorts.now ≤ 510 }
     ensures typed { answered result (slices cells.new.kinds.now cells.new.parameters.now)
@@ -57,6 +58,7 @@ fn write_over(text: &[u8], sorts: &[Sort], cells: &mut Cells<'_>) -> Result<usiz
 }
 
 // The nodes of a text, of either type, at the beginning of the two slices, and how many they are.
+#[tactic(auto, unfolding(crate::specs::Texts::typed_in, decoding::specs::Decoding::variables_after))]
 pub fn write_nodes(
     model: &[u8],
     text: &[u8],
@@ -68,7 +70,6 @@ pub fn write_nodes(
 {
     let mut sorts = [Sort::Boolean; Model::MAX_VARIABLES];
     let sizes = decoding::sorts_of(model, &mut sorts)?;
-    let count = sizes.states + sizes.flows;
     let mut cells = Cells { kinds, parameters };
-    write_over(text, &sorts[..count], &mut cells)
+    write_over(text, &sorts[..sizes.variables()], &mut cells)
 }

@@ -1,5 +1,5 @@
 -- The first values of variables, stored one after another.
-use mathlib.Core.Path.{◌≡◌, ◌∙◌}
+use mathlib.Core.Path.{◌≡◌}
 use mathlib.Core.List.{List, ◌++◌}
 use Prim.Native.Nat.{ℕ, suc, ◌+◌, ◌≤◌, ◌<◌, ◌^◌}
 use native.Mathlib.Numerals.{add-one}
@@ -7,11 +7,10 @@ use native.Mathlib.Omega.{arith}
 use lib.IntN.{ℤ, pos}
 use lib.Signed.{mag}
 use lib.ListN.{length, get_or, take, drop, set}
-use lib.Seq.{drop-cons, set_at, take-suc, append_snoc, length-take-le, take-length}
+use lib.Seq.{drop-cons, set_at, take-suc, append_snoc, length-take-le}
 use mir.Syntax.{w32}
 use mir.Val.{to_z, of_z}
 use Rattle.evaluation.proofs.Signed.{read_back}
-use Rattle.results.specs.Results.{over}
 
 module _ (new old : List ℤ) where
   -- so many are stored
@@ -23,6 +22,3 @@ module _ (new old : List ℤ) where
   store_one room cells i below e z fits is =
       rw (e, read_back z fits, is, add-one i, drop-cons old i (pos 0) (omega arith), take-suc new i (pos 0) below, append_snoc)
       (set_at (take i new) (get_or old i (pos 0)) (drop (suc i) old) (get_or new i (pos 0)) i (length-take-le i new (omega arith)))
-
-  pub store_all : (cells : List ℤ) (i : ℕ) → length new ≤ i → i ≤ length new → Stored cells i → cells ≡ over new old
-  store_all cells i past within e = let all : i ≡ length new = omega arith in e ∙ rw (all, take-length)

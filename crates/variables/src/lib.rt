@@ -30,7 +30,7 @@ impl VariableRow {
     }
 }
 
-// The first values become the first cells.
+// The first values become the first cells. By index: of what is written through a `zip` of `iter_mut` a proof knows nothing afterwards.
 pub fn first_values(variables: &[VariableRow], values: &mut [i32])
     requires { length variables.now ≤ length values.old }
     ensures { values.new ≡ over (firsts_in variables.now) values.old }

@@ -252,12 +252,6 @@ module _ (lows highs : List ℤ) where
       failed_all es (gather lows highs (gives x v) g) ∙ ap (λ t. t || any is_failure es) (failed_after lows highs g x v)
 
   module _ (n m : ℕ) where
-    rest_all : (es : List Effect) (g : Gathering) → All (Admissible n m) es → drop m (gather_all lows highs es g).given ≡ drop m g.given
-    unfolding gather_all gather All Admissible
-    rest_all [] g a = refl
-    rest_all (fails ∷ es) g a = rest_all es (gather lows highs fails g) a.1
-    rest_all (gives x v ∷ es) g a = rest_all es (gather lows highs (gives x v) g) a.1 ∙ rest_after lows highs g x v m a.0.1
-
     given_all : (es : List Effect) (g : Gathering) → length g.given ≡ n → All (Admissible n m) es
         → (y : ℕ) → valuation_of (gather_all lows highs es g).given y ≡ first_of (valuation_of g.given y) (given_to y es)
     unfolding gather_all gather All Admissible given_to given_by first_of
@@ -325,7 +319,3 @@ module _ (vs : List Variable) {lows highs : List ℤ} (l : lows ≡ map (λ d. d
 
   pub fresh_folded : (folded lows highs given es).found.fresh ≡ any (is_new (valuation_of given)) es
   fresh_folded = fresh_all lows highs (length given) (length vs) es (gathering nothing_found given) refl a
-
-  -- the cells past those of the variables stay
-  pub rest_folded : drop (length vs) (folded lows highs given es).given ≡ drop (length vs) given
-  rest_folded = rest_all lows highs (length given) (length vs) es (gathering nothing_found given) a

@@ -54,9 +54,6 @@ by_mark Unknown o w r p = ⊎_elim (λ e. Mark.kept e) (λ e. Mark.stamped o (Me
 by_mark Failed o w r p = ⊎_elim (λ e. Mark.kept e) (λ e. Mark.cleared e.1) (set_cases w o.place 0 p)
 by_mark (Value v) o w r p = ⊎_elim (λ e. Mark.kept e) (λ e. Mark.cleared e.1) (set_cases w o.place 0 p)
 
-nothing_more : {z old r p : ℕ} → z ≡ old ⊎ (z ≡ 0) → {ss : List Spot} → Mark z old r ss p
-nothing_more s = ⊎_elim (λ e. Mark.kept e) (λ e. Mark.cleared e) s
-
 under_mark : (v : Evaluation) (o : Spot) (ss : List Spot) (w : List ℕ) (r p : ℕ) (body : List ℕ → List ℕ)
     → ((u : List ℕ) → Mark (get_or (body u) p 0) (get_or u p 0) r ss p)
     → Mark (get_or (marked_under v (set w o.place (stamp_of v r)) (body (set w o.place (stamp_of v r)))) p 0) (get_or w p 0) r (spots_under v o ss) p

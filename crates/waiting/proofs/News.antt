@@ -5,7 +5,7 @@ use mathlib.Core.Bool.{Bool, true, false, true≢false, cond}
 use mathlib.Core.List.Memᴰ
 use mathlib.Core.List.{List, [], ◌∷◌, ◌++◌, append-nil, Memᴰ}
 use mathlib.Core.Option.{some, none}
-use Rattle.std.specs.Prelude.{Option, Some, None, is_some}
+use Rattle.std.specs.Prelude.{Option as Optional, Some, None, is_some}
 use Rattle.std.proofs.lemmas.List.{get_or-set_same, get_or-set_other}
 use Prim.Native.Nat.{ℕ, ◌<◌}
 use native.Mathlib.Omega.{arith}
@@ -52,7 +52,7 @@ effects_split σ (block is) = refl
 -- ---- one effect
 
 module _ (lows highs : List ℤ) where
-  abbrev after : List Effect → Gathering → List (Option ℤ)
+  abbrev after : List Effect → Gathering → List (Optional ℤ)
   after es g = (gather_all lows highs es g).given
 
   -- the cells after one effect
@@ -60,7 +60,7 @@ module _ (lows highs : List ℤ) where
   unfolding gather taken
   one_given x v g = by (get_or g.given x None) refl
     where
-      by : (c : Option ℤ) → get_or g.given x None ≡ c → (gather lows highs (gives x v) g).given ≡ cond (is_some c) g.given (set g.given x (Some v))
+      by : (c : Optional ℤ) → get_or g.given x None ≡ c → (gather lows highs (gives x v) g).given ≡ cond (is_some c) g.given (set g.given x (Some v))
       by (Some w) e = rw (e)
       by None e = rw (e)
 
@@ -90,7 +90,7 @@ module _ (lows highs : List ℤ) where
   news_changed (gives x v ∷ es) g y =
       by (is_some (get_or g.given x None)) (eqb y x) refl (one_given x v g) (news_changed es (gather lows highs (gives x v) g) y)
     where
-      last : Option ℤ
+      last : Optional ℤ
       last = get_or (gather_all lows highs es (gather lows highs (gives x v) g)).given y None
 
       by : (t u : Bool) → eqb y x ≡ u → (gather lows highs (gives x v) g).given ≡ cond t g.given (set g.given x (Some v))
@@ -103,7 +103,7 @@ module _ (lows highs : List ℤ) where
           (subst (λ z. Memᴰ y (news_of es z) ⊎ (last ≡ get_or z y None)) e h)
 
 -- the news are targets
-pub news_bounded : (n m : ℕ) (es : List Effect) (given : List (Option ℤ)) → All (Admissible n m) es → (y : ℕ) → Memᴰ y (news_of es given) → y < m
+pub news_bounded : (n m : ℕ) (es : List Effect) (given : List (Optional ℤ)) → All (Admissible n m) es → (y : ℕ) → Memᴰ y (news_of es given) → y < m
 unfolding news_of All Admissible
 news_bounded n m [] given a y h = absurd (Memᴰ.not-nil h)
 news_bounded n m (fails ∷ es) given a y h = news_bounded n m es given a.1 y h
@@ -117,18 +117,18 @@ news_bounded n m (gives x v ∷ es) given a y h =
 
 -- ---- room in the queue: a cell that is set was unknown
 
-unknown_where : (given : List (Option ℤ)) (x : ℕ) → is_some (get_or given x None) ≡ false → valuation_of given x ≡ none
+unknown_where : (given : List (Optional ℤ)) (x : ℕ) → is_some (get_or given x None) ≡ false → valuation_of given x ≡ none
 unfolding cell_value
 unknown_where given x e = by (get_or given x None) e
   where
-    by : (c : Option ℤ) → is_some c ≡ false → cell_value c ≡ none
+    by : (c : Optional ℤ) → is_some c ≡ false → cell_value c ≡ none
     by None e = refl
     by (Some w) e = absurd (true≢false e)
 
 none≢some : {w : ℤ} → none ≡ some w → ⊥
 none≢some {w} z = let y : true ≡ false = cc z in absurd (true≢false y)
 
-pub set_opens : (given : List (Option ℤ)) (x : ℕ) (v : ℤ) → x < length given → is_some (get_or given x None) ≡ false
+pub set_opens : (given : List (Optional ℤ)) (x : ℕ) (v : ℤ) → x < length given → is_some (get_or given x None) ≡ false
     → open_cells (set given x (Some v)) < open_cells given
 unfolding cell_value
 set_opens given x v h e =

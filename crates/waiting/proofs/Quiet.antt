@@ -13,8 +13,7 @@ use Rattle.model.specs.Trees.{Variable, Instruction}
 use Rattle.expressions.specs.Expressions.{Valuation}
 use Rattle.interpreter.specs.Instructions.{Effect, any, effects, is_failure, is_outside, differs, given_by, conflicts_with, fault_of, first_of, given_to}
 use Rattle.interpreter.specs.Instructions.Effect.{fails, gives}
-use Rattle.interpreter.specs.declared.Fault.{Fault}
-use Rattle.semantics.specs.Propagation.{Reached, is_known, is_new, extended, round_by}
+use Rattle.semantics.specs.Propagation.{is_known, is_new, extended}
 use Rattle.semantics.proofs.Effects.{any_false, false_at, witness, faultless, given_member, member_given, given_known}
 use Rattle.semantics.proofs.Alike.{Alike, any_append, any_mono, faults_alike, given_alike, no_conflict}
 use Rattle.waiting.specs.Waiting.{waiting, effects_of_each}
@@ -224,14 +223,3 @@ module _ (vs : List Variable) (i : Instruction) (σ : Valuation) (n : fault_of v
   extended_same f =
       fun_ext
       (λ x. ap (first_of (next x)) (given_alike alike next (no_conflict vs next (effects i next) f) x) ∙ quiet_extended vs next (effects i σ) k new x)
-
-  -- a round over all instructions is one over those that waited
-  pub round_by_new : (go : ℕ → Valuation → Reached) (count : ℕ)
-      → round_by go count next (effects i next) (fault_of vs next (effects i next)) ≡ round_by go count next new (fault_of vs next new)
-  unfolding round_by
-  round_by_new go count = by (fault_of vs next (effects i next)) refl
-    where
-      by : (o : Option Fault) → fault_of vs next (effects i next) ≡ o
-          → round_by go count next (effects i next) (fault_of vs next (effects i next)) ≡ round_by go count next new (fault_of vs next new)
-      by (some f) e = rw (← fault_same, e)
-      by none e = rw (← fault_same, e, new_same, extended_same e)

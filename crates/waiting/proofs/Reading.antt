@@ -4,7 +4,7 @@ use mathlib.Core.Path.{◌≡◌, refl, fun_ext}
 use mathlib.Core.List.{List, map}
 use Prim.Native.Nat.{◌≤◌}
 use lib.IntN.{ℤ}
-use Rattle.std.specs.Prelude.{Option}
+use Rattle.std.specs.Prelude.{Option as Optional}
 use lib.ListN.{length}
 use Rattle.model.specs.Trees.{Instruction, Variable}
 use Rattle.model.specs.Walk.{Scope}
@@ -24,7 +24,7 @@ pub record Gathers (vs : List Variable) (i : Instruction) (σ known : Valuation)
   pub given : valuation_of g.given ≡ extended (effects i σ) known
 
 pub gathers : (vs : List Variable) (i : Instruction) (s : Scope) → Scoped i s → s.past ≤ length vs
-    → (cells given : List (Option ℤ)) → s.past ≤ length given
+    → (cells given : List (Optional ℤ)) → s.past ≤ length given
     → Gathers vs i (valuation_of cells) (valuation_of given)
     (gather_all (map (λ v. v.low) vs) (map (λ v. v.high) vs) (effects i (valuation_of cells)) (gathering nothing_found given))
 gathers vs i s scoped past cells given long =

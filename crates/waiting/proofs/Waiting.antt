@@ -54,13 +54,6 @@ still_silent (assign x e) σ τ w u = rw (← depends e σ τ u, w)
 still_silent (if_then c i) σ τ w u = rw (← depends c σ τ u, w)
 still_silent (block is) σ τ w u = absurd w
 
-pub still_waits : (i : Instruction) (σ τ : Valuation) → Waits i σ → Untouched i σ τ → waiting i τ ≡ i ∷ []
-unfolding waiting waits_by waits_under Waits Untouched
-still_waits skip σ τ w u = absurd w
-still_waits (assign x e) σ τ w u = rw (← depends e σ τ u, w)
-still_waits (if_then c i) σ τ w u = rw (← depends c σ τ u, w)
-still_waits (block is) σ τ w u = absurd w
-
 -- ---- lists
 
 append_nil : {A : Type 0} (l : List A) → l ++ [] ≡ l

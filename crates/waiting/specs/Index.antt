@@ -16,9 +16,9 @@ module _ (ks : List ℕ) (ps : List ℤ) where
     pub found : first < length ks → Mention x first
 
   -- the first mention of each variable from a place on, and after each mention the next of the same variable
-  pub record Linked (from : ℕ) (heads links : List ℕ) : Type 0 where
+  pub record Linked (from : ℕ) (heads mentions : List ℕ) : Type 0 where
     pub first : (x : ℕ) → x < length heads → First x from (get_or heads x 0)
-    pub later : (x p : ℕ) → x < length heads → from ≤ p → Mention x p → First x (p + 1) (get_or links p 0)
+    pub later : (x p : ℕ) → x < length heads → from ≤ p → Mention x p → First x (p + 1) (get_or mentions p 0)
 
 -- an assignment or an if-then
 abbrev pub Owning : ℕ → Type 0
@@ -35,13 +35,11 @@ pub record Owners (ks : List ℕ) (at to : ℕ) (owner : ℕ → ℕ) : Type 0 w
   pub exact : (p o : ℕ) → at ≤ o → p < to → OwnerOf ks p o → owner p ≡ o
   pub within : (p : ℕ) → at ≤ p → p < to → owner p ≤ p
 
--- links: for each node the next mention of the same variable, and past these for each node its owner
-abbrev pub owner_in : ℕ → List ℕ → ℕ → ℕ
-owner_in nodes links p = get_or links (nodes + p) 0
-
--- the index from the place of the assertion on, with a head for each of so many variables
-pub record Indexed (ks : List ℕ) (ps : List ℤ) (at variables : ℕ) (heads links : List ℕ) : Type 0 where
+-- the index from the place of the assertion on, with a head for each of so many variables: for each node the next mention of the same
+-- variable, and its owner
+pub record Indexed (ks : List ℕ) (ps : List ℤ) (at variables : ℕ) (heads mentions owners : List ℕ) : Type 0 where
   pub head_length : length heads ≡ variables
-  pub link_length : length links ≡ length ks + length ks
-  pub linked : Linked ks ps at heads links
-  pub owners : Owners ks at (length ks) (owner_in (length ks) links)
+  pub mention_length : length mentions ≡ length ks
+  pub owner_length : length owners ≡ length ks
+  pub linked : Linked ks ps at heads mentions
+  pub owned : Owners ks at (length ks) (λ p. get_or owners p 0)

@@ -1,35 +1,13 @@
 -- `decode_variables` meets its contract, put together from what its functions leave.
-use mathlib.Core.Path.{sym}
 use native.Mathlib.Omega.{arith}
-use lib.Seq.{length-take-le}
-use Rattle.model.proofs.Encoding.{Fits, SizedAs}
-use Rattle.decoding.proofs.Preparing.{answer_sizes, answer_fits, lent_parameters, parameters_front, variables_asked, variables_decoded_lem}
+use Rattle.model.proofs.Encoding.{SizedAs}
+use Rattle.decoding.proofs.Preparing.{answer_sizes, lent_parameters, parameters_front, variables_asked, variables_decoded_lem}
 use Rattle.decoding.proofs.decode_variables.Goals as goal
-
-pub overflow_add-nodes : goal.overflow_add-nodes
-overflow_add-nodes c =
-    let sizes : SizedAs c.args.model.now c.args.sizes = answer_sizes _ _ c.requires.0 in
-    omega (arith, sizes)
 
 pub parameters_in-requires : goal.parameters_in-requires
 parameters_in-requires c =
     let sizes : SizedAs c.args.model.now c.args.sizes = answer_sizes _ _ c.requires.0 in
     (c.requires.1, omega (arith, sizes))
-
-pub slice_bounds-tree-end : goal.slice_bounds-tree-end
-slice_bounds-tree-end c =
-    omega (arith, c.requires.1, c.parameters_in.auto.parameters)
-
-pub slice_bounds-tree-end-2 : goal.slice_bounds-tree-end-2
-slice_bounds-tree-end-2 c =
-    let sizes : SizedAs c.args.model.now c.args.sizes = answer_sizes _ _ c.requires.0 in
-    sym (length-take-le c.args.sizes.nodes c.parameters_in.new.parameters (omega (arith, c.requires.1, c.parameters_in.auto.parameters)))
-
-pub variables-requires : goal.variables-requires
-variables-requires c =
-    let sizes : SizedAs c.args.model.now c.args.sizes = answer_sizes _ _ c.requires.0 in
-    let fits : Fits c.args.sizes = answer_fits _ _ c.shared_slice_known-1.given c.requires.0 in
-    omega (arith, fits)
 
 pub read_variables-requires : goal.read_variables-requires
 read_variables-requires c =

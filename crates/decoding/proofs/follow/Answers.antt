@@ -6,9 +6,6 @@ use Rattle.decoding.specs.NextPlaces.{following}
 use Rattle.decoding.proofs.Filling.{following_stop, following_turn, following_none}
 use Rattle.decoding.proofs.follow.Goals as goal
 
-pub loop-init : goal.loop-init
-loop-init c = (ap (λ n. following c.args.nexts.now c.args.nodes n c.args.from) (omega arith), c.requires.1)
-
 pub returns-then-nodes-here : goal.returns-then-nodes-here
 returns-then-nodes-here c = (sym (following_stop _ _ _ _ c.if-nodes-here.true) ∙ c.loop.invariant.0, c.loop.invariant.1)
 

@@ -1,4 +1,4 @@
-use mathlib.Core.Path.{refl, sym, ap, ◌∙◌}
+use mathlib.Core.Path.{sym, ap, ◌∙◌}
 use Prim.Native.Nat.{◌-◌}
 use native.Mathlib.Omega.{arith}
 use lib.IntN.{pos}
@@ -7,12 +7,6 @@ use Rattle.evaluation.proofs.Signed.{read_back}
 use Rattle.decoding.specs.NextPlaces.{children_by}
 use Rattle.decoding.proofs.Filling.{filled_turn, filled_none}
 use Rattle.decoding.proofs.next_places.Goals as goal
-
-pub loop-at-init : goal.loop-at-init
-loop-at-init c = (refl, refl)
-
-pub overflow_cast-nexts : goal.overflow_cast-nexts
-overflow_cast-nexts c = omega (arith, c.follow-after.ensures.1)
 
 pub loop-at-preserved : goal.loop-at-preserved
 loop-at-preserved c =
@@ -26,9 +20,6 @@ loop-at-preserved c =
           ∙ turn.invariant.0,
       length-set turn.nexts (turn.at - 1) c.follow-after.result ∙ turn.invariant.1,
     )
-
-pub shape_of-nexts : goal.shape_of-nexts
-shape_of-nexts c = c.loop-at.invariant.1
 
 pub returns : goal.returns
 returns c = sym (filled_none _ _ _ _ c.loop-at-test.false) ∙ c.loop-at.invariant.0

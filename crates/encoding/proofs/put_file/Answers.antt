@@ -7,8 +7,7 @@ use mir.Syntax.{w32}
 use Rattle.std.proofs.lemmas.Int.{to_z-of_z}
 use Rattle.model.specs.Nodes.{parameter_bytes}
 use Rattle.tapes.specs.Tapes.{tape_in, put_all}
-use Rattle.tapes.proofs.Tapes.{pieces_more, pieces_done}
-use Rattle.encoding.proofs.Files.{file_put}
+use Rattle.tapes.proofs.Tapes.{pieces_more}
 use Rattle.encoding.proofs.put_file.Goals as goal
 
 pub loop-parameter-preserved : goal.loop-parameter-preserved

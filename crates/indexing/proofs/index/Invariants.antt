@@ -1,8 +1,7 @@
--- The mentions from the last node to the first, then the owners.
-use Rattle.std.proofs.Common.{◌≡◌, ◌≤◌, length}
+-- The mentions from the last node to the first.
+use Rattle.std.proofs.Common.{◌≤◌, length}
 use Rattle.waiting.specs.Index.{Linked}
 use Rattle.indexing.proofs.index.Given as goal
 
 abbrev pub invariant-loop-at : goal.invariant-loop-at
-invariant-loop-at l =
-    (length l.heads ≡ length l.initial.heads) × (length l.links ≡ length l.initial.links) × (l.at ≤ length l.tree.kinds.now) × (l.assertion ≤ l.at) × Linked l.tree.kinds.now l.tree.parameters.now l.at l.heads l.links
+invariant-loop-at l = (l.at ≤ length l.tree.kinds.now) × (l.assertion ≤ l.at) × Linked l.tree.kinds.now l.tree.parameters.now l.at l.heads l.mentions

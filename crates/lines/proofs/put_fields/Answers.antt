@@ -1,6 +1,6 @@
 use Rattle.std.proofs.Common.{◌≡◌, ◌∷◌, ◌≤◌, length, subst, ◌∙◌}
 use Rattle.tapes.specs.Tapes.{tape_in, put_all}
-use Rattle.lines.proofs.Taping.{all_put, one_more_put}
+use Rattle.lines.proofs.Taping.{one_more_put}
 use Rattle.lines.proofs.put_fields.Goals as goal
 
 pub loop-field-preserved : goal.loop-field-preserved
@@ -13,11 +13,3 @@ loop-field-preserved g c =
       put = one_more_put g.T.Field.text g.T.Field.WIDTH l.invariant.put field.result c.loop-field-test.true p w;
       same_cells = c.put.ensures.same_cells ∙ l.invariant.same_cells;
     }
-
-pub returns-clause-put : goal.returns-clause-put
-returns-clause-put g c =
-    (all_put g.T.Field.text g.T.Field.WIDTH c.loop-field.invariant.put c.loop-field-test.false).0
-
-pub returns-clause-upper_bound : goal.returns-clause-upper_bound
-returns-clause-upper_bound g c =
-    (all_put g.T.Field.text g.T.Field.WIDTH c.loop-field.invariant.put c.loop-field-test.false).1

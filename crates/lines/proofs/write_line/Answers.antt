@@ -1,13 +1,8 @@
 -- The word, the number, the fields and the line feed, one after the other.
 use Rattle.std.proofs.Common.{◌≤◌, [], length, map, sym, ◌∙◌, arith}
 use Rattle.lines.specs.Lines.{room}
-use Rattle.lines.proofs.Lines.{too_short_lem, has_room, text, text_put, line_written}
+use Rattle.lines.proofs.Lines.{has_room, text_put, line_written}
 use Rattle.lines.proofs.write_line.Goals as goal
-
-pub returns-then-is_short : goal.returns-then-is_short
-returns-then-is_short g c =
-    let a = c.args in
-    too_short_lem a.out.now (text a.word.now a.number (map g.T.Field.text a.fields.now) a.out.now) _ c.is_short.ensures c.if-is_short.true
 
 pub returns : goal.returns
 returns g c =

@@ -1,15 +1,20 @@
 -- `advance_decoded` meets its contract.
 use native.Mathlib.Omega.{arith}
+use Rattle.decoding.proofs.Decoded.{decoded_parameters}
+use Rattle.interpreter.proofs.Due.{instruction_within}
 use Rattle.engine.proofs.Accepted.{loaded_in}
+use Rattle.engine.proofs.Loading.{loaded_assertion}
 use Rattle.moving.proofs.Parts.{part_length}
-use Rattle.loading.proofs.Parts.{parameters_count, assertion_within}
 use Rattle.loading.proofs.advance_decoded.Goals as goal
 
 pub index-requires : goal.index-requires
 index-requires g c =
-    let d = loaded_in c.args.decoded.now in (
-      part_length 0 _ g.row.LINKS c.requires.links.0,
-      parameters_count d,
-      omega (arith, c.requires.room.for_nodes, c.requires.room.most_nodes),
-      assertion_within d,
+    let t = c.args.decoded.now.tables in
+    let d = loaded_in c.args.decoded.now in
+    let assertion = instruction_within t.kinds.now t.parameters.now _ t.model.assertion (loaded_assertion d) in (
+      part_length 0 _ g.row.NODES c.requires.for_nodes,
+      part_length 0 _ g.row.NODES c.requires.for_nodes,
+      decoded_parameters _ _ _ _ _ _ _ d.decoded,
+      omega (arith, c.requires.for_nodes, c.requires.most_nodes),
+      omega (arith, assertion.0),
     )

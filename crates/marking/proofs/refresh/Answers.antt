@@ -21,7 +21,7 @@ loop-transition-preserved c =
           marks_step (meaning d) (take (length t.variables.now) c.args.values.now) _ loop.transition
           (omega (arith, c.loop-transition-test.true, loop.invariant.1)) loop.mark-items (loop.invariant.0 d) marked.result
           (guard_held d c.args.values.now c.requires.variables_in_bounds.0 _ _
-          (length_blank (length t.variables.now) c.args.cells.now c.requires.variables_in_bounds.2) written.ensures.0
+          (length_blank (length t.variables.now) c.args.cells.now c.requires.variables_in_bounds.2) written.ensures
           loop.transition c.guard.result (c.guard.ensures d) marked.result marked.ensures),
       length-set loop.mark-items loop.transition marked.result ∙ loop.invariant.1,
     )

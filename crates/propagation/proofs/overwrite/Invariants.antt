@@ -1,9 +1,9 @@
--- Values over cells. After i turns the first i cells are the values, each a number of 32 bits.
+-- Values over cells. After i turns the first i cells are the values.
 use mathlib.Core.Path.{◌≡◌}
 use Rattle.results.specs.Results.{over}
 use Rattle.propagation.specs.Cells.{cells_of}
-use Rattle.propagation.proofs.Overwriting.{partly, NumbersBelow}
+use Rattle.propagation.proofs.Overwriting.{partly}
 use Rattle.propagation.proofs.overwrite.Given as goal
 
 abbrev pub invariant-loop-i : goal.invariant-loop-i
-invariant-loop-i l = (l.cells ≡ partly (over (cells_of l.values) l.initial.cells) l.initial.cells l.i) × NumbersBelow l.i l.values
+invariant-loop-i l = l.cells ≡ partly (over (cells_of l.values) l.initial.cells) l.initial.cells l.i

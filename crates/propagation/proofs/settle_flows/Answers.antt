@@ -14,7 +14,7 @@ rounds-requires c =
     let o = c.overwrite in
     let o2 = c.overwrite-2 in
     let g = c.args.gathering.now in
-    let b = c.requires.2.gathering in
+    let b = c.requires.1.gathering in
     let few = rows_within c.requires.0.assertion in
     let given = o2.auto.cells ∙ length_given b in
     let queue = length_queue b in (
@@ -23,14 +23,13 @@ rounds-requires c =
         length_waits b,
         omega (arith, few),
         omega (arith, given),
-        o.auto.cells ∙ length_cells c.requires.2 ∙ sym given,
+        o.auto.cells ∙ length_cells c.requires.1 ∙ sym given,
         room_for_all o2.new.cells g.queue.now (omega (arith, given, queue)),
         omega (arith, few, queue),
         nothing_waits b,
       ),
-      c.requires.1,
       b.nothing_marked,
-      o2.ensures.0 ∙ ap (over (cells_of c.args.states.now)) (b.nothing_given ∙ sym c.requires.2.nothing_known) ∙ sym o.ensures.0,
+      o2.ensures ∙ ap (over (cells_of c.args.states.now)) (b.nothing_given ∙ sym c.requires.1.nothing_known) ∙ sym o.ensures,
     )
 
 pub returns-in_err-count-clause-settled : goal.returns-in_err-count-clause-settled
@@ -39,7 +38,7 @@ returns-in_err-count-clause-settled c =
     let r = c.rounds in
     let e = err_from_is_err_and c.from_residual.result c.from_residual.ensures.1 in
     λ p. rw (e.1, e.2)
-    (refused_in_rounds c.args.states.now c.args.flows.now p o.new.cells r.new.cells (o.ensures.0 ∙ ap (over (cells_of c.args.states.now)) c.requires.2.nothing_known) r.result (r.ensures.reached p.assertion).0 _ c.in_err-count.was)
+    (refused_in_rounds c.args.states.now c.args.flows.now p o.new.cells r.new.cells (o.ensures ∙ ap (over (cells_of c.args.states.now)) c.requires.1.nothing_known) r.result (r.ensures.reached p.assertion).0 _ c.in_err-count.was)
 
 pub returns-in_err-count-clause-bounded : goal.returns-in_err-count-clause-bounded
 unfolding CountWithin
@@ -52,7 +51,7 @@ returns-clause-settled c =
     let o = c.overwrite in
     let r = c.rounds in
     let f = c.finish in
-    λ p. rested_in_rounds c.args.states.now c.args.flows.now p o.new.cells r.new.cells (o.ensures.0 ∙ ap (over (cells_of c.args.states.now)) c.requires.2.nothing_known) r.result (r.ensures.reached p.assertion).0 c.in_ok-count.count c.in_ok-count.was f.result f.new.flows (f.ensures.settled p)
+    λ p. rested_in_rounds c.args.states.now c.args.flows.now p o.new.cells r.new.cells (o.ensures ∙ ap (over (cells_of c.args.states.now)) c.requires.1.nothing_known) r.result (r.ensures.reached p.assertion).0 c.in_ok-count.count c.in_ok-count.was f.result f.new.flows (f.ensures.settled p)
 
 pub returns-clause-bounded : goal.returns-clause-bounded
 returns-clause-bounded c =
@@ -60,4 +59,4 @@ returns-clause-bounded c =
     let r = c.rounds in
     let f = c.finish in
     counted_within c.args.states.now c.args.flows.now c.requires.0 f.result f.new.flows
-    (λ p. rested_in_rounds c.args.states.now c.args.flows.now p o.new.cells r.new.cells (o.ensures.0 ∙ ap (over (cells_of c.args.states.now)) c.requires.2.nothing_known) r.result (r.ensures.reached p.assertion).0 c.in_ok-count.count c.in_ok-count.was f.result f.new.flows (f.ensures.settled p))
+    (λ p. rested_in_rounds c.args.states.now c.args.flows.now p o.new.cells r.new.cells (o.ensures ∙ ap (over (cells_of c.args.states.now)) c.requires.1.nothing_known) r.result (r.ensures.reached p.assertion).0 c.in_ok-count.count c.in_ok-count.was f.result f.new.flows (f.ensures.settled p))

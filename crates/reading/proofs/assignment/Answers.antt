@@ -5,7 +5,6 @@ use Rattle.variables.specs.Rows.{lows_in, highs_in}
 use Rattle.expressions.specs.Cells.{valuation_of}
 use Rattle.interpreter.proofs.Due.{instruction_within}
 use Rattle.reading.specs.Readings.{held_in}
-use Rattle.reading.proofs.Cells.{same_then}
 use Rattle.reading.proofs.Walking.{assigned_stands, target_within, assigned_nothing, assigned_value}
 use Rattle.reading.proofs.assignment.Goals as goal
 
@@ -26,9 +25,6 @@ pub returns-in-Value-clause-walked : goal.returns-in-Value-clause-walked
 returns-in-Value-clause-walked c =
     let t = c.args.tables.now in
     assigned_value t.kinds.now t.parameters.now (valuation_of c.args.cells.now) (lows_in t.variables.now) (highs_in t.variables.now) c.args.at c.args.round (held_in c.args.gathering.now) c.evaluate-assigned.ensures c.note.ensures.noted c.in-Value.value-1-given c.in-Value.is c.magnitude-arg-1.given c.magnitude-variable.ensures c.give.ensures.given
-
-pub returns-in-Value-clause-same : goal.returns-in-Value-clause-same
-returns-in-Value-clause-same c = same_then c.note.ensures.same c.give.ensures.same
 
 pub returns-in_default-clause-walked : goal.returns-in_default-clause-walked
 returns-in_default-clause-walked c =

@@ -4,7 +4,7 @@ use Rattle.std.proofs.lemmas.Result.{err_from_is_err_and}
 use Rattle.results.specs.Results.{answered}
 use Rattle.engine.proofs.Counts.{meaning}
 use Rattle.semantics.specs.Firing.{Firing, fired}
-use Rattle.reading.proofs.Cells.{same_then}
+use Rattle.engine.proofs.Working.{works_then}
 use Rattle.replaying.proofs.Refiring.{firing_ends, firing_refused, firing_goes}
 use Rattle.replaying.proofs.refire.Goals as goal
 
@@ -23,14 +23,13 @@ pub loop-transition-preserved : goal.loop-transition-preserved
 loop-transition-preserved c =
     let l = c.loop-transition in
     let f = c.fire in
-    let long = l.invariant.long in
     record {
       left = λ d.
           firing_goes (meaning d) c.args.entries.now l.transition-index (Ok l.count) l.values _ (l.invariant.left d) refl (omega (arith, c.loop-transition-test.true)) (Ok c.in_ok-count.count) f.new.values
           (ap (λ (r : Firing). answered r f.new.values) (sym c.in_ok-count.was) ∙ f.ensures.fired d ∙ ap (λ t. fired (meaning d) t l.values) c.from-transition.ensures);
       blank = f.ensures.blank;
-      same = same_then l.invariant.same f.ensures.same;
-      long = (f.auto.values ∙ long.0, f.auto.states ∙ long.1, f.auto.cells ∙ long.2);
+      same = works_then l.invariant.same f.ensures.same;
+      long = f.auto.values ∙ l.invariant.long;
     }
 
 pub returns-clause-fired : goal.returns-clause-fired

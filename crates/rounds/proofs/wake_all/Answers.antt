@@ -12,24 +12,24 @@ wake-requires c =
     let l = c.loop-k in
     let g = c.args.gathering.now in
     let v = l.invariant in
-    let e = kept_entry g.queue.now l.gathering.queue.now g.queued l.gathering.queued v.1.more c.requires.3.0 v.1.queue_kept l.k c.loop-k-test.true in
-    (some_then c.requires.0 v.1, fits_still c.args.tables.now c.args.cells.now c.args.round g l.gathering c.requires.1 v.0 v.1, c.requires.2, omega (arith, c.from-variable.ensures, c.requires.3.1 l.k c.loop-k-test.true, e))
+    let e = kept_entry g.queue.now l.gathering.queue.now g.queued l.gathering.queued v.1.more c.requires.2.0 v.1.queue_kept l.k c.loop-k-test.true in
+    (some_then c.requires.0 v.1, fits_still c.args.indexed.now.tables.now c.args.cells.now c.args.round g l.gathering c.requires.1 v.0 v.1, omega (arith, c.from-variable.ensures, c.requires.2.1 l.k c.loop-k-test.true, e))
 
 pub loop-k-preserved : goal.loop-k-preserved
 loop-k-preserved c =
     let l = c.loop-k in
     let g = c.args.gathering.now in
-    let t = c.args.tables.now in
+    let t = c.args.indexed.now.tables.now in
     let v = l.invariant in
     let w = c.wake in
-    let e = kept_entry g.queue.now l.gathering.queue.now g.queued l.gathering.queued v.1.more c.requires.3.0 v.1.queue_kept l.k c.loop-k-test.true in
+    let e = kept_entry g.queue.now l.gathering.queue.now g.queued l.gathering.queued v.1.more c.requires.2.0 v.1.queue_kept l.k c.loop-k-test.true in
     (same_then v.0 w.ensures.same, still_then v.1 w.ensures.still, all_goes t.kinds.now t.parameters.now t.model.assertion c.args.round g.queue.now l.gathering.waits.now w.new.gathering.waits.now c.args.done l.k c.from-variable.result (c.from-variable.ensures ∙ e) v.2 w.ensures.still.done w.ensures.passed)
 
 pub returns-clause-passed : goal.returns-clause-passed
 returns-clause-passed c =
     let l = c.loop-k in
     let g = c.args.gathering.now in
-    let t = c.args.tables.now in
+    let t = c.args.indexed.now.tables.now in
     λ x m. let e = entry g.queue.now c.args.done g.queued x m in
     subst (λ y. Passed t.kinds.now t.parameters.now t.model.assertion c.args.round l.gathering.waits.now y) e.holds
     (l.invariant.2 e.index e.start (omega (arith, e.end, c.loop-k-test.false)))

@@ -8,6 +8,6 @@ use Rattle.rounds.proofs.wake_all.Given as goal
 
 abbrev pub invariant-loop-k : goal.invariant-loop-k
 invariant-loop-k l =
-    SameCells l.initial.gathering l.gathering × StillWakingIn l.tables l.cells l.round l.initial.gathering l.gathering
+    SameCells l.initial.gathering l.gathering × StillWakingIn l.indexed.tables.now l.cells l.round l.initial.gathering l.gathering
     × ((j : ℕ) → l.done ≤ j → j < l.k
-    → Passed l.tables.kinds.now l.tables.parameters.now l.tables.model.assertion l.round l.gathering.waits.now (get_or l.initial.gathering.queue.now j 0))
+    → Passed l.indexed.tables.now.kinds.now l.indexed.tables.now.parameters.now l.indexed.tables.now.model.assertion l.round l.gathering.waits.now (get_or l.initial.gathering.queue.now j 0))

@@ -1,9 +1,10 @@
 -- `undo` meets its contract.
 use native.Mathlib.Omega.{arith}
 use Rattle.model.specs.Check.{verdict}
-use Rattle.run.proofs.Following.{undo_counted, undo_kept}
+use Rattle.run.proofs.Following.{placed, undo_counted, undo_kept}
 use Rattle.run.proofs.Promised.{undo_allowed}
 use Rattle.std.proofs.lemmas.Result.{err_from_is_err_and}
+use borrow.Author.Rules.{rules}
 use Rattle.run.proofs.undo.Goals as goal
 
 pub overflow_sub-n : goal.overflow_sub-n
@@ -12,8 +13,8 @@ overflow_sub-n c =
     let called = c.advance in
     omega (
       arith,
-      undo_allowed start.model.now start.values.now start.marks.now start.history.now start.n.now called.result called.new.values called.new.marks
-          _ c.in_ok-advance.was called.ensures,
+      undo_allowed start.model.now start.values.now start.marks.now start.history.now start.n.now called.result called.new.run.values.now called.new.run.marks.now
+          _ c.in_ok-advance.was called.ensures.moved,
     )
 
 pub returns-in_err-advance : goal.returns-in_err-advance
@@ -21,12 +22,12 @@ returns-in_err-advance c =
     let start = c.args in
     let called = c.advance in
     let p = err_from_is_err_and c.from_residual.result c.from_residual.ensures.1 in
-    rw (p.1, p.2) (undo_kept (verdict start.model.now) start.values.now start.marks.now start.history.now start.n.now called.new.values called.new.marks
-    called.result called.ensures _ c.in_err-advance.was)
+    rw (p.1, p.2) (placed (search rules) (search rules) (undo_kept (verdict start.model.now) start.values.now start.marks.now start.history.now start.n.now called.new.run.values.now called.new.run.marks.now
+    called.result called.ensures.moved _ c.in_err-advance.was))
 
 pub returns : goal.returns
 returns c =
     let start = c.args in
     let called = c.advance in
-    undo_counted (verdict start.model.now) start.values.now start.marks.now start.history.now start.n.now called.new.values called.new.marks
-    called.result called.ensures _ c.in_ok-advance.was
+    placed (search rules) (search rules) (undo_counted (verdict start.model.now) start.values.now start.marks.now start.history.now start.n.now called.new.run.values.now called.new.run.marks.now
+    called.result called.ensures.moved _ c.in_ok-advance.was)

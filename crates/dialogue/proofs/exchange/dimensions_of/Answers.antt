@@ -1,18 +1,15 @@
 -- By the check; at most 255 of states, flows and transitions each.
 use mathlib.Core.Path.{◌≡◌, sym, ◌∙◌}
-use Prim.Native.Nat.{◌+◌, ◌≤◌}
 use native.Mathlib.Omega.{arith}
 use Rattle.std.proofs.Common.{Ok}
-use Rattle.model.specs.Sizes.{max_variables, max_transitions}
 use Rattle.model.specs.Check.{verdict, answer_of}
 use Rattle.dialogue.proofs.RunSizes.{refused_dimensions, known_dimensions, few_cells}
 use Rattle.dialogue.proofs.exchange.dimensions_of.Goals as goal
 
-pub overflow_add-result : goal.overflow_add-result
-overflow_add-result c =
+pub variables-requires : goal.variables-requires
+variables-requires c =
     let accepts : answer_of (verdict c.args.model.now) ≡ Ok c.in-Ok.sizes = sym c.check.ensures ∙ c.in-Ok.is in
-    let few : (c.in-Ok.sizes.states + c.in-Ok.sizes.flows ≤ max_variables) × (c.in-Ok.sizes.transitions ≤ max_transitions) = few_cells c.in-Ok.sizes c.args.model.now (λ i b. (c.shared_slice_known-1.given i).fits) accepts in
-    record { fits = omega (arith, few.0) }
+    omega (arith, (few_cells c.in-Ok.sizes c.args.model.now (λ i b. (c.shared_slice_known-1.given i).fits) accepts).0)
 
 pub returns-in-Err : goal.returns-in-Err
 returns-in-Err c = record {
@@ -23,5 +20,5 @@ returns-in-Err c = record {
 pub returns-in-Ok : goal.returns-in-Ok
 returns-in-Ok c =
     let accepts : answer_of (verdict c.args.model.now) ≡ Ok c.in-Ok.sizes = sym c.check.ensures ∙ c.in-Ok.is in
-    let few : (c.in-Ok.sizes.states + c.in-Ok.sizes.flows ≤ max_variables) × (c.in-Ok.sizes.transitions ≤ max_transitions) = few_cells c.in-Ok.sizes c.args.model.now (λ i b. (c.shared_slice_known-1.given i).fits) accepts in
-    record { value = known_dimensions c.in-Ok.sizes c.args.bytes (verdict c.args.model.now) accepts; variables_le_max_variables = few }
+    let few = few_cells c.in-Ok.sizes c.args.model.now (λ i b. (c.shared_slice_known-1.given i).fits) accepts in
+    rw c.variables.ensures record { value = known_dimensions c.in-Ok.sizes c.args.bytes (verdict c.args.model.now) accepts; variables_le_max_variables = few }

@@ -1,39 +1,52 @@
 -- A start from given states: the assertion, and what it settles on is stored.
 use native.Mathlib.Omega.{arith}
-use mathlib.Core.Path.{◌≡◌}
+use mathlib.Core.Path.{◌≡◌, ◌∙◌}
 use Rattle.semantics.specs.declared.NotFired.TheVariants.{AssertionFault}
 use Rattle.std.proofs.lemmas.Result.{err_from_is_err_and, MatchResult-at_err}
 use Rattle.engine.proofs.Accepted.{loaded_in}
 use Rattle.engine.proofs.Guards.{few_variables}
-use Rattle.engine.proofs.Firings.{begin_short, begin_other, flows_stand, begin_refused, begin_settled, err_of, ok_of}
+use Rattle.engine.proofs.Firings.{begin_short, begin_few, flows_stand, begin_refused, begin_settled, begun_first, err_of, ok_of}
+use Prim.Native.Nat.{◌+◌, ◌≤◌}
+use lib.ListN.{length}
 use Rattle.engine.proofs.transitions.begin.Goals as goal
 
-pub overflow_add-n : goal.overflow_add-n
-overflow_add-n c = omega (arith, few_variables (loaded_in c.args.loaded.now.decoded))
+pub variables-n-requires : goal.variables-n-requires
+variables-n-requires c = omega (arith, few_variables (loaded_in c.args.loaded.now.decoded))
 
 pub returns-then-values-n-clause-begun : goal.returns-then-values-n-clause-begun
 returns-then-values-n-clause-begun c =
-    λ d. begin_short d c.args.states.now c.args.values.now c.if-values-n.true
+    λ d. begin_short d _ c.args.values.now (omega (arith, c.variables-n.ensures, c.if-values-n.true))
 
-pub returns-then-states-s-clause-begun : goal.returns-then-states-s-clause-begun
-returns-then-states-s-clause-begun c =
-    λ d. begin_other d c.args.states.now c.args.values.now c.if-values-n.false c.if-states-s.true
+pub returns-in_default-clause-begun : goal.returns-in_default-clause-begun
+returns-in_default-clause-begun c =
+    λ d. begin_few d c.args.work.now.states.now c.args.values.now (omega (arith, c.variables-n.ensures, c.if-values-n.false)) (omega (arith, c.in_default.ensures.lookup.0))
 
 pub propagate-requires : goal.propagate-requires
 propagate-requires c =
-    (flows_stand (loaded_in c.args.loaded.now.decoded) c.args.states.now c.args.values.now c.if-values-n.false c.if-states-s.false, c.args.loaded.now.indexed, c.requires)
+    let first = c.in-Some.ensures.lookup.0 in
+    (flows_stand (loaded_in c.args.loaded.now.decoded) c.in-Some.states.now c.args.values.now (omega (arith, c.variables-n.ensures, c.if-values-n.false)) (omega (arith, first.3)) _ c.variables-n.ensures, c.requires)
 
 pub returns-in_err-count-clause-begun : goal.returns-in_err-count-clause-begun
 returns-in_err-count-clause-begun c =
     let p = c.propagate in
+    let first = c.in-Some.ensures.lookup.0 in
+    let states = c.in-Some.states.now in
+    let values = c.args.values.now in
+    let room : c.args.loaded.now.decoded.tables.model.sizes.states + c.args.loaded.now.decoded.tables.model.sizes.flows ≤ length values = omega (arith, c.variables-n.ensures, c.if-values-n.false) in
+    let long : length states ≡ c.args.loaded.now.decoded.tables.model.sizes.states = omega (arith, first.3) in
     let e = err_from_is_err_and c.from_residual.result c.from_residual.ensures.1 in
     let was = err_of p.result c.map_err.result c.map_err.ensures.variant c.in_err-count.was in
     let m = err_from_is_err_and c.map_err.result (MatchResult-at_err _ _ was.0 was.1 c.map_err.ensures.cases) in
     let told : e.0 ≡ AssertionFault was.0 = cc (e.2, c.in_err-count.was, m.1, m.2) in
-    λ d. rw (e.1, told) (begin_refused d c.args.states.now c.args.values.now c.if-values-n.false c.if-states-s.false p.result p.new.flows (p.ensures.settled (flows_stand d c.args.states.now c.args.values.now c.if-values-n.false c.if-states-s.false)) was.0 was.1)
+    λ d. rw (e.1, told) (begin_refused d states values room long _ c.variables-n.ensures p.result p.new.flows (p.ensures.settled (flows_stand d states values room long _ c.variables-n.ensures)) was.0 was.1 ∙ begun_first d states values c.args.work.now.states.now first.2)
 
 pub returns-clause-begun : goal.returns-clause-begun
 returns-clause-begun c =
     let p = c.propagate in
+    let first = c.in-Some.ensures.lookup.0 in
+    let states = c.in-Some.states.now in
+    let values = c.args.values.now in
+    let room : c.args.loaded.now.decoded.tables.model.sizes.states + c.args.loaded.now.decoded.tables.model.sizes.flows ≤ length values = omega (arith, c.variables-n.ensures, c.if-values-n.false) in
+    let long : length states ≡ c.args.loaded.now.decoded.tables.model.sizes.states = omega (arith, first.3) in
     let was = ok_of p.result c.map_err.result c.map_err.ensures.variant _ c.map_err.ensures.cases c.in_ok-count.was in
-    λ d. begin_settled d c.args.states.now c.args.values.now c.if-values-n.false c.if-states-s.false p.result p.new.flows (p.ensures.settled (flows_stand d c.args.states.now c.args.values.now c.if-values-n.false c.if-states-s.false)) _ was _ c.store.ensures
+    λ d. begin_settled d states values room long _ c.variables-n.ensures p.result p.new.flows (p.ensures.settled (flows_stand d states values room long _ c.variables-n.ensures)) _ was _ c.store.ensures ∙ begun_first d states values c.args.work.now.states.now first.2

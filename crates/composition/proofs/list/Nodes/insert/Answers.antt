@@ -13,5 +13,7 @@ returns-clause-nodes c =
     let old = a.self.now in
     let rotated = c.rotate_right in
     let node : Node = record { kind = a.kind; parameter = pos 0 } in
-    moved_first old.cells rotated.new.self node a.from old.count c.requires.0 (search rules) rotated.ensures.len rotated.ensures.after
+    rw (c.from-end.ensures, c.from.ensures)
+    (moved_first old.cells rotated.new.self node a.from old.count c.requires.0 (search rules)
+    (rw (c.from-end.ensures, c.from.ensures) at rotated.ensures.len) (rw (c.from-end.ensures, c.from.ensures) at rotated.ensures.after))
     ∙ ap (λ l. l ++ (plain a.kind ∷ drop a.from (written old))) (sym (take-take a.from old.count old.cells c.requires.0))

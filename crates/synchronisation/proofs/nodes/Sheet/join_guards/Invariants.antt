@@ -11,5 +11,6 @@ use Rattle.synchronisation.proofs.nodes.Sheet.join_guards.Given as goal
 
 abbrev pub invariant-loop-member : goal.invariant-loop-member
 invariant-loop-member l =
-    (op : Operator) (ts : List Transition) → kind_of op ≡ code_of l.operator → MembersIn l.tables l.members ts
-    → put_nodes (guard_nodes op (drop l.member-index ts)) (sheet_in l.self) ≡ put_nodes (guard_nodes op ts) (sheet_in l.initial.self)
+    (l.self.tables ≡ l.initial.self.tables)
+    × ((op : Operator) (ts : List Transition) → kind_of op ≡ code_of l.operator → MembersIn l.initial.self.tables l.members ts
+    → put_nodes (guard_nodes op (drop l.member-index ts)) (sheet_in l.self) ≡ put_nodes (guard_nodes op ts) (sheet_in l.initial.self))

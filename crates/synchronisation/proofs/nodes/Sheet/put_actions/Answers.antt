@@ -1,4 +1,5 @@
 -- Of each member the action.
+use mathlib.Core.Path.{◌∙◌}
 use native.Mathlib.Omega.{arith}
 use Rattle.model.specs.Nodes.{nodes_of}
 use Rattle.synchronisation.specs.Members.{sheet_in}
@@ -7,24 +8,27 @@ use Rattle.synchronisation.proofs.nodes.Sheet.put_actions.Goals as goal
 
 pub action_at-requires : goal.action_at-requires
 action_at-requires c =
-    let r = member_in c.args.tables.now c.args.members.now c.requires.0 c.loop-member.member-index c.loop-member-test.true c.requires.1 in
-    (r.stands.below, r.stands.guard_within)
+    let r = member_in c.args.self.now.tables c.args.members.now c.requires.0 c.loop-member.member-index c.loop-member-test.true c.requires.1 in
+    rw c.loop-member.invariant.0 (r.stands.below, r.stands.guard_within)
 
 pub copy_subtree-requires : goal.copy_subtree-requires
 copy_subtree-requires c =
-    let r = member_in c.args.tables.now c.args.members.now c.requires.0 c.loop-member.member-index c.loop-member-test.true c.requires.1 in
-    rw c.action_at.ensures (r.stands.action_within, (nodes_of r.member.action, r.stands.action))
+    let r = member_in c.args.self.now.tables c.args.members.now c.requires.0 c.loop-member.member-index c.loop-member-test.true c.requires.1 in
+    rw (c.action_at.ensures, c.loop-member.invariant.0) (r.stands.action_within, (nodes_of r.member.action, r.stands.action))
 
 pub loop-member-preserved : goal.loop-member-preserved
-loop-member-preserved c = λ ts s.
-    let i = c.loop-member.member-index in
-    let r = member_in c.args.tables.now c.args.members.now ts i c.loop-member-test.true s in
-    member_put action_nodes (λ t. nodes_of t.action) action_step ts i r.member (sheet_in c.loop-member.self) r.split
-    (c.copy_subtree.ensures (nodes_of r.member.action) (rw c.action_at.ensures r.stands.action)) (c.loop-member.invariant ts s)
+loop-member-preserved c = (
+  c.copy_subtree.ensures.same_tables ∙ c.loop-member.invariant.0,
+  λ ts s.
+      let i = c.loop-member.member-index in
+      let r = member_in c.args.self.now.tables c.args.members.now ts i c.loop-member-test.true s in
+      member_put action_nodes (λ t. nodes_of t.action) action_step ts i r.member (sheet_in c.loop-member.self) r.split
+      (c.copy_subtree.ensures.nodes (nodes_of r.member.action) (rw (c.action_at.ensures, c.loop-member.invariant.0) r.stands.action)) (c.loop-member.invariant.1 ts s),
+)
 
-pub returns : goal.returns
-returns c = λ ts s.
-    let t = c.args.tables.now in
+pub returns-clause-nodes : goal.returns-clause-nodes
+returns-clause-nodes c = λ ts s.
+    let t = c.args.self.now.tables in
     let long = members_long t.kinds.now t.parameters.now t.nexts.now t.guards.now c.args.members.now ts s in
     members_put action_nodes (λ t. nodes_of t.action) action_step ts c.loop-member.member-index (sheet_in c.loop-member.self) no_action
-    (omega (arith, long, c.loop-member-test.false)) (c.loop-member.invariant ts s)
+    (omega (arith, long, c.loop-member-test.false)) (c.loop-member.invariant.1 ts s)

@@ -9,5 +9,6 @@ use Rattle.synchronisation.proofs.nodes.Sheet.put_guarded_actions.Given as goal
 
 abbrev pub invariant-loop-member : goal.invariant-loop-member
 invariant-loop-member l =
-    (ts : List Transition) → MembersIn l.tables l.members ts
-    → put_nodes (guarded_nodes (drop l.member-index ts)) (sheet_in l.self) ≡ put_nodes (guarded_nodes ts) (sheet_in l.initial.self)
+    (l.self.tables ≡ l.initial.self.tables)
+    × ((ts : List Transition) → MembersIn l.initial.self.tables l.members ts
+    → put_nodes (guarded_nodes (drop l.member-index ts)) (sheet_in l.self) ≡ put_nodes (guarded_nodes ts) (sheet_in l.initial.self))

@@ -18,7 +18,7 @@ put_transition-requires c =
     let j = c.requires.2 in
     let d = j.loaded in
     let ms = c.args.members.now in
-    let few = (loaded_well_formed d).events in (
+    let few = (loaded_well_formed d).events in rw c.copy.ensures.same_tables (
       omega (arith, loaded_events d, few),
       c.requires.0,
       c.requires.1,
@@ -30,7 +30,7 @@ put_transition-requires c =
     )
 
 pub copy-requires-2 : goal.copy-requires-2
-copy-requires-2 c = (_, assertion_between c.requires.2.loaded)
+copy-requires-2 c = rw (c.put_transition.ensures.same_tables ∙ c.copy.ensures.same_tables) (_, assertion_between c.requires.2.loaded)
 
 pub returns : goal.returns
 returns c = λ j.
@@ -40,6 +40,6 @@ returns c = λ j.
     let s = members_stand d c.args.members.now.mandatory.now ts j.members.mandatory_found in
     let s' = members_stand d c.args.members.now.optional.now os j.members.optional_found in
     system_put d.decoded.system (together d.decoded.system.events ts os) (sheet_in c.args.self.now)
-    (c.copy.ensures _ (front_between d))
-    (c.put_transition.ensures ts os s s' ∙ ap (λ n. put_nodes (nodes_of_transition (together n ts os)) _) (loaded_events d))
-    (c.copy-2.ensures _ (assertion_between d))
+    (c.copy.ensures.nodes _ (front_between d))
+    (c.put_transition.ensures.nodes ts os (rw c.copy.ensures.same_tables s) (rw c.copy.ensures.same_tables s') ∙ ap (λ t. put_nodes (nodes_of_transition (together t.model.sizes.events ts os)) (sheet_in c.copy.new.self)) c.copy.ensures.same_tables ∙ ap (λ n. put_nodes (nodes_of_transition (together n ts os)) _) (loaded_events d))
+    (c.copy-2.ensures.nodes _ (rw (c.put_transition.ensures.same_tables ∙ c.copy.ensures.same_tables) (assertion_between d)))

@@ -11,9 +11,9 @@ use Rattle.synchronisation.proofs.Pieces.{members_long}
 use Rattle.synchronisation.proofs.NewNodes.{transition_put}
 use Rattle.synchronisation.proofs.nodes.Sheet.put_transition.Goals as goal
 
-pub returns : goal.returns
-returns c = λ ts os s s'.
-    let t = c.args.tables.now in
+pub returns-clause-nodes : goal.returns-clause-nodes
+returns-clause-nodes c = λ ts os s s'.
+    let t = c.args.self.now.tables in
     let ms = c.args.members.now in
     let m = members_long t.kinds.now t.parameters.now t.nexts.now t.guards.now ms.mandatory.now ts s in
     let o = members_long t.kinds.now t.parameters.now t.nexts.now t.guards.now ms.optional.now os s' in
@@ -21,4 +21,7 @@ returns c = λ ts os s s'.
     (to_z-of_z w32 (pos t.model.sizes.events) (record { sfits = omega (arith, c.requires.0) }))
     (to_z-of_z w32 (pos (length ms.mandatory.now + length ms.optional.now)) (record { sfits = omega (arith, c.requires.1, c.requires.2) })
     ∙ (λ i. pos (m i + o i)))
-    c.put.ensures (c.put_guard.ensures ts os s s') c.put-2.ensures (c.put_actions.ensures ts s) (c.put_guarded_actions.ensures os s')
+    c.put.ensures.nodes (c.put_guard.ensures.nodes ts os (rw c.put.ensures.same_tables s) (rw c.put.ensures.same_tables s')) c.put-2.ensures.nodes
+    (c.put_actions.ensures.nodes ts (rw (c.put-2.ensures.same_tables ∙ c.put_guard.ensures.same_tables ∙ c.put.ensures.same_tables) s))
+    (c.put_guarded_actions.ensures.nodes os
+    (rw (c.put_actions.ensures.same_tables ∙ c.put-2.ensures.same_tables ∙ c.put_guard.ensures.same_tables ∙ c.put.ensures.same_tables) s'))

@@ -1,8 +1,0 @@
--- Where bytes are left, some are taken.
-use Rattle.std.proofs.Common.{arith}
-use Rattle.dialogue.proofs.Scanning.{line_taken}
-use Rattle.gtsrun.proofs.answer_part.Goals as goal
-
-pub loop-at-smaller : goal.loop-at-smaller
-loop-at-smaller g c =
-    omega (arith, line_taken c.args.part.now c.loop-at.at c.loop-at-test.true, c.take_line-taken.ensures.next_value)

@@ -1,6 +1,0 @@
--- Each line takes a byte at least.
-use Rattle.std.proofs.Common.{◌-◌, length}
-use Rattle.gtsrun.proofs.answer_part.Given as goal
-
-abbrev pub decreases-loop-at : goal.decreases-loop-at
-decreases-loop-at g l = length l.part - l.at

@@ -1,2 +1,0 @@
--- Proofs of crate `loading`: what the functions are proved by.
-pub mod Parts

@@ -1,2 +1,0 @@
--- Proofs of crate `replies`: what the functions are proved by.
-pub mod Answering
