@@ -4,23 +4,13 @@ use mathlib.Core.List.{List}
 use Prim.Native.Nat.{ℕ}
 use Rattle.model.specs.declared.Model.{Model}
 use Rattle.model.specs.Check.{verdict}
-use Rattle.std.proofs.Common.{Result, Err}
-use Rattle.results.specs.declared.refusal.Refusal.{Refusal}
-use Rattle.results.specs.Refusals.{number_of}
 use Rattle.tables.specs.declared.Tables.{Tables}
-use Rattle.decoding.specs.Decoding.{Arrays, LentOf, prepared_by}
-use Rattle.decoding.proofs.InUse.{InUse, decoded_lent, refused_verdict}
+use Rattle.decoding.specs.Decoding.{Arrays, LentOf}
+use Rattle.decoding.proofs.InUse.{InUse, decoded_lent}
 use Rattle.semantics.specs.Meanings.{Meaning, meaning_of}
 use Rattle.engine.specs.Lent.{LoadedIn}
-use Rattle.standing.specs.Runs.{Done, answered}
-use Rattle.standing.specs.Runs.Answer.{refused}
+use Rattle.standing.specs.Runs.{Done}
 use Rattle.steps.specs.Answers.{on_file}
-
--- a refused file leaves what is lent
-pub refused_file : (m : List ℕ) (old new : Arrays) (r : Result Model Refusal) (k : Refusal) → answered r new ≡ prepared_by m old (verdict m) → r ≡ Err k
-    → {A : Type 0} (f : Meaning → Done A) (lent : A) → answered (refused (number_of k)) lent ≡ on_file (verdict m) f lent
-unfolding on_file
-refused_file m old new r k e refuses f lent = rw (refused_verdict m old new r k (verdict m) e refuses)
 
 module _ (m : List ℕ) (a : Arrays) (d : Model) (u : InUse m a d) (t : Tables) (l : LentOf m a d t) where
   abbrev pub loaded_lent : LoadedIn t

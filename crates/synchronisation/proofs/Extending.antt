@@ -113,9 +113,6 @@ module _ {sizes : Sizes} {assertion : ℕ} {ks : List ℕ} {ps : List ℤ} {sort
   same_nodes : sizes.nodes ≡ length ns
   same_nodes = ap (λ s. s.nodes) e.sizes_held
 
-  pub nodes_few : sizes.nodes ≤ 4000
-  nodes_few = omega (arith, same_nodes, e.nodes_fit)
-
   -- the length that is answered
   bytes_of : 6 + 5 * sizes.nodes ≡ length (encode (extended_by t u))
   unfolding encode file
