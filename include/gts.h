@@ -63,7 +63,7 @@ extern "C" {
 #define GTS_SIZES 5        /* of `sizes`; of `values` it is S + F, of `marks` and `buffer` T, of `history` none */
 #define GTS_TEXT_NODES 400 /* of `kinds` and of `parameters`: no text has more nodes */
 
-/* The stack that a call on a run needs, in bytes: the most that was measured is 90,416 (README), rounded up. Its arrays
+/* The stack that a call on a run needs, in bytes: the most that was measured is 90,464 (README), rounded up. Its arrays
  * have fixed sizes, and recursion goes by depth, at most GTS_MAX_DEPTH. */
 #define GTS_STACK_BYTES 98304
 
@@ -71,7 +71,7 @@ extern "C" {
  * at most GTS_MAX_DEPTH. */
 #define GTS_SYNCHRONISE_STACK_BYTES 81920
 
-/* The stack that gts_text needs: the most that was measured is 71,976 (README), rounded up. Recursion goes by parts of a
+/* The stack that gts_text needs: the most that was measured is 71,960 (README), with room to spare. Recursion goes by parts of a
  * text that stand in one another, in at most GTS_MAX_TEXT bytes. */
 #define GTS_TEXT_STACK_BYTES 122880
 

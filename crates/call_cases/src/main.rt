@@ -76,21 +76,14 @@ struct Wanted {
     n: usize,
 }
 
-// How many lists were carried out, and their calls.
-#[derive(Clone, Copy, PartialEq, Eq, Debug)]
+// How many lists were carried out, and their calls; none by default.
+#[derive(Clone, Copy, PartialEq, Eq, Debug, Default)]
 struct Tally {
     lists: u64,
     calls: cases::Tally,
 }
 
 impl Tally {
-    fn empty() -> Tally {
-        Tally {
-            lists: 0,
-            calls: cases::Tally::empty(),
-        }
-    }
-
     // With one list more.
     fn begun(self) -> Tally {
         let lists = self.lists.wrapping_add(1);
@@ -195,8 +188,13 @@ impl Head {
         4 * self.variables + self.held + self.places + self.copied
     }
 
-    // The store in these bytes, its values in these cells, with n of the beginning.
-    fn store_in<'a>(self, bytes: &'a mut [u8; BYTES], values: &'a mut [i32; CELLS]) -> Store<'a> {
+    // The store in these bytes, its values in these cells.
+    fn store_in<'a>(
+        self,
+        bytes: &'a mut [u8; BYTES],
+        values: &'a mut [i32; CELLS],
+        n: &'a mut usize,
+    ) -> Store<'a> {
         let (stored, rest) = bytes.split_at_mut(4 * self.variables);
         let (marks, rest) = rest.split_at_mut(self.held);
         let (history, rest) = rest.split_at_mut(self.places);
@@ -206,7 +204,7 @@ impl Head {
             values,
             marks,
             history,
-            n: self.n,
+            n,
             buffer: &mut rest[..self.copied],
         }
     }
@@ -215,13 +213,14 @@ impl Head {
     fn is_left(self, rt: &impl Print, file: &mut impl Read, store: &Store<'_>) -> io::Result<bool> {
         let mut bytes = [0u8; BYTES];
         let mut values = [0i32; CELLS];
-        let is_whole = cases::is_read(file, &mut bytes, self.store_length())?;
-        let stored = self.store_in(&mut bytes, &mut values);
+        let is_whole = cases::is_read(file, &mut bytes[..self.store_length()])?;
+        let mut n = self.n;
+        let stored = self.store_in(&mut bytes, &mut values, &mut n);
         let is_same = is_whole
-            && cases::is_same(store.values, stored.values, 0)
-            && cases::is_same(store.marks, stored.marks, 0)
-            && cases::is_same(store.history, stored.history, 0)
-            && cases::is_same(store.buffer, stored.buffer, 0);
+            && *store.values == *stored.values
+            && *store.marks == *stored.marks
+            && *store.history == *stored.history
+            && *store.buffer == *stored.buffer;
         if !is_same {
             print!(rt; "a value, a mark, an entry or a byte of the buffer is another; ")?;
         }
@@ -241,7 +240,7 @@ impl Head {
         };
         let wanted = Wanted::from(head);
         let answer = run::perform(wanted.call, model, store);
-        let is_answered = is_wanted(rt, wanted, answer, store.n)?;
+        let is_answered = is_wanted(rt, wanted, answer, *store.n)?;
         Ok(self.is_left(rt, file, store)? & is_answered)
     }
 
@@ -271,8 +270,9 @@ impl Head {
     ) -> io::Result<Tally> {
         let mut bytes = [0u8; BYTES];
         let mut values = [0i32; CELLS];
-        cases::is_read(file, &mut bytes, self.store_length())?;
-        let store = self.store_in(&mut bytes, &mut values);
+        cases::is_read(file, &mut bytes[..self.store_length()])?;
+        let mut n = self.n;
+        let store = self.store_in(&mut bytes, &mut values, &mut n);
         self.all_calls(rt, file, model, store, tally)
     }
 
@@ -285,15 +285,14 @@ impl Head {
         tally: Tally,
     ) -> io::Result<Tally> {
         let mut models = [0u8; 49152];
-        let end = self.model + self.twin;
-        if models.len() < end {
+        let Some(models) = models.get_mut(..self.model + self.twin) else {
             return tally.counted(rt, false);
-        }
-        cases::is_read(file, &mut models, end)?;
-        let (model, rest) = models.split_at(self.model);
+        };
+        cases::is_read(file, models)?;
+        let (model, twin) = models.split_at(self.model);
         match side {
             Side::Model => self.one_list(rt, file, model, tally),
-            Side::Twin => self.one_list(rt, file, &rest[..self.twin], tally),
+            Side::Twin => self.one_list(rt, file, twin, tally),
         }
     }
 }
@@ -312,7 +311,7 @@ fn carried_out<R: Files + Print>(rt: &R, side: Side, mut tally: Tally) -> io::Re
 }
 
 fn main(rt: HostRuntime) -> io::Result<()> {
-    let models = carried_out(&rt, Side::Model, Tally::empty())?;
+    let models = carried_out(&rt, Side::Model, Tally::default())?;
     let both = carried_out(&rt, Side::Twin, models)?;
     println!(rt;
         "{} lists, {} calls, {} differ",

@@ -1,6 +1,6 @@
 // The calls on a run, on a text and on a model for C: 0 and the results, or the number of the refusal and nothing that was lent changed.
 
-#![tactic(auto, using(crate::proofs::Coding::seen), unfolding(crate::specs::Codes::code_of, crate::specs::Codes::coded_sizes, crate::specs::Codes::picked_or, crate::specs::Codes::outside_or, results::specs::Refusals::number_of))]
+#![tactic(auto, using(crate::proofs::Coding::seen), unfolding(crate::specs::Codes::code_of, crate::specs::Codes::code_in, crate::specs::Codes::coded_sizes, crate::specs::Codes::picked_or, crate::specs::Codes::outside_or, results::specs::Refusals::number_of))]
 
 ghost use Rattle.std.specs.Prelude.{◌≡◌};
 ghost use Rattle.capi.specs.Codes.{code_in, value_or, found_over};
@@ -47,27 +47,30 @@ fn hand_out(place: Option<usize>, cell: &mut usize, found: &mut u8)
     *found = u8::from(place.is_some());
 }
 
+// The five sizes, S F E T N, over the cells for them; under 5 cells is 10.
+fn check_into(model: &[u8], sizes: &mut [u32]) -> Result<(), Refusal>
+    ensures { CheckCoded model.now sizes.old (code_in result) sizes.new }
+{
+    let found = run::check(model)?;
+    if sizes.len() < SIZE_CELLS {
+        return Err(Refusal::ShortSlice);
+    }
+    sizes[..SIZE_CELLS].copy_from_slice(&[
+        found.states as u32,
+        found.flows as u32,
+        found.events as u32,
+        found.transitions as u32,
+        found.nodes as u32,
+    ]);
+    Ok(())
+}
+
 // The five sizes, S F E T N; under 5 cells is 10.
 #[unsafe(no_mangle)]
 pub extern "C" fn gts_check(model: &[u8], sizes: &mut [u32]) -> u8
     ensures { CheckCoded model.now sizes.old result sizes.new }
 {
-    match run::check(model) {
-        Err(refusal) => refusal.number(),
-        Ok(found) => {
-            if sizes.len() < SIZE_CELLS {
-                return Refusal::ShortSlice.number();
-            }
-            sizes[..SIZE_CELLS].copy_from_slice(&[
-                found.states as u32,
-                found.flows as u32,
-                found.events as u32,
-                found.transitions as u32,
-                found.nodes as u32,
-            ]);
-            0
-        }
-    }
+    code(check_into(model, sizes))
 }
 
 // Start, with the round count.
@@ -153,6 +156,21 @@ pub extern "C" fn gts_value(
     hand(run::value(model, &run, variable), value)
 }
 
+// The lowest transition whose guard is true, over what stood in the cells.
+fn pick_into(
+    model: &[u8],
+    run: &Run<'_>,
+    transition: &mut usize,
+    found: &mut u8,
+) -> Result<(), Refusal>
+    ensures { PickCoded model.now run.now.values.now run.now.marks.now run.now.history.now run.now.count
+        transition.old found.old (code_in result) transition.new found.new }
+{
+    let picked = run::pick(model, run)?;
+    hand_out(picked, transition, found);
+    Ok(())
+}
+
 // The lowest transition whose guard is true: found is 1; where there is none found is 0 and the transition stays.
 #[unsafe(no_mangle)]
 pub extern "C" fn gts_pick(
@@ -168,13 +186,24 @@ pub extern "C" fn gts_pick(
         transition.new found.new }
 {
     let run = Run::new(values, marks, history, n);
-    match run::pick(model, &run) {
-        Err(refusal) => refusal.number(),
-        Ok(picked) => {
-            hand_out(picked, transition, found);
-            0
-        }
-    }
+    code(pick_into(model, &run, transition, found))
+}
+
+// The first variable whose value is outside its ends and the count, over what stood in the cells.
+fn first_outside_into(
+    model: &[u8],
+    values: &[i32],
+    variable: &mut usize,
+    found: &mut u8,
+    looked: &mut usize,
+) -> Result<(), Refusal>
+    ensures { FirstOutsideCoded model.now values.now variable.old found.old looked.old (code_in result)
+        variable.new found.new looked.new }
+{
+    let check = run::first_outside(model, values)?;
+    *looked = check.looked;
+    hand_out(check.outside, variable, found);
+    Ok(())
 }
 
 // The first variable whose value is outside its ends: found is 1; where there is none found is 0 and the variable stays. looked is how
@@ -190,14 +219,7 @@ pub extern "C" fn gts_first_outside(
     ensures { FirstOutsideCoded model.now values.now variable.old found.old looked.old result
         variable.new found.new looked.new }
 {
-    match run::first_outside(model, values) {
-        Err(refusal) => refusal.number(),
-        Ok(check) => {
-            *looked = check.looked;
-            hand_out(check.outside, variable, found);
-            0
-        }
-    }
+    code(first_outside_into(model, values, variable, found, looked))
 }
 
 // The nodes of a text, with their count.

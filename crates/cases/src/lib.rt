@@ -14,24 +14,14 @@ ghost use Rattle.cases.specs.Cases.{same_cells, wanted_by, CaseRead, no_cases, c
 use std::io::{ErrorKind, Read};
 use std::{fmt, io};
 
-// How many cases were run, and how many differed.
-#[derive(Clone, Copy, PartialEq, Eq, Debug)]
+// How many cases were run, and how many differed; none by default.
+#[derive(Clone, Copy, PartialEq, Eq, Debug, Default)]
 pub struct Tally {
     pub cases: u64,
     pub differing: u64,
 }
 
 impl Tally {
-    // No case yet.
-    pub fn empty() -> Tally
-        ensures { result ≡ no_cases }
-    {
-        Tally {
-            cases: 0,
-            differing: 0,
-        }
-    }
-
     // The tally with one case more.
     #[tactic(auto, using(crate::proofs::Counting::counted_by))]
     pub fn counted(self, is_same: bool) -> Tally
@@ -72,13 +62,11 @@ pub fn number<const N: usize>(bytes: &[u8], at: usize) -> usize
 }
 
 // The signed number in four bytes.
-// `i32::from_le_bytes` takes an array, and of a slice that would be an Option.
-#[tactic(auto, using(crate::proofs::Numbers::signed_read))]
 pub fn signed(bytes: &[u8], at: usize) -> i32
     requires { at + 4 ≤ length bytes.now }
     ensures { result ≡ model.signed (little_at bytes.now at 4) }
 {
-    (number::<4>(bytes, at) as u32).cast_signed()
+    model::header::parameter_in(bytes, at)
 }
 
 // The stored values, four bytes each.
@@ -86,8 +74,7 @@ pub fn load_values(stored: &[u8], values: &mut [i32])
     requires { 4 * length values.old ≤ length stored.now }
     ensures { values.new ≡ model.parameters_at stored.now 0 (length values.old) }
 {
-    let count = values.len();
-    model::header::parameters_in(stored, 0, count, values);
+    model::header::parameters_in(stored, 0, values);
 }
 
 // Is each cell the fill?
@@ -125,7 +112,8 @@ pub fn is_stored<T: Copy + PartialEq>(
     Ok(is_same)
 }
 
-// The answer that a header asks for: so much stored, or the number of a refusal, if it is not 0.
+// The answer that a header asks for: so much stored, or the number of a refusal, if it is not 0. A number and no `Refusal`: any byte may be
+// stored, and one that is no refusal's must differ from each.
 pub fn wanted(refusal: u8, count: usize) -> Result<usize, u8>
     ensures { result ≡ wanted_by refusal count }
 {
@@ -156,15 +144,11 @@ pub fn is_wanted(
     Ok(false)
 }
 
-// Reads so many bytes into the beginning of the slice; false where it is shorter, or the file ends before.
-pub fn is_read<R: Read>(file: &mut R, b: &mut [u8], count: usize) -> io::Result<bool>
-    ensures short { length b.old < count → result ≡ Ok false }
-    ensures read { result ≡ Ok true → Consumes (R.remaining file.old) (R.remaining file.new) (take count b.new) }
+// Reads bytes until the slice is full; false where the file ends before.
+pub fn is_read<R: Read>(file: &mut R, bytes: &mut [u8]) -> io::Result<bool>
+    ensures { result ≡ Ok true → Consumes (R.remaining file.old) (R.remaining file.new) bytes.new }
 {
-    if b.len() < count {
-        return Ok(false);
-    }
-    match file.read_exact(&mut b[0..count]) {
+    match file.read_exact(bytes) {
         Ok(()) => Ok(true),
         Err(e) if e.kind() == ErrorKind::UnexpectedEof => Ok(false),
         Err(e) => Err(e),
@@ -176,7 +160,7 @@ pub fn next_bytes<R: Read, const N: usize>(file: &mut R) -> io::Result<Option<[u
     ensures { (bytes : _) → result ≡ Ok (Some bytes) → Consumes (R.remaining file.old) (R.remaining file.new) bytes }
 {
     let mut bytes = [0u8; N];
-    let is_whole = is_read(file, &mut bytes, N)?;
+    let is_whole = is_read(file, &mut bytes)?;
     Ok(is_whole.then_some(bytes))
 }
 
@@ -206,14 +190,13 @@ pub fn next_case<const HEAD: usize, C: Case<HEAD>, P: Print, R: Read>(
         return Ok(None);
     };
     let head = C::from(bytes);
-    let length = head.body_length();
-    if !is_read(file, buffer, length)? {
+    let Some(body) = buffer.get_mut(..head.body_length()) else {
+        return Ok(None);
+    };
+    if !is_read(file, body)? {
         return Ok(None);
     }
-    match buffer.get(..length) {
-        Some(body) => Ok(Some(head.is_as_stored(rt, body)?)),
-        None => Ok(None),
-    }
+    Ok(Some(head.is_as_stored(rt, body)?))
 }
 
 // The tally of the cases of a file, to its end: `next` reads one and says whether it answered what is stored, or that there is
@@ -225,7 +208,7 @@ fn tallied<R: Print, F: FnMut() -> io::Result<Option<bool>>>(
     requires { F.IsAlwaysCallable next }
     ensures { IfOk result (λ tally. (last : F) × Tallied (λ f is_same g. F.step f (Ok (Some is_same)) g) next last tally) }
 {
-    let mut tally = Tally::empty();
+    let mut tally = Tally::default();
     // It ends where no case is left; the number of turns is there since every function must end, whatever is read.
     for _ in 0..u64::MAX {
         let Some(is_same) = next()? else {

@@ -9,7 +9,7 @@ use native.Mathlib.Omega.{arith}
 use borrow.Author.Tests.{lt-ltb, le-ltb}
 use lib.IntN.{pos}
 use lib.ListN.{length, take, drop, get_or}
-use lib.Seq.{take_at, drop_at, length-take-le}
+use lib.Seq.{take_at, drop_at}
 use Rattle.kinds.specs.declared.kind.Kind.{Kind}
 use Rattle.kinds.specs.declared.kind.Kind.TheVariants as kind
 use Rattle.kinds.specs.declared.Sort.{Sort}
@@ -25,10 +25,9 @@ use Rattle.grammar.specs.Phrases.{Phrase}
 use Rattle.grammar.specs.Phrases.Phrase.{numeral, truth, variable, prefixed, operation, call, conditional}
 use Rattle.grammar.specs.Held.{capped}
 use Rattle.composition.specs.declared.Node.{Node}
-use Rattle.composition.specs.declared.list.Nodes.{Nodes}
 use Rattle.composition.specs.declared.Part.{Part}
 use Rattle.composition.specs.Typing.{provided, sort_in, variables_below, prefix_sort, prefixed_by, operation_sort, call_operator, expression_of}
-use Rattle.composition.specs.Parts.{kind_at, held, cells_of, written, Holds}
+use Rattle.composition.specs.Parts.{Nodes, kind_at, held, cells_of, written, Holds}
 use Rattle.composition.specs.Arranging.{plain, operator_cells, arranged}
 use Rattle.composition.proofs.Bytes.{kind_itself}
 use Rattle.composition.proofs.Putting.{front, back, put_before}
@@ -50,16 +49,13 @@ same_number kind value n e =
     let m : min value 2147483647 ≡ min n 2147483647 = omega (arith, e) in
     ap (λ (k : ℕ). record { kind = kind_at (code_of kind); parameter = pos k }) m
 
-module _ (old new : Nodes) (next number : ℕ) (fits : old.count ≤ length old.cells) where
-  begins_at : old.count ≡ length (written old)
-  begins_at = sym (length-take-le old.count old.cells fits)
-
+module _ (old new : Nodes) (next number : ℕ) where
   pub number_holds : (vs : List Sort) (n : ℕ) → number ≡ capped n → written new ≡ written old ++ (numbered kind.Numeral number ∷ [])
-      → Holds vs (numeral n) (written old) new (made next old.count 1 number_sort true)
+      → Holds vs (numeral n) (written old) new (made next (length (written old)) 1 number_sort true)
   unfolding expression_of sort_in variables_below nodes_of_expression depth_of_expression
   number_holds vs n e put =
       record {
-        begins = begins_at;
+        begins = refl;
         nodes = put ∙ ap (λ k. written old ++ (k ∷ [])) (same_number kind.Numeral number n e);
         depth = refl;
         sort = refl;
@@ -67,9 +63,9 @@ module _ (old new : Nodes) (next number : ℕ) (fits : old.count ≤ length old.
       }
 
   pub truth_holds : (vs : List Sort) → written new ≡ written old ++ (numbered kind.Truth number ∷ [])
-      → Holds vs (truth number) (written old) new (made next old.count 1 boolean_sort true)
+      → Holds vs (truth number) (written old) new (made next (length (written old)) 1 boolean_sort true)
   unfolding expression_of sort_in variables_below nodes_of_expression depth_of_expression
-  truth_holds vs put = record { begins = begins_at; nodes = put; depth = refl; sort = refl; below = refl }
+  truth_holds vs put = record { begins = refl; nodes = put; depth = refl; sort = refl; below = refl }
 
   module _ (sorts : List Sort) (few : length sorts ≤ 4294967295) (x : ℕ) (e : number ≡ capped x)
       (put : written new ≡ written old ++ (numbered kind.Variable number ∷ [])) where
@@ -79,12 +75,12 @@ module _ (old new : Nodes) (next number : ℕ) (fits : old.count ≤ length old.
     variable_nodes = put ∙ ap (λ k. written old ++ (k ∷ [])) (same_number kind.Variable number x e)
 
     pub known_holds : (d : Sort) → number < length sorts
-        → Holds sorts (variable x) (written old) new (made next old.count 1 (Some (get_or sorts number d)) true)
+        → Holds sorts (variable x) (written old) new (made next (length (written old)) 1 (Some (get_or sorts number d)) true)
     unfolding expression_of sort_in variables_below depth_of_expression
     known_holds d h =
         let same : number ≡ x = omega arith in
         record {
-          begins = begins_at;
+          begins = refl;
           nodes = variable_nodes;
           depth = refl;
           sort = sym (slice_get-get_or sorts number d h) ∙ ap (λ k. slice_get sorts k) same;
@@ -92,11 +88,11 @@ module _ (old new : Nodes) (next number : ℕ) (fits : old.count ≤ length old.
         }
 
     pub unknown_holds : length sorts ≤ number
-        → Holds sorts (variable x) (written old) new (made next old.count 1 no_sort false)
+        → Holds sorts (variable x) (written old) new (made next (length (written old)) 1 no_sort false)
     unfolding expression_of sort_in variables_below depth_of_expression
     unknown_holds h =
         record {
-          begins = begins_at;
+          begins = refl;
           nodes = variable_nodes;
           depth = refl;
           sort = sym (slice_get_past sorts x (omega arith));
@@ -134,18 +130,18 @@ depth_least (negation a) = omega arith
 depth_least (binary op a b) = omega arith
 depth_least (if_then_else c a b) = omega arith
 
-module _ (before : List Node) (from : ℕ) (starts : length before ≡ from) where
+module _ (before : List Node) where
   module _ (vs : List Sort) (p : Phrase) (old : Nodes) (part : Part) (holds : Holds vs p before old part)
       (next : ℕ) (c : Token) (sort : Option Sort) where
     pub not_holds : (new : Nodes) → c ≡ Not → sort ≡ provided (same_sort part.sort boolean_sort) boolean_sort
-        → written new ≡ take from (written old) ++ (plain kind.Negation ∷ drop from (written old))
-        → Holds vs (prefixed c p) before new (made next from (part.depth + 1) sort part.below)
+        → written new ≡ take part.from (written old) ++ (plain kind.Negation ∷ drop part.from (written old))
+        → Holds vs (prefixed c p) before new (made next part.from (part.depth + 1) sort part.below)
     unfolding expression_of sort_in variables_below prefix_sort prefixed_by nodes_of_expression depth_of_expression held kind_at
     not_holds new e s put =
-        subst (λ k. Holds vs (prefixed k p) before new (made next from (part.depth + 1) sort part.below)) (sym e)
+        subst (λ k. Holds vs (prefixed k p) before new (made next part.from (part.depth + 1) sort part.below)) (sym e)
         (record {
-          begins = sym starts;
-          nodes = put_before before from starts (written old) (cells_of vs p) (written new) (plain kind.Negation ∷ []) holds.nodes put;
+          begins = holds.begins;
+          nodes = put_before before part.from (sym holds.begins) (written old) (cells_of vs p) (written new) (plain kind.Negation ∷ []) holds.nodes put;
           depth = ap (λ d. d + 1) holds.depth ∙ omega arith;
           sort = s ∙ ap (λ s. provided (same_sort s boolean_sort) boolean_sort) holds.sort;
           below = holds.below;
@@ -153,16 +149,16 @@ module _ (before : List Node) (from : ℕ) (starts : length before ≡ from) whe
 
     -- 0 minus the operand, whose depth is at least that of 0
     pub minus_holds : (middle new : Nodes) → c ≡ Minus → sort ≡ provided (same_sort part.sort number_sort) number_sort
-        → written middle ≡ take from (written old) ++ (plain kind.Numeral ∷ drop from (written old))
-        → written new ≡ take from (written middle) ++ (plain kind.Difference ∷ drop from (written middle))
-        → Holds vs (prefixed c p) before new (made next from (part.depth + 1) sort part.below)
+        → written middle ≡ take part.from (written old) ++ (plain kind.Numeral ∷ drop part.from (written old))
+        → written new ≡ take part.from (written middle) ++ (plain kind.Difference ∷ drop part.from (written middle))
+        → Holds vs (prefixed c p) before new (made next part.from (part.depth + 1) sort part.below)
     unfolding expression_of sort_in variables_below prefix_sort prefixed_by nodes_of_expression depth_of_expression held kind_of kind_at
     minus_holds middle new e s first second =
-        let one = put_before before from starts (written old) (cells_of vs p) (written middle) (plain kind.Numeral ∷ []) holds.nodes first in
-        let two = put_before before from starts (written middle) (plain kind.Numeral ∷ cells_of vs p) (written new) (plain kind.Difference ∷ []) one second in
-        subst (λ k. Holds vs (prefixed k p) before new (made next from (part.depth + 1) sort part.below)) (sym e)
+        let one = put_before before part.from (sym holds.begins) (written old) (cells_of vs p) (written middle) (plain kind.Numeral ∷ []) holds.nodes first in
+        let two = put_before before part.from (sym holds.begins) (written middle) (plain kind.Numeral ∷ cells_of vs p) (written new) (plain kind.Difference ∷ []) one second in
+        subst (λ k. Holds vs (prefixed k p) before new (made next part.from (part.depth + 1) sort part.below)) (sym e)
         (record {
-          begins = sym starts;
+          begins = holds.begins;
           nodes = two;
           depth = ap (λ d. d + 1) holds.depth ∙ omega (arith, depth_least (expression_of vs p));
           sort = s ∙ ap (λ s. provided (same_sort s number_sort) number_sort) holds.sort;
@@ -171,11 +167,11 @@ module _ (before : List Node) (from : ℕ) (starts : length before ≡ from) whe
 
     -- no node more
     pub plus_holds : (c ≡ Not → ⊥) → (c ≡ Minus → ⊥) → sort ≡ provided (same_sort part.sort number_sort) number_sort
-        → Holds vs (prefixed c p) before old (made next from part.depth sort part.below)
+        → Holds vs (prefixed c p) before old (made next part.from part.depth sort part.below)
     unfolding expression_of sort_in variables_below
     plus_holds g h s =
         record {
-          begins = sym starts;
+          begins = holds.begins;
           nodes = rw (no_prefix c (expression_of vs p) g h) holds.nodes;
           depth = rw (no_prefix c (expression_of vs p) g h) holds.depth;
           sort = s ∙ ap (λ s. provided (same_sort s number_sort) number_sort) holds.sort ∙ number_prefix c (sort_in vs p) g;
@@ -198,14 +194,14 @@ module _ (before : List Node) (from : ℕ) (starts : length before ≡ from) whe
 
     pub call_holds : (kind : Kind) (new : Nodes) → code_of kind ≡ kind_of (call_operator c)
         → sort ≡ provided (same_sort left.sort number_sort && same_sort right.sort number_sort) number_sort
-        → written new ≡ take from (written old) ++ (plain kind ∷ drop from (written old))
-        → Holds vs (call c p q) before new (made next from (depth + 1) sort below)
+        → written new ≡ take left.from (written old) ++ (plain kind ∷ drop left.from (written old))
+        → Holds vs (call c p q) before new (made next left.from (depth + 1) sort below)
     unfolding expression_of sort_in variables_below nodes_of_expression depth_of_expression
     call_holds kind new k s put =
         record {
-          begins = sym starts;
+          begins = first.begins;
           nodes =
-              put_before before from starts (written old) (cells_of vs p ++ cells_of vs q) (written new) (plain kind ∷ []) both put
+              put_before before left.from (sym first.begins) (written old) (cells_of vs p ++ cells_of vs q) (written new) (plain kind ∷ []) both put
               ∙ ap (λ l. before ++ l)
               (sym (binary_nodes kind (nodes_of_expression (expression_of vs p)) (nodes_of_expression (expression_of vs q)))
               ∙ ap (λ n. map held (node n (pos 0) ∷ nodes_of_expression (expression_of vs p) ++ nodes_of_expression (expression_of vs q))) k);
@@ -218,10 +214,10 @@ module _ (before : List Node) (from : ℕ) (starts : length before ≡ from) whe
 
     -- the operands' nodes are told apart where the right one begins
     pub operation_holds : (middle new : Nodes) (more : ℕ) → sort ≡ operation_sort c left.sort right.sort
-        → written middle ≡ take from (written old) ++ arranged c (drop from (take right.from (written old))) (drop right.from (written old))
+        → written middle ≡ take left.from (written old) ++ arranged c (drop left.from (take right.from (written old))) (drop right.from (written old))
         → more ≡ length (operator_cells c left.sort)
-        → written new ≡ take from (written middle) ++ (operator_cells c left.sort ++ drop from (written middle))
-        → Holds vs (operation c p q) before new (made next from (depth + more) sort below)
+        → written new ≡ take left.from (written middle) ++ (operator_cells c left.sort ++ drop left.from (written middle))
+        → Holds vs (operation c p q) before new (made next left.from (depth + more) sort below)
     unfolding expression_of sort_in variables_below
     operation_holds middle new more s arrange ended put =
         let a = cells_of vs p in
@@ -231,13 +227,13 @@ module _ (before : List Node) (from : ℕ) (starts : length before ≡ from) whe
         let upper : drop right.from (written old) ≡ b =
         ap (drop right.from) second.nodes ∙ drop_at (written cells) b right.from (sym second.begins) in
         let ordered : written middle ≡ before ++ arranged c a b =
-        arrange ∙ ap (λ f. f ++ arranged c (drop from (take right.from (written old))) (drop right.from (written old))) (front before from starts (written old) (a ++ b) both)
-        ∙ ap (λ l. before ++ arranged c l (drop right.from (written old))) (back before from starts (take right.from (written old)) a lower)
+        arrange ∙ ap (λ f. f ++ arranged c (drop left.from (take right.from (written old))) (drop right.from (written old))) (front before left.from (sym first.begins) (written old) (a ++ b) both)
+        ∙ ap (λ l. before ++ arranged c l (drop right.from (written old))) (back before left.from (sym first.begins) (take right.from (written old)) a lower)
         ∙ ap (λ r. before ++ arranged c a r) upper in
         record {
-          begins = sym starts;
+          begins = first.begins;
           nodes =
-              put_before before from starts (written middle) (arranged c a b) (written new) (operator_cells c left.sort) ordered put
+              put_before before left.from (sym first.begins) (written middle) (arranged c a b) (written new) (operator_cells c left.sort) ordered put
               ∙ ap (λ s. before ++ (operator_cells c s ++ arranged c a b)) first.sort
               ∙ ap (λ l. before ++ l) (sym (operator_nodes (sort_in vs p) (expression_of vs p) (expression_of vs q) c));
           depth =
@@ -257,8 +253,8 @@ module _ (before : List Node) (from : ℕ) (starts : length before ≡ from) whe
         → deep ≡ max first.depth second.depth → depth ≡ max condition.depth deep
         → below ≡ ((condition.below && first.below) && second.below)
         → sort ≡ provided (same_sort condition.sort boolean_sort && same_sort first.sort second.sort) first.sort
-        → written new ≡ take from (written old) ++ (plain kind.Conditional ∷ drop from (written old))
-        → Holds vs (conditional p q r) before new (made next from (depth + 1) sort below)
+        → written new ≡ take condition.from (written old) ++ (plain kind.Conditional ∷ drop condition.from (written old))
+        → Holds vs (conditional p q r) before new (made next condition.from (depth + 1) sort below)
     unfolding expression_of sort_in variables_below nodes_of_expression depth_of_expression
     conditional_holds new next deep depth sort below d e g s put =
         let a = cells_of vs p in
@@ -268,9 +264,9 @@ module _ (before : List Node) (from : ℕ) (starts : length before ≡ from) whe
         other.nodes ∙ ap (λ x. x ++ l) (one.nodes ∙ ap (λ x. x ++ b) asked.nodes)
         ∙ append_assoc (before ++ a) b l ∙ append_assoc before a (b ++ l) in
         record {
-          begins = sym starts;
+          begins = asked.begins;
           nodes =
-              put_before before from starts (written old) (a ++ (b ++ l)) (written new) (plain kind.Conditional ∷ []) all put
+              put_before before condition.from (sym asked.begins) (written old) (a ++ (b ++ l)) (written new) (plain kind.Conditional ∷ []) all put
               ∙ ap (λ x. before ++ (plain kind.Conditional ∷ (a ++ x))) (sym (map-append held (nodes_of_expression (expression_of vs q)) (nodes_of_expression (expression_of vs r))))
               ∙ ap (λ x. before ++ x)
               (sym (binary_nodes kind.Conditional (nodes_of_expression (expression_of vs p)) (nodes_of_expression (expression_of vs q) ++ nodes_of_expression (expression_of vs r))));

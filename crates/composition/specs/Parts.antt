@@ -1,5 +1,6 @@
 -- How the code holds a phrase: the nodes of its expression, and what is known of it.
-use Rattle.std.specs.Prelude.{◌≡◌, cond, List, ◌++◌, map, ℕ, ◌+◌, ◌≤◌, eqb, min, pos, nat_abs, length, take}
+use Rattle.std.specs.Prelude.{◌≡◌, cond, List, ◌++◌, map, ℕ, ◌+◌, ◌≤◌, eqb, min, pos, nat_abs, length}
+use Rattle.arrayvec.specs.ArrayVec.{ArrayVec}
 use Rattle.model.specs.Trees.{depth_of_expression}
 use Rattle.model.specs.Nodes as nodes
 use Rattle.model.specs.Nodes.{nodes_of_expression}
@@ -9,7 +10,6 @@ use Rattle.kinds.specs.declared.Sort.{Sort}
 use Rattle.grammar.specs.Phrases.{Phrase}
 use Rattle.composition.specs.declared.Cells.{Cells}
 use Rattle.composition.specs.declared.Node.{Node}
-use Rattle.composition.specs.declared.list.Nodes.{Nodes}
 use Rattle.composition.specs.declared.Part.{Part}
 use Rattle.composition.specs.Typing.{sort_in, variables_below, expression_of}
 
@@ -50,9 +50,13 @@ held n = record { kind = kind_at n.kind; parameter = pos (min (nat_abs n.paramet
 abbrev pub cells_of : List Sort → Phrase → List Node
 cells_of vs p = map held (nodes_of_expression (expression_of vs p))
 
+-- nodes that are written one after another
+abbrev pub Nodes : Type 0
+Nodes = ArrayVec Node
+
 -- the nodes that are written
 abbrev pub written : Nodes → List Node
-written n = take n.count n.cells
+written n = n.items
 
 -- The part is this phrase: its nodes begin after those before it and are the last ones written, and its depth, its sort and whether
 -- its variables are all below S+F are the phrase's.
@@ -69,9 +73,9 @@ Placed end part = part.from + part.depth ≤ end
 
 -- a part composed of others, the last nodes of `last`: at most two nodes more
 pub record Composed (last next : ℕ) (nodes : Nodes) (part : Part) : Type 0 where
-  pub placed : Placed nodes.count part
-  pub least : last ≤ nodes.count
-  pub most : nodes.count ≤ last + 2
+  pub placed : Placed (length (written nodes)) part
+  pub least : last ≤ length (written nodes)
+  pub most : length (written nodes) ≤ last + 2
   pub ends : part.next ≡ next
 
 -- the same two slices

@@ -13,16 +13,18 @@ ghost use Rattle.grammar.specs.Held.{capped};
 ghost use Rattle.composition.specs.Typing.{provided, operation_sort, call_operator};
 ghost use Rattle.composition.specs.declared.Node.{Node};
 ghost use Rattle.model.specs.Nodes.{node};
-ghost use Rattle.composition.specs.Parts.{held, written, Holds, Placed, Composed, SameCells};
-ghost use Rattle.composition.specs.declared.list.Nodes.{Nodes};
+ghost use Rattle.composition.specs.Parts.{Nodes, held, written, Holds, Placed, Composed, SameCells};
 ghost use Rattle.composition.specs.Arranging.{plain, is_greater, equality_kind, operator_kind, operator_cells, arranged};
 
+use arrayvec::ArrayVec;
 use grammar::Token;
 use kinds::{Kind, Sort};
 
-mod list; // list.rt: nodes that are written one after another
+// The most nodes of a text.
+pub const MAX_NODES: usize = 400;
 
-pub use list::{MAX_NODES, Nodes};
+// Nodes that are written one after another.
+pub type Nodes = ArrayVec<Node, MAX_NODES>;
 
 // A node of an expression.
 #[derive(Clone, Copy)]
@@ -87,24 +89,21 @@ fn equality_kind(sort: Option<Sort>) -> Kind
 fn only(sort: Option<Sort>, wanted: Sort) -> Option<Sort>
     ensures { result ≡ provided (same_sort sort (Some wanted)) (Some wanted) }
 {
-    let sort = sort?;
-    (sort == wanted).then_some(wanted)
+    sort.filter(|sort| *sort == wanted)
 }
 
 // A sort, if both operands are of the wanted one.
 fn of_both(left: Option<Sort>, right: Option<Sort>, wanted: Sort, sort: Sort) -> Option<Sort>
     ensures { result ≡ provided (same_sort left (Some wanted) && same_sort right (Some wanted)) (Some sort) }
 {
-    let left = left?;
-    let right = right?;
-    ((left == wanted) & (right == wanted)).then_some(sort)
+    (left == Some(wanted) && right == Some(wanted)).then_some(sort)
 }
 
 // Of `==` and `!=`: the operands have the same sort.
 fn equality_sort(left: Option<Sort>, right: Option<Sort>) -> Option<Sort>
     ensures { result ≡ provided (is_some left && same_sort left right) boolean_sort }
 {
-    of_both(left, right, left?, Sort::Boolean)
+    (left.is_some() && left == right).then_some(Sort::Boolean)
 }
 
 // The sort of an operator between operands of these sorts.
@@ -137,79 +136,74 @@ fn call_kind(function: Token) -> Kind
 fn choice_sort(condition: Option<Sort>, first: Option<Sort>, second: Option<Sort>) -> Option<Sort>
     ensures { result ≡ provided (same_sort condition boolean_sort && same_sort first second) first }
 {
-    let condition = condition?;
-    let first = first?;
-    let second = second?;
-    ((condition == Sort::Boolean) & (first == second)).then_some(first)
+    if condition == Some(Sort::Boolean) && first == second {
+        first
+    } else {
+        None
+    }
 }
 
-impl Node {
-    // What a cell holds before a node is written into it.
-    pub const BLANK: Node = Node {
-        kind: Kind::Skip,
-        parameter: 0,
-    };
-}
+// What a place of `Nodes` holds before a node is written there. By hand, since a kind has no default of its own.
+impl Default for Node {
+    ghost use Rattle.kinds.specs.declared.kind.Kind.TheVariants.{Skip};
 
-impl Nodes {
-    // Puts a node at the end.
-    fn push(&mut self, node: Node)
-        requires { self.old.count < 400 }
-        ensures count { self.new.count ≡ self.old.count + 1 }
-        ensures nodes { written self.new ≡ written self.old ++ (node ∷ []) }
-    {
-        self.cells[usize::from(self.count)] = node;
-        self.count += 1;
-    }
+    ghost is_default = { λ node. node ≡ plain Skip };
 
-    // Puts a node of this kind in at place `from`; those from there on move up by one.
-    fn insert(&mut self, from: u16, kind: Kind)
-        requires { (from ≤ self.old.count) × (self.old.count < 400) }
-        ensures count { self.new.count ≡ self.old.count + 1 }
-        ensures nodes { written self.new ≡ take from (written self.old) ++ (plain kind ∷ drop from (written self.old)) }
-    {
-        let end = usize::from(self.count);
-        self.cells[end] = Node { kind, parameter: 0 };
-        self.cells[usize::from(from)..end + 1].rotate_right(1);
-        self.count += 1;
-    }
-
-    // Arranges the nodes of two operands of an operator, from places `from` and `middle` on.
-    fn arrange(&mut self, operator: Token, from: u16, middle: u16)
-        requires { (from ≤ middle) × (middle ≤ self.old.count) × (self.old.count ≤ 400) }
-        ensures count { self.new.count ≡ self.old.count }
-        ensures nodes { written self.new ≡ take from (written self.old)
-            ++ arranged operator (drop from (take middle (written self.old))) (drop middle (written self.old)) }
-    {
-        if is_greater(operator) {
-            let from = usize::from(from);
-            self.cells[from..usize::from(self.count)].rotate_left(usize::from(middle) - from);
-        }
-    }
-
-    // Puts the nodes of an operator, whose left operand is of this sort, before those of its operands.
-    fn put_operator(&mut self, operator: Token, sort: Option<Sort>, from: u16)
-        requires { (from ≤ self.old.count) × (self.old.count + 2 ≤ 400) }
-        ensures count { self.new.count ≡ self.old.count + length (operator_cells operator sort) }
-        ensures nodes { written self.new ≡ take from (written self.old) ++ (operator_cells operator sort ++ drop from (written self.old)) }
-    {
-        self.insert(from, operator_kind(operator, sort));
-        if operator == Token::Unequal {
-            self.insert(from, Kind::Negation);
+    fn default() -> Node {
+        Node {
+            kind: Kind::Skip,
+            parameter: 0,
         }
     }
 }
 
 // A part is composed of others, whose nodes stand one after another, those of the last one last.
 impl Part {
+    // Puts a node of this kind before the part's.
+    fn put(self, nodes: &mut Nodes, kind: Kind)
+        requires { (self.from ≤ length (written nodes.old)) × (length (written nodes.old) < 400) }
+        ensures count { length (written nodes.new) ≡ length (written nodes.old) + 1 }
+        ensures nodes { written nodes.new ≡ take self.from (written nodes.old) ++ (plain kind ∷ drop self.from (written nodes.old)) }
+    {
+        nodes.insert(usize::from(self.from), Node { kind, parameter: 0 });
+    }
+
+    // Puts the nodes of an operator before those of its operands, of which the part is the left one.
+    #[tactic(auto, using(crate::proofs::Operators::one_cell, crate::proofs::Operators::two_cells, crate::proofs::Putting::one_put, crate::proofs::Putting::two_put))]
+    fn put_operator(self, nodes: &mut Nodes, operator: Token)
+        requires { (self.from ≤ length (written nodes.old)) × (length (written nodes.old) + 2 ≤ 400) }
+        ensures count { length (written nodes.new) ≡ length (written nodes.old) + length (operator_cells operator self.sort) }
+        ensures nodes { written nodes.new
+            ≡ take self.from (written nodes.old) ++ (operator_cells operator self.sort ++ drop self.from (written nodes.old)) }
+    {
+        self.put(nodes, operator_kind(operator, self.sort));
+        if operator == Token::Unequal {
+            self.put(nodes, Kind::Negation);
+        }
+    }
+
+    // Arranges the nodes of an operator's operands, of which the part is the left one.
+    #[tactic(auto, using(crate::proofs::Turning::runs, crate::proofs::Turning::turned), unfolding(crate::specs::Arranging::arranged))]
+    fn arrange(self, nodes: &mut Nodes, operator: Token, right: Part)
+        requires { (self.from ≤ right.from) × (right.from ≤ length (written nodes.old)) }
+        ensures count { length (written nodes.new) ≡ length (written nodes.old) }
+        ensures nodes { written nodes.new ≡ take self.from (written nodes.old)
+            ++ arranged operator (drop self.from (take right.from (written nodes.old))) (drop right.from (written nodes.old)) }
+    {
+        if is_greater(operator) {
+            let from = usize::from(self.from);
+            nodes.as_mut_slice()[from..].rotate_left(usize::from(right.from) - from);
+        }
+    }
+
     // One node alone, the next one.
     fn leaf(nodes: &mut Nodes, node: Node, sort: Option<Sort>, next: u16) -> Part
-        requires { nodes.old.count < 400 }
-        ensures count { nodes.new.count ≡ nodes.old.count + 1 }
+        requires { length (written nodes.old) < 400 }
+        ensures count { length (written nodes.new) ≡ length (written nodes.old) + 1 }
         ensures stored { written nodes.new ≡ written nodes.old ++ (node ∷ []) }
-        ensures part { result ≡ record { next = next; from = nodes.old.count; depth = 1; sort = sort; below = true } }
+        ensures part { result ≡ record { next = next; from = length (written nodes.old); depth = 1; sort = sort; below = true } }
     {
-        let from = nodes.count;
+        let from = nodes.len() as u16;
         nodes.push(node);
         Part {
             next,
@@ -222,8 +216,8 @@ impl Part {
 
     // A number.
     pub fn numeral(nodes: &mut Nodes, number: u32, next: u16) -> Part
-        requires { nodes.old.count < 400 }
-        ensures composed { Composed nodes.old.count next nodes.new result }
+        requires { length (written nodes.old) < 400 }
+        ensures composed { Composed (length (written nodes.old)) next nodes.new result }
         ensures holds { (vs : List Sort) (n : ℕ) → number ≡ capped n
             → Holds vs (numeral n) (written nodes.old) nodes.new result }
     {
@@ -233,8 +227,8 @@ impl Part {
 
     // True (1) or false (0): a number, as the phrase has it.
     pub fn truth(nodes: &mut Nodes, value: u8, next: u16) -> Part
-        requires { nodes.old.count < 400 }
-        ensures composed { Composed nodes.old.count next nodes.new result }
+        requires { length (written nodes.old) < 400 }
+        ensures composed { Composed (length (written nodes.old)) next nodes.new result }
         ensures holds { (vs : List Sort)
             → Holds vs (truth value) (written nodes.old) nodes.new result }
     {
@@ -244,8 +238,8 @@ impl Part {
 
     // A variable.
     pub fn variable(nodes: &mut Nodes, sorts: &[Sort], number: u32, next: u16) -> Part
-        requires { (nodes.old.count < 400) × (length sorts.now ≤ 4294967295) }
-        ensures composed { Composed nodes.old.count next nodes.new result }
+        requires { (length (written nodes.old) < 400) × (length sorts.now ≤ 4294967295) }
+        ensures composed { Composed (length (written nodes.old)) next nodes.new result }
         ensures holds { (x : ℕ) → number ≡ capped x
             → Holds sorts.now (variable x) (written nodes.old) nodes.new result }
     {
@@ -268,14 +262,14 @@ impl Part {
 
     // Not, a minus sign (0 minus its operand) or a plus sign (no node, but it wants a number).
     pub fn prefixed(self, nodes: &mut Nodes, operator: Token) -> Part
-        requires { Placed nodes.old.count self × (nodes.old.count + 2 ≤ 400) }
-        ensures composed { Composed nodes.old.count self.next nodes.new result }
+        requires { Placed (length (written nodes.old)) self × (length (written nodes.old) + 2 ≤ 400) }
+        ensures composed { Composed (length (written nodes.old)) self.next nodes.new result }
         ensures holds { (vs : List Sort) (p : Phrase) (before : List Node)
             → Holds vs p before nodes.old self → Holds vs (prefixed operator p) before nodes.new result }
     {
         match operator {
             Token::Not => {
-                nodes.insert(self.from, Kind::Negation);
+                self.put(nodes, Kind::Negation);
                 Part {
                     depth: self.depth + 1,
                     sort: only(self.sort, Sort::Boolean),
@@ -283,8 +277,8 @@ impl Part {
                 }
             }
             Token::Minus => {
-                nodes.insert(self.from, Kind::Numeral);
-                nodes.insert(self.from, Kind::Difference);
+                self.put(nodes, Kind::Numeral);
+                self.put(nodes, Kind::Difference);
                 Part {
                     depth: self.depth + 1,
                     sort: only(self.sort, Sort::Number),
@@ -299,19 +293,20 @@ impl Part {
     }
 
     // An operator between this operand and the right one.
+    #[tactic(auto, using(crate::proofs::Operators::few_cells))]
     pub fn operated(self, nodes: &mut Nodes, operator: Token, right: Part) -> Part
-        requires { Placed right.from self × Placed nodes.old.count right × (nodes.old.count + 2 ≤ 400) }
-        ensures composed { Composed nodes.old.count right.next nodes.new result }
+        requires { Placed right.from self × Placed (length (written nodes.old)) right × (length (written nodes.old) + 2 ≤ 400) }
+        ensures composed { Composed (length (written nodes.old)) right.next nodes.new result }
         ensures holds { (vs : List Sort) (p q : Phrase) (before : List Node) (left : Nodes)
             → Holds vs p before left self → Holds vs q (written left) nodes.old right
             → Holds vs (operation operator p q) before nodes.new result }
     {
-        let count = nodes.count;
-        nodes.arrange(operator, self.from, right.from);
-        nodes.put_operator(operator, self.sort, self.from);
+        let count = nodes.len();
+        self.arrange(nodes, operator, right);
+        self.put_operator(nodes, operator);
         Part {
             next: right.next,
-            depth: self.depth.max(right.depth) + (nodes.count - count),
+            depth: self.depth.max(right.depth) + (nodes.len() - count) as u16,
             sort: operation_sort(operator, self.sort, right.sort),
             below: self.below & right.below,
             ..self
@@ -320,13 +315,13 @@ impl Part {
 
     // A call of div or mod, which ends before place `next`.
     pub fn called(self, nodes: &mut Nodes, function: Token, right: Part, next: u16) -> Part
-        requires { Placed right.from self × Placed nodes.old.count right × (nodes.old.count + 2 ≤ 400) }
-        ensures composed { Composed nodes.old.count next nodes.new result }
+        requires { Placed right.from self × Placed (length (written nodes.old)) right × (length (written nodes.old) + 2 ≤ 400) }
+        ensures composed { Composed (length (written nodes.old)) next nodes.new result }
         ensures holds { (vs : List Sort) (p q : Phrase) (before : List Node) (left : Nodes)
             → Holds vs p before left self → Holds vs q (written left) nodes.old right
             → Holds vs (call function p q) before nodes.new result }
     {
-        nodes.insert(self.from, call_kind(function));
+        self.put(nodes, call_kind(function));
         Part {
             next,
             depth: self.depth.max(right.depth) + 1,
@@ -338,14 +333,14 @@ impl Part {
 
     // If-then-else, by its condition.
     pub fn chosen(self, nodes: &mut Nodes, first: Part, second: Part) -> Part
-        requires { Placed first.from self × Placed second.from first × Placed nodes.old.count second × (nodes.old.count + 2 ≤ 400) }
-        ensures composed { Composed nodes.old.count second.next nodes.new result }
+        requires { Placed first.from self × Placed second.from first × Placed (length (written nodes.old)) second × (length (written nodes.old) + 2 ≤ 400) }
+        ensures composed { Composed (length (written nodes.old)) second.next nodes.new result }
         ensures holds { (vs : List Sort) (p q s : Phrase) (before : List Node) (condition branch : Nodes)
             → Holds vs p before condition self → Holds vs q (written condition) branch first
             → Holds vs s (written branch) nodes.old second
             → Holds vs (conditional p q s) before nodes.new result }
     {
-        nodes.insert(self.from, Kind::Conditional);
+        self.put(nodes, Kind::Conditional);
         Part {
             next: second.next,
             depth: self.depth.max(first.depth.max(second.depth)) + 1,
@@ -356,7 +351,8 @@ impl Part {
     }
 }
 
-// Two slices lent for the nodes of an expression.
+// Two slices lent for the nodes of an expression. Not two tapes, as a new model's nodes are put on: here all nodes have room and stand at
+// the beginning, so no place is kept, and none is asked of a caller.
 #[derive(Drop)]
 pub struct Cells<'a> {
     pub kinds: &'a mut [u8],
@@ -371,7 +367,7 @@ impl Cells<'_> {
         ensures parameters { self.new.parameters.now ≡ over (map (λ n. n.parameter) nodes.now) self.old.parameters.now }
         ensures same { SameCells self.old self.new }
     {
-        // By a place: a node goes into two slices, and a zip of the three reads no plainer.
+        // By a place: a node goes into two slices, and of what is written through a `zip` of `iter_mut` a proof knows nothing afterwards.
         for (i, node) in nodes.iter().enumerate() {
             self.kinds[i] = node.kind.code();
             self.parameters[i] = node.parameter;

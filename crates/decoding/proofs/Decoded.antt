@@ -63,9 +63,6 @@ module _ (m : List ℕ) (model : Model) (kinds : List ℕ) (parameters : List �
   pub decoded_guards : length guards ≡ length d.system.transitions
   decoded_guards = ap length d.guards_decoded ∙ guards_length d.system.transitions _
 
-  pub decoded_transitions : length d.system.transitions ≡ model.sizes.transitions
-  decoded_transitions = file.system.number_of_transitions
-
   pub decoded_variables : length (variables d.system) ≡ model.sizes.states + model.sizes.flows
   decoded_variables = file.system.number
 

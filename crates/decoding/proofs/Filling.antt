@@ -9,8 +9,8 @@ use native.Mathlib.Omega.{arith}
 use borrow.Author.Tests.{lt-ltb, le-ltb, ltb-true}
 use lib.Dec.{eqb, ltb}
 use lib.IntN.{ℤ, pos, nat_abs}
-use lib.ListN.{length, get_or, set, drop, length-set}
-use lib.Seq.{get_or-set_same, get_or-set_other, drop-set-lt}
+use lib.ListN.{length, get_or, set, length-set}
+use lib.Seq.{get_or-set_same, get_or-set_other}
 use Rattle.kinds.specs.Kinds.{children_of}
 use Rattle.decoding.specs.NextPlaces.{children_by, following, filled}
 
@@ -153,9 +153,3 @@ module _ (ks : List ℕ) (ps : List ℤ) where
   filled_length zero nexts = refl
   filled_length (suc left) nexts =
       filled_length left (set nexts left (entry_at nexts left)) ∙ length-set nexts left (entry_at nexts left)
-
-  pub filled_drop : (left n : ℕ) (nexts : List ℕ) → left ≤ n → drop n (filled ks ps left nexts) ≡ drop n nexts
-  unfolding filled
-  filled_drop zero n nexts h = refl
-  filled_drop (suc left) n nexts h =
-      filled_drop left n (set nexts left (entry_at nexts left)) (omega arith) ∙ drop-set-lt n nexts left (entry_at nexts left) h

@@ -1,13 +1,13 @@
 -- A table whose entries follow their children's leads from every tree to the place after it, and is the list of next places.
 use mathlib.Core.Path.{◌≡◌, refl, sym, ap, ◌∙◌, subst}
 use mathlib.Core.Bool.{Bool, true, false, cond}
-use mathlib.Core.List.{List, [], ◌∷◌, ◌++◌, append-nil, flat_map}
+use mathlib.Core.List.{List, [], ◌∷◌, ◌++◌, flat_map}
 use Prim.Native.Nat.{ℕ, suc, ◌+◌, ◌≤◌, ◌<◌}
 use native.Mathlib.Numerals.{add-one}
 use native.Mathlib.Omega.{arith}
 use lib.IntN.{ℤ, pos}
-use lib.ListN.{length, get_or, take, drop, replicate, length-replicate, length-append, take-append-drop, drop_of_length-le}
-use lib.Seq.{drop-cons, drop-drop, take-add, length-take-le}
+use lib.ListN.{length, get_or, take, drop, replicate, length-replicate, length-append}
+use lib.Seq.{drop-cons, drop-drop, take-add, length-take-le, take_all}
 use Rattle.kinds.specs.declared.Sort.TheVariants.{Boolean}
 use Rattle.kinds.specs.Sameness.{is_sort}
 use Rattle.evaluation.specs.declared.Operator.{Operator}
@@ -21,10 +21,9 @@ use Rattle.model.specs.Nodes.{node, nodes_of_variable}
 use Rattle.decoding.specs.NextPlaces.{children_by, following, filled}
 use Rattle.model.specs.Standing.{NodeAt, ExpressionAt, InstructionAt, InstructionsAt, size_of_expression, size_of, size_of_all, size_of_transition, size_of_transitions}
 use Rattle.model.proofs.NodeLists.{TransitionsAt}
-use Rattle.results.specs.Results.{over}
 use Rattle.decoding.specs.Decoding.{size_of_variable, size_of_variables, nexts_of_expression, nexts_of, nexts_of_all, nexts_of_variables, nexts_of_transitions, nexts_of_system, transitions_place, assertion_place}
 use Rattle.model.proofs.NodeLists.{NodesAt, nodes_split}
-use Rattle.decoding.proofs.Filling.{following_step, FollowsFrom, filled_all, filled_length, filled_drop}
+use Rattle.decoding.proofs.Filling.{following_step, FollowsFrom, filled_all, filled_length}
 
 operator_children : (op : Operator) → children_by (kind_of op) (pos 0) ≡ 2
 unfolding children_by children_of kind_of
@@ -261,18 +260,11 @@ module _ (ks : List ℕ) (ps : List ℤ) (t : System) (h : SystemAt ks ps t) whe
       ap length (sym (filled_take zeros (omega (arith, zeros_long))))
       ∙ length-take-le (length ks) (filled ks ps (length ks) zeros) (omega (arith, zeros_long, filled_length ks ps (length ks) zeros))
 
-  pub filled_nexts : (nexts : List ℕ) → length ks ≤ length nexts → filled ks ps (length ks) nexts ≡ over (nexts_of_system t) nexts
+  pub filled_nexts : (nexts : List ℕ) → length nexts ≡ length ks → filled ks ps (length ks) nexts ≡ nexts_of_system t
   filled_nexts nexts long =
-      sym (take-append-drop (length ks) (filled ks ps (length ks) nexts))
-      ∙ ap (λ l. l ++ drop (length ks) (filled ks ps (length ks) nexts)) (filled_take nexts long)
-      ∙ ap (λ l. nexts_of_system t ++ l) (filled_drop ks ps (length ks) (length ks) nexts (omega arith))
-      ∙ ap (λ n. nexts_of_system t ++ drop n nexts) (sym nexts_length)
+      sym (take_all (length ks) (filled ks ps (length ks) nexts) (omega (arith, filled_length ks ps (length ks) nexts, long)))
+      ∙ filled_take nexts (omega (arith, long))
 
   -- every entry of the list follows its node's children
   pub nexts_follow : FollowsFrom ks ps (nexts_of_system t) 0
-  nexts_follow =
-      subst (λ l. FollowsFrom ks ps l 0)
-      (filled_nexts zeros (omega (arith, zeros_long))
-      ∙ ap (λ l. nexts_of_system t ++ l) (drop_of_length-le zeros {i = length (nexts_of_system t)} (omega (arith, zeros_long, nexts_length)))
-      ∙ append-nil (nexts_of_system t))
-      (filled_all ks ps zeros (omega (arith, zeros_long)))
+  nexts_follow = subst (λ l. FollowsFrom ks ps l 0) (filled_nexts zeros zeros_long) (filled_all ks ps zeros (omega (arith, zeros_long)))

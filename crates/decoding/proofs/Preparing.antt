@@ -7,7 +7,7 @@ use native.Mathlib.Omega.{arith}
 use mir.Syntax.{w8}
 use mir.Val.{Fits as Byte}
 use lib.IntN.{ℤ}
-use lib.ListN.{length, get_or, take, drop, length-append}
+use lib.ListN.{length, get_or, take, drop, length-append, length-map}
 use lib.Seq.{take_at, drop_at, length-take-le}
 use Rattle.std.specs.Prelude.{Ok, Err}
 use Rattle.results.specs.declared.refusal.Refusal.{Refusal}
@@ -17,19 +17,20 @@ use Rattle.model.specs.declared.Sizes.{Sizes}
 use Rattle.model.specs.declared.Model.{Model}
 use Rattle.model.specs.Trees.{Variable, Transition, System, variables}
 use Rattle.model.specs.Sizes.{byte_layout, max_nodes, max_variables}
-use Rattle.model.specs.Check.{Verdict, verdict, answer_of, kinds_in, parameters_in, parameters_at}
+use Rattle.model.specs.Check.{Verdict, verdict, answer_of, kinds_in, parameters_in}
 use Rattle.model.specs.Check.Verdict.{refusal, accepted}
 use Rattle.decoding.specs.NextPlaces.{filled}
 use Rattle.model.specs.Standing.{size_of_transitions}
 use Rattle.results.specs.Results.{over, answered}
 use Rattle.variables.specs.declared.VariableRow.{VariableRow}
-use Rattle.variables.specs.Rows.{variable_rows}
+use Rattle.variables.specs.Rows.{variable_row, variable_rows}
 use Rattle.decoding.specs.Decoding.{Enough, VariablesRead, Arrays, arrays, decoded_over, prepared_by, guard_places, nexts_of, nexts_of_variables, nexts_of_transitions, nexts_of_system, size_of_variable, size_of_variables, transitions_place, assertion_place}
 use Rattle.decoding.proofs.Accepted.{FileRead, accepted_file}
 use Rattle.model.proofs.LittleBytes.{parameters_length}
 use Rattle.model.proofs.Encoding.{Fits, SizedAs}
 use Rattle.model.proofs.CheckExact.{kinds_length, sized_fits}
-use Rattle.decoding.proofs.Places.{filled_nexts}
+use Rattle.decoding.proofs.StoredVariables.{cells_over}
+use Rattle.decoding.proofs.Places.{filled_nexts, nexts_length}
 
 -- ---- the answer of the check
 
@@ -94,43 +95,48 @@ pub parameters_front : (m : List ℕ) (n : ℕ) (rest new : List ℤ) → new �
 parameters_front m n rest new e = ap (take n) e ∙ take_at (parameters_in byte_layout n m) rest n (parameters_length m n (6 + n))
 
 -- the variables of an accepted file are those that the walk finds
-module _ (m : List ℕ) (s : Sizes) (ks : List ℕ) (ps : List ℤ) (k : ks ≡ kinds_in byte_layout s.nodes m) (p : ps ≡ parameters_in byte_layout s.nodes m) where
-  abbrev pub variables_read : (t : System) → verdict m ≡ accepted s t → VariablesRead ks ps (s.states + s.flows)
+module _ (m : List ℕ) (s : Sizes) (ks : List ℕ) (ps : List ℤ) (k : ks ≡ kinds_in byte_layout s.nodes m) (p : ps ≡ parameters_in byte_layout s.nodes m)
+    {count : ℕ} (n : count ≡ s.states + s.flows) where
+  abbrev pub variables_read : (t : System) → verdict m ≡ accepted s t → VariablesRead ks ps count
   variables_read t v =
-      record { variables = variables t; next = transitions_place t; row = rw (k, p) (accepted_file m s t v).system.row }
+      record { variables = variables t; next = transitions_place t; row = rw (k, p, n) (accepted_file m s t v).system.row }
 
-  pub variables_asked : answer_of (verdict m) ≡ Ok s → VariablesRead ks ps (s.states + s.flows)
+  pub variables_asked : answer_of (verdict m) ≡ Ok s → VariablesRead ks ps count
   variables_asked e = let a = answer_accepted m s e in variables_read a.0 a.1
 
-pub sorts_asked : (m : List ℕ) (s : Sizes) (ks : List ℕ) → ks ≡ kinds_in byte_layout s.nodes m → answer_of (verdict m) ≡ Ok s
-    → (ps : List ℤ) × VariablesRead ks ps (s.states + s.flows)
-sorts_asked m s ks k e = (parameters_in byte_layout s.nodes m, variables_asked m s ks _ k refl e)
+pub sorts_asked : (m : List ℕ) (s : Sizes) (ks : List ℕ) → ks ≡ kinds_in byte_layout s.nodes m → {count : ℕ} → count ≡ s.states + s.flows
+    → answer_of (verdict m) ≡ Ok s → (ps : List ℤ) × VariablesRead ks ps count
+sorts_asked m s ks k n e = (parameters_in byte_layout s.nodes m, variables_asked m s ks _ k refl n e)
 
 -- the parameters and the rows of the variables, from what the functions leave that read them
-pub variables_decoded_lem : (m : List ℕ) (s : Sizes) (ks : List ℕ) (old new : List ℤ) (before after : List VariableRow) (place : ℕ)
-    → ks ≡ kinds_in byte_layout s.nodes m → new ≡ parameters_at m (6 + s.nodes) s.nodes ++ drop s.nodes old
-    → ((r : VariablesRead ks (take s.nodes new) (s.states + s.flows)) → (place ≡ r.next) × (after ≡ over (variable_rows r.variables) before))
+pub variables_decoded_lem : (m : List ℕ) (s : Sizes) (ks : List ℕ) (old ps : List ℤ) (before rows : List VariableRow) (place count many : ℕ)
+    → ks ≡ kinds_in byte_layout s.nodes m → ps ≡ parameters_in byte_layout s.nodes m → count ≡ s.states + s.flows → many ≡ count
+    → ((r : VariablesRead ks (take s.nodes (ps ++ drop s.nodes old)) many) → (place ≡ r.next) × (rows ≡ variable_rows r.variables))
     → (t : System) → verdict m ≡ accepted s t
     → (place ≡ transitions_place t)
-    × (new ≡ over (parameters_in byte_layout s.nodes m) old)
-    × (after ≡ over (variable_rows (variables t)) before)
-variables_decoded_lem m s ks old new before after place k p d t v =
-    let r = d (variables_read m s ks (take s.nodes new) k (parameters_front m s.nodes (drop s.nodes old) new p) t v) in
-    (r.0, p ∙ ap (λ n. parameters_in byte_layout s.nodes m ++ drop n old) (sym (parameters_length m s.nodes (6 + s.nodes))), r.1)
+    × (ps ++ drop s.nodes old ≡ over (parameters_in byte_layout s.nodes m) old)
+    × (rows ++ drop count before ≡ over (variable_rows (variables t)) before)
+variables_decoded_lem m s ks old ps before rows place count many k p n e d t v =
+    let r = d (variables_read m s ks _ k (parameters_front m s.nodes _ _ (ap (λ l. l ++ drop s.nodes old) p)) (e ∙ n) t v) in (
+      r.0,
+      cells_over old p (parameters_length m s.nodes (6 + s.nodes)),
+      cells_over before r.1 (length-map (variables t) variable_row ∙ (accepted_file m s t v).system.number ∙ sym n),
+    )
 
--- what the functions leave
-pub record Steps (m : List ℕ) (s : Sizes) (ks : List ℕ) (old new : Arrays) (place assertion : ℕ) : Type 0 where
+-- what the functions leave: of the next places the first, which were lent alone
+pub record Steps (m : List ℕ) (s : Sizes) (ks : List ℕ) (old new : Arrays) (part : List ℕ) (place assertion : ℕ) : Type 0 where
   pub kinds : ks ≡ kinds_in byte_layout s.nodes m
   pub declared : (t : System) → verdict m ≡ accepted s t
       → (place ≡ transitions_place t)
       × (new.parameters ≡ over (parameters_in byte_layout s.nodes m) old.parameters)
       × (new.variables ≡ over (variable_rows (variables t)) old.variables)
-  pub nexts : new.nexts ≡ filled ks (take s.nodes new.parameters) (length ks) old.nexts
+  pub filling : part ≡ filled ks (take s.nodes new.parameters) (length ks) (take s.nodes old.nexts)
+  pub nexts : new.nexts ≡ part ++ drop s.nodes old.nexts
   pub long : s.nodes ≤ length old.nexts
   pub guards : (ts : List Transition) (rest : List ℕ) → length ts ≡ s.transitions → drop place new.nexts ≡ nexts_of_transitions ts place ++ rest
       → (assertion ≡ place + size_of_transitions ts) × (new.guards ≡ over (guard_places ts place) old.guards)
 
-module _ (m : List ℕ) (s : Sizes) (ks : List ℕ) (old new : Arrays) (place assertion : ℕ) (h : Steps m s ks old new place assertion)
+module _ (m : List ℕ) (s : Sizes) (ks : List ℕ) (old new : Arrays) (part : List ℕ) (place assertion : ℕ) (h : Steps m s ks old new part place assertion)
     (t : System) (v : verdict m ≡ accepted s t) where
   file : FileRead m s t
   file = accepted_file m s t v
@@ -147,9 +153,12 @@ module _ (m : List ℕ) (s : Sizes) (ks : List ℕ) (old new : Arrays) (place as
   table : new.nexts ≡ over (nexts_of_system t) old.nexts
   table =
       h.nexts
-      ∙ ap (λ ks. filled ks (take s.nodes new.parameters) (length ks) old.nexts) h.kinds
-      ∙ ap (λ ps. filled file_kinds ps (length file_kinds) old.nexts) front
-      ∙ filled_nexts file_kinds file_parameters t file.system.stands old.nexts (omega (arith, h.long, kinds_length m s file.sizes))
+      ∙ cells_over old.nexts
+      (h.filling
+      ∙ ap (λ ks. filled ks (take s.nodes new.parameters) (length ks) (take s.nodes old.nexts)) h.kinds
+      ∙ ap (λ ps. filled file_kinds ps (length file_kinds) (take s.nodes old.nexts)) front
+      ∙ filled_nexts file_kinds file_parameters t file.system.stands _ (length-take-le s.nodes old.nexts h.long ∙ sym (kinds_length m s file.sizes)))
+      (nexts_length file_kinds file_parameters t file.system.stands ∙ kinds_length m s file.sizes)
 
   -- what follows the entries of the transitions
   abbrev others : List ℕ

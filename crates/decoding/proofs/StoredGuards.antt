@@ -11,10 +11,10 @@ use Rattle.model.specs.Trees.Expression.{numeral, truth, variable, negation, bin
 use Rattle.model.specs.Trees.Instruction.{skip, assign, if_then, block}
 use Rattle.model.specs.Trees.Instructions.{none, more}
 use Rattle.model.specs.Standing.{size_of_expression, size_of, size_of_all, size_of_transition, size_of_transitions}
-use Rattle.results.specs.Results.{over}
 use Rattle.decoding.specs.Decoding.{guard_places, nexts_of_transitions, nexts_of_expression, nexts_of, nexts_of_all}
 use Rattle.decoding.proofs.Decoded.{guards_length}
-use Rattle.decoding.proofs.StoredVariables.{sets_over, part_over}
+use Rattle.results.specs.Results.{over}
+use Rattle.decoding.proofs.StoredVariables.{sets_all, cells_over}
 
 expression_nexts_length : (e : Expression) (at : ℕ) → length (nexts_of_expression e at) ≡ size_of_expression e
 unfolding nexts_of_expression size_of_expression
@@ -89,13 +89,13 @@ record GuardsLeft (nexts : List ℕ) (n from at i : ℕ) (now then : List ℕ) (
   same : sets now i (guard_places transitions at) ≡ sets then 0 (guard_places ts from)
   after : at + size_of_transitions transitions ≡ from + size_of_transitions ts
 
-pub record GuardsStored (nexts : List ℕ) (count from i at : ℕ) (now then : List ℕ) : Type 0 where
-  pub bound : i ≤ count
+pub record GuardsStored (nexts : List ℕ) (from i at : ℕ) (now then : List ℕ) : Type 0 where
+  pub bound : i ≤ length then
   pub same : length now ≡ length then
-  left : (ts : List Transition) (rest : List ℕ) → length ts ≡ count → Entries nexts ts from rest → GuardsLeft nexts (count - i) from at i now then ts rest
+  left : (ts : List Transition) (rest : List ℕ) → length ts ≡ length then → Entries nexts ts from rest → GuardsLeft nexts (length then - i) from at i now then ts rest
 
-module _ (nexts : List ℕ) (count from : ℕ) where
-  pub guards_begin : (cells : List ℕ) → GuardsStored nexts count from 0 from cells cells
+module _ (nexts : List ℕ) (from : ℕ) where
+  pub guards_begin : (cells : List ℕ) → GuardsStored nexts from 0 from cells cells
   guards_begin cells =
       record {
         bound = omega arith;
@@ -132,32 +132,30 @@ module _ (nexts : List ℕ) (count from : ℕ) where
   end_by [] n at i now then ts e h g k = (omega arith, g)
   end_by (u ∷ us) n at i now then ts e h g k = absurd (omega arith)
 
-  module _ (i at : ℕ) (now then : List ℕ) (s : GuardsStored nexts count from i at now then) (l : i < count) where
-    pub guards_turn : GuardsStored nexts count from (i + 1) (get_or nexts at 0) (set now i (at + 1)) then
+  module _ (i at : ℕ) (now then : List ℕ) (s : GuardsStored nexts from i at now then) (l : i < length then) where
+    pub guards_turn : GuardsStored nexts from (i + 1) (get_or nexts at 0) (set now i (at + 1)) then
     guards_turn =
-        let e : count - i - 1 ≡ count - (i + 1) = omega arith in
+        let e : length then - i - 1 ≡ length then - (i + 1) = omega arith in
         record {
           bound = omega arith;
           same = length-set now i (at + 1) ∙ s.same;
           left = λ ts rest n h.
               let g = s.left ts rest n h in
               subst (λ n. GuardsLeft nexts n from (get_or nexts at 0) (i + 1) (set now i (at + 1)) then ts rest) e
-              (turn_by g.transitions (count - i) at i now then ts rest g.number (omega arith) g.entries g.same g.after);
+              (turn_by g.transitions (length then - i) at i now then ts rest g.number (omega arith) g.entries g.same g.after);
         }
 
-    pub guards_stop : length nexts ≤ at → (ts : List Transition) (rest : List ℕ) → length ts ≡ count → Entries nexts ts from rest → ⊥
+    pub guards_stop : length nexts ≤ at → (ts : List Transition) (rest : List ℕ) → length ts ≡ length then → Entries nexts ts from rest → ⊥
     guards_stop h ts rest n e =
         let g = s.left ts rest n e in
-        stop_by g.transitions (count - i) at rest g.number (omega arith) g.entries h
+        stop_by g.transitions (length then - i) at rest g.number (omega arith) g.entries h
 
-  pub guards_end : (i at : ℕ) (now old : List ℕ) → GuardsStored nexts count from i at now (take count old) → count ≤ i → count ≤ length old
+  pub guards_end : {count : ℕ} (i at : ℕ) (now old : List ℕ) → count ≤ length old → GuardsStored nexts from i at now (take count old) → length (take count old) ≤ i
       → (ts : List Transition) (rest : List ℕ) → length ts ≡ count → Entries nexts ts from rest
       → (at ≡ from + size_of_transitions ts) × (now ++ drop count old ≡ over (guard_places ts from) old)
-  guards_end i at now old s h b ts rest n e =
-      let g = s.left ts rest n e in
-      let r = end_by g.transitions (count - i) at i now (take count old) ts g.number (omega arith) g.same g.after in
-      let m : length (guard_places ts from) ≡ count = guards_length ts from ∙ n in (
-        r.0,
-        ap (λ cells. cells ++ drop count old) (r.1 ∙ sets_over (guard_places ts from) (take count old) (omega (arith, m, length-take-le count old b)))
-            ∙ part_over (guard_places ts from) old count m b,
-      )
+  guards_end {count} i at now old within s h ts rest n e =
+      let many = length-take-le count old within in
+      let g = s.left ts rest (n ∙ sym many) e in
+      let r = end_by g.transitions (length (take count old) - i) at i now (take count old) ts g.number (omega arith) g.same g.after in
+      let long : length (guard_places ts from) ≡ count = guards_length ts from ∙ n in
+      (r.0, cells_over old (r.1 ∙ sets_all (guard_places ts from) (take count old) (long ∙ sym many)) long)

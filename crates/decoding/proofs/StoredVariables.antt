@@ -9,8 +9,8 @@ use native.Mathlib.Omega.{arith}
 use Rattle.std.proofs.lemmas.Bool.{true≢false}
 use lib.Dec.{eqb}
 use lib.IntN.{ℤ, pos}
-use lib.ListN.{length, get_or, set, take, drop, length-set, length-map, drop_of_length-le}
-use lib.Seq.{sets, sets-eq, length-take-le}
+use lib.ListN.{length, get_or, set, drop, length-set, length-map, drop_of_length-le}
+use lib.Seq.{sets, sets-eq}
 use Rattle.kinds.specs.declared.Sort.TheVariants.{Boolean, Number}
 use Rattle.results.specs.Results.{over}
 use Rattle.syntax.specs.Readings.{variable_refusal, end_refusal}
@@ -103,13 +103,17 @@ module _ (ks : List ℕ) (ps : List ℤ) where
 
 -- ---- stores
 
-pub sets_over : {A : Type 0} (new old : List A) → length new ≤ length old → sets old 0 new ≡ over new old
-sets_over new old h = sets-eq new old 0 (omega arith) ∙ ap (λ n. new ++ drop n old) (zero-add (length new))
+-- as many as there are cells
+pub sets_all : {A : Type 0} (new old : List A) → length new ≡ length old → sets old 0 new ≡ new
+sets_all new old e =
+    sets-eq new old 0 (omega (arith, e))
+    ∙ ap (λ n. new ++ drop n old) (zero-add (length new))
+    ∙ ap (λ l. new ++ l) (drop_of_length-le old {i = length new} (omega (arith, e)))
+    ∙ append-nil new
 
--- what stands over the first cells, which were lent alone, stands over all of them
-pub part_over : {A : Type 0} (new old : List A) (n : ℕ) → length new ≡ n → n ≤ length old → over new (take n old) ++ drop n old ≡ over new old
-part_over new old n e h =
-    rw (drop_of_length-le (take n old) {i = length new} (omega (arith, length-take-le n old h, e)), append-nil new) (ap (λ m. new ++ drop m old) (sym e))
+-- what fills the first cells, which were lent alone, stands over all of them
+pub cells_over : {A : Type 0} {part new : List A} (old : List A) {n : ℕ} → part ≡ new → length new ≡ n → part ++ drop n old ≡ over new old
+cells_over {new = new} old {n = n} e h = ap (λ part. part ++ drop n old) e ∙ ap (λ n. new ++ drop n old) (sym h)
 
 record VariablesLeft {A : Type 0} (f : Variable → A) (ks : List ℕ) (ps : List ℤ) (n at i : ℕ) (now then : List A) (vs : List Variable) (next : ℕ) : Type 0 where
   rest : List Variable
@@ -117,15 +121,15 @@ record VariablesLeft {A : Type 0} (f : Variable → A) (ks : List ℕ) (ps : Lis
   same : sets now i (map f rest) ≡ sets then 0 (map f vs)
 
 -- what f tells of each variable before number i is stored
-pub record VariablesStored {A : Type 0} (f : Variable → A) (ks : List ℕ) (ps : List ℤ) (count i at : ℕ) (now then : List A) : Type 0 where
-  pub bound : i ≤ count
+pub record VariablesStored {A : Type 0} (f : Variable → A) (ks : List ℕ) (ps : List ℤ) (i at : ℕ) (now then : List A) : Type 0 where
+  pub bound : i ≤ length then
   pub long : length now ≡ length then
-  left : (r : VariablesRead ks ps count) → VariablesLeft f ks ps (count - i) at i now then r.variables r.next
+  left : (r : VariablesRead ks ps (length then)) → VariablesLeft f ks ps (length then - i) at i now then r.variables r.next
 
-module _ {A : Type 0} (f : Variable → A) (ks : List ℕ) (ps : List ℤ) (count : ℕ) where
-  pub variables_begin : (cells : List A) → VariablesStored f ks ps count 0 0 cells cells
+module _ {A : Type 0} (f : Variable → A) (ks : List ℕ) (ps : List ℤ) where
+  pub variables_begin : (cells : List A) → VariablesStored f ks ps 0 0 cells cells
   variables_begin cells =
-      let e : count ≡ count - 0 = omega arith in
+      let e : length cells ≡ length cells - 0 = omega arith in
       record {
         bound = omega arith;
         long = refl;
@@ -149,78 +153,68 @@ module _ {A : Type 0} (f : Variable → A) (ks : List ℕ) (ps : List ℤ) (coun
             ∙ l.same;
       }
 
-  module _ (i at : ℕ) (now then : List A) (s : VariablesStored f ks ps count i at now then) (l : i < count) where
-    more : count - i ≡ suc (count - (i + 1))
+  module _ (i at : ℕ) (now then : List A) (s : VariablesStored f ks ps i at now then) (l : i < length then) where
+    more : length then - i ≡ suc (length then - (i + 1))
     more = omega arith
 
-    left_now : (r : VariablesRead ks ps count) → VariablesLeft f ks ps (suc (count - (i + 1))) at i now then r.variables r.next
+    left_now : (r : VariablesRead ks ps (length then)) → VariablesLeft f ks ps (suc (length then - (i + 1))) at i now then r.variables r.next
     left_now r = subst (λ n. VariablesLeft f ks ps n at i now then r.variables r.next) more (s.left r)
 
-    first_left : (r : VariablesRead ks ps count) → RowStep (variable_at ks ps) (count - (i + 1)) at (left_now r).rest r.next
-    first_left r = row_step (variable_at ks ps) (count - (i + 1)) at (left_now r).rest r.next (left_now r).row
+    first_left : (r : VariablesRead ks ps (length then)) → RowStep (variable_at ks ps) (length then - (i + 1)) at (left_now r).rest r.next
+    first_left r = row_step (variable_at ks ps) (length then - (i + 1)) at (left_now r).rest r.next (left_now r).row
 
-    first_read : (r : VariablesRead ks ps count) → VariableRead ks ps at (first_left r).first (first_left r).second
+    first_read : (r : VariablesRead ks ps (length then)) → VariableRead ks ps at (first_left r).first (first_left r).second
     first_read r = holds_found (VariableRead ks ps at) (variable_found ks ps at) (first_left r).read
 
     -- the node, or the three nodes, are there
-    node_within : VariablesRead ks ps count → at < length ks
-    node_within r = (first_read r).within
+    pub node_left : VariablesRead ks ps (length then) → at < length ks
+    node_left r = (first_read r).within
 
-    nodes_within : VariablesRead ks ps count → eqb (get_or ks at 0) 1 ≡ false → at + 2 < length ks
-    nodes_within r k = ((first_read r).number k).0
+    pub nodes_left : VariablesRead ks ps (length then) → {b : Bool} → b ≡ eqb (get_or ks at 0) 1 → b ≡ false → at + 2 < length ks
+    nodes_left r e n = ((first_read r).number (sym e ∙ n)).0
 
-    turn : (v : Variable) (second : ℕ) → ((r : VariablesRead ks ps count) → variable_at ks ps at ≡ found v second)
-        → VariablesStored f ks ps count (i + 1) second (set now i (f v)) then
+    turn : (v : Variable) (second : ℕ) → ((r : VariablesRead ks ps (length then)) → variable_at ks ps at ≡ found v second)
+        → VariablesStored f ks ps (i + 1) second (set now i (f v)) then
     turn v second h =
         record {
           bound = omega arith;
           long = length-set now i (f v) ∙ s.long;
-          left = λ r. left_turn (count - (i + 1)) at i now then r.variables r.next v second (h r) (left_now r);
+          left = λ r. left_turn (length then - (i + 1)) at i now then r.variables r.next v second (h r) (left_now r);
         }
 
-    pub boolean_turn : eqb (get_or ks at 0) 1 ≡ true → VariablesStored f ks ps count (i + 1) (at + 1) (set now i (f (boolean_at ks ps at))) then
+    pub boolean_turn : eqb (get_or ks at 0) 1 ≡ true → VariablesStored f ks ps (i + 1) (at + 1) (set now i (f (boolean_at ks ps at))) then
     boolean_turn k = turn (boolean_at ks ps at) (at + 1) (λ r. (first_left r).read ∙ (first_read r).boolean k)
 
-    pub number_turn : eqb (get_or ks at 0) 1 ≡ false → VariablesStored f ks ps count (i + 1) (at + 3) (set now i (f (number_at ks ps at))) then
+    pub number_turn : eqb (get_or ks at 0) 1 ≡ false → VariablesStored f ks ps (i + 1) (at + 3) (set now i (f (number_at ks ps at))) then
     number_turn k = turn (number_at ks ps at) (at + 3) (λ r. (first_left r).read ∙ ((first_read r).number k).1)
-
-  -- the node, or the three nodes, by the test of a loop over the first cells
-  module _ (i at : ℕ) (now old : List A) (s : VariablesStored f ks ps count i at now (take count old)) (l : i < length (take count old)) (h : count ≤ length old) where
-    pub node_left : VariablesRead ks ps count → at < length ks
-    node_left = node_within i at now (take count old) s (rw (length-take-le count old h) at l)
-
-    pub nodes_left : VariablesRead ks ps count → {b : Bool} → b ≡ eqb (get_or ks at 0) 1 → b ≡ false → at + 2 < length ks
-    nodes_left r e n = nodes_within i at now (take count old) s (rw (length-take-le count old h) at l) r (sym e ∙ n)
 
   -- the same, by other names
   pub stored_same : {i at at' : ℕ} {now now' then : List A} → now' ≡ now → at' ≡ at
-      → VariablesStored f ks ps count i at now then → VariablesStored f ks ps count i at' now' then
+      → VariablesStored f ks ps i at now then → VariablesStored f ks ps i at' now' then
   stored_same a b s = rw (a, b) s
 
-  -- what the loop over the first cells has stored at its end
-  pub variables_end : (i at : ℕ) (now old : List A) → VariablesStored f ks ps count i at now (take count old) → count ≤ i → count ≤ length old
-      → (r : VariablesRead ks ps count) → (at ≡ r.next) × (now ++ drop count old ≡ over (map f r.variables) old)
+  -- what the loop has stored at its end
+  pub variables_end : (i at : ℕ) (now old : List A) → VariablesStored f ks ps i at now old → length old ≤ i
+      → (r : VariablesRead ks ps (length old)) → (at ≡ r.next) × (now ≡ map f r.variables)
   unfolding row_at
-  variables_end i at now old s h a r =
+  variables_end i at now old s h r =
       let l = s.left r in
-      let none : count - i ≡ 0 = omega arith in
+      let none : length old - i ≡ 0 = omega arith in
       let e : found [] at ≡ found l.rest r.next = subst (λ n. row_at (variable_at ks ps) n at ≡ found l.rest r.next) none l.row in
       let p : [] ≡ l.rest = cc in
       let q : at ≡ r.next = cc in
-      let n : length (map f r.variables) ≡ count = length-map r.variables f ∙ row_length (variable_at ks ps) count 0 r.variables r.next r.row in (
+      let n : length (map f r.variables) ≡ length old = length-map r.variables f ∙ row_length (variable_at ks ps) (length old) 0 r.variables r.next r.row in (
         q,
-        ap (λ cells. cells ++ drop count old)
-            (ap (λ vs. sets now i (map f vs)) p ∙ l.same ∙ sets_over (map f r.variables) (take count old) (omega (arith, n, length-take-le count old a)))
-            ∙ part_over (map f r.variables) old count n a,
+        ap (λ vs. sets now i (map f vs)) p ∙ l.same ∙ sets_all (map f r.variables) old n,
       )
 
 -- ---- a turn that stores a row, by what was read of it
 
-module _ (ks : List ℕ) (ps : List ℤ) (count i at : ℕ) (now then : List VariableRow) (s : VariablesStored variable_row ks ps count i at now then) (l : i < count) where
+module _ (ks : List ℕ) (ps : List ℤ) (i at : ℕ) (now then : List VariableRow) (s : VariablesStored variable_row ks ps i at now then) (l : i < length then) where
   pub boolean_row : (first : ℤ) → first ≡ get_or ps at (pos 0) → eqb (get_or ks at 0) 1 ≡ true
-      → VariablesStored variable_row ks ps count (i + 1) (at + 1) (set now i (record { low = pos 0; high = pos 1; first = first })) then
-  boolean_row first e k = rw e (boolean_turn variable_row ks ps count i at now then s l k)
+      → VariablesStored variable_row ks ps (i + 1) (at + 1) (set now i (record { low = pos 0; high = pos 1; first = first })) then
+  boolean_row first e k = rw e (boolean_turn variable_row ks ps i at now then s l k)
 
   pub number_row : (low high first : ℤ) → low ≡ get_or ps at (pos 0) → high ≡ get_or ps (at + 1) (pos 0) → first ≡ get_or ps (at + 2) (pos 0)
-      → eqb (get_or ks at 0) 1 ≡ false → VariablesStored variable_row ks ps count (i + 1) (at + 3) (set now i (record { low = low; high = high; first = first })) then
-  number_row low high first a b c k = rw (a, b, c) (number_turn variable_row ks ps count i at now then s l k)
+      → eqb (get_or ks at 0) 1 ≡ false → VariablesStored variable_row ks ps (i + 1) (at + 3) (set now i (record { low = low; high = high; first = first })) then
+  number_row low high first a b c k = rw (a, b, c) (number_turn variable_row ks ps i at now then s l k)

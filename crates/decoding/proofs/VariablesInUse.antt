@@ -1,11 +1,11 @@
 -- What `sorts_of` and `variables_of` answer and leave: the model's refusal, or something of each of its variables.
 use mathlib.Core.Path.{◌≡◌, refl, sym, ap, ◌∙◌}
-use mathlib.Core.List.{List}
+use mathlib.Core.List.{List, ◌++◌}
 use Prim.Native.Nat.{ℕ, ◌+◌, ◌≤◌}
 use mir.Syntax.{w8}
 use mir.Val.{Fits}
 use lib.IntN.{ℤ}
-use lib.ListN.{length, get_or, take, length-map}
+use lib.ListN.{length, get_or, take, drop, length-map}
 use Rattle.std.specs.Prelude.{Result, Ok, Err}
 use Rattle.results.specs.declared.refusal.Refusal.{Refusal}
 use Rattle.kinds.specs.declared.Sort.{Sort}
@@ -21,6 +21,7 @@ use Rattle.decoding.specs.Decoding.{VariablesRead, variables_after, sorts_after,
 use Rattle.decoding.proofs.Accepted.{accepted_file}
 use Rattle.decoding.proofs.InUse.{sizes_fit, take_over}
 use Rattle.decoding.proofs.Preparing.{answer_refused, answer_accepted, variables_read}
+use Rattle.decoding.proofs.StoredVariables.{cells_over}
 
 -- the first cells are of an accepted model's variables
 pub record VariablesInUse {A : Type 0} (f : List Variable → List A) (m : List ℕ) (s : Sizes) (left : List A) : Type 0 where
@@ -94,11 +95,15 @@ abbrev pub SortsInUse : List ℕ → Sizes → List Sort → Type 0
 SortsInUse = VariablesInUse sorts_of
 
 -- by the kinds alone
-pub sorts_read : (m : List ℕ) (old : List Sort) (s : Sizes) (ks : List ℕ) (new : List Sort) → answer_of (verdict m) ≡ Ok s → ks ≡ kinds_in byte_layout s.nodes m
-    → ((ps : List ℤ) (r : VariablesRead ks ps (s.states + s.flows)) → new ≡ over (sorts_of r.variables) old)
-    → answered (Ok s) new ≡ sorts_after (verdict m) old
-sorts_read m old s ks new e k f =
-    stored sorts_of m old new s e (λ t v. f _ (variables_read m s ks (parameters_in byte_layout s.nodes m) k refl t v))
+pub sorts_read : (m : List ℕ) (old : List Sort) (s : Sizes) (ks : List ℕ) (new : List Sort) (count many : ℕ) → answer_of (verdict m) ≡ Ok s
+    → ks ≡ kinds_in byte_layout s.nodes m → count ≡ s.states + s.flows → many ≡ count
+    → ((ps : List ℤ) (r : VariablesRead ks ps many) → new ≡ sorts_of r.variables)
+    → answered (Ok s) (new ++ drop count old) ≡ sorts_after (verdict m) old
+sorts_read m old s ks new count many e k n l f =
+    stored sorts_of m old (new ++ drop count old) s e
+    (λ t v.
+    cells_over old (f _ (variables_read m s ks (parameters_in byte_layout s.nodes m) k refl (l ∙ n) t v))
+    (length-map (variables t) (λ v. v.sort) ∙ (accepted_file m s t v).system.number ∙ sym n))
 
 pub sorts_in_use : (m : List ℕ) → ((i : ℕ) → Fits w8 (get_or m i 0)) → (old left : List Sort) (s : Sizes) (r : Result Sizes Refusal)
     → answered r left ≡ sorts_after (verdict m) old → r ≡ Ok s → SortsInUse m s left

@@ -2,12 +2,12 @@
 
 #![tactic(auto)]
 
-ghost use Rattle.std.specs.Prelude.{◌≡◌, List, ◌++◌, ℕ, ◌+◌, ◌<◌, ◌≤◌, ℤ, length, drop, IfOk, Ok, Some};
+ghost use Rattle.std.specs.Prelude.{◌≡◌, List, ◌++◌, ℕ, ◌+◌, ◌<◌, ◌≤◌, ℤ, length, drop, IfOk, Some};
 ghost use Rattle.results.specs.Results.{answered, over};
 ghost use Rattle.model.specs.Trees as trees;
 ghost use Rattle.model.specs.Trees.{Transition, System, sorts_of};
 ghost use Rattle.model.specs.Sizes.{byte_layout, max_nodes, max_variables};
-ghost use Rattle.model.specs.Check.{kinds_in, parameters_in, answer_of, verdict};
+ghost use Rattle.model.specs.Check.{kinds_in, parameters_in, verdict};
 ghost use Rattle.model.specs.Check.Verdict.{accepted};
 ghost use Rattle.model.specs.Standing.{size_of_transitions};
 ghost use Rattle.variables.specs.Rows.{variable_rows};
@@ -15,12 +15,16 @@ ghost use Rattle.decoding.specs.NextPlaces.{children_by, following, filled};
 ghost use Rattle.decoding.specs.Decoding.{Enough, LentOf, VariablesRead, arrays_in, assertion_place, decoded_over, guard_places, nexts_of_transitions, prepared_by, rows_after, sorts_after, transitions_place};
 ghost use Rattle.decoding.specs.Outside.{given_after};
 
+use file::AcceptedFile;
 use kinds::Kind;
 use model::{Model, Sizes, Sort, check, header};
 use results::Refusal;
+use syntax::whole::WholeTree;
 use syntax::{Tree, nodes};
 use tables::Tables;
 use variables::VariableRow;
+
+pub mod file; // file.rt: a file that the check accepts
 
 // The arrays that a file is decoded to, with cells for so many nodes and variables.
 #[derive(Drop)]
@@ -31,15 +35,14 @@ pub struct Decoding<const NODES: usize, const VARIABLES: usize> {
     pub guards: [u16; Model::MAX_TRANSITIONS],
 }
 
-// The sorts of so many variables from the first node on. A Boolean is one node, a number three.
+// The sorts of the variables from the first node on, as many as there are cells. A Boolean is one node, a number three.
 // Not one walk with `read_variables`: the sorts are asked of the kinds alone.
-pub fn sorts_in(kinds: &[u8], count: usize, sorts: &mut [Sort])
-    requires { ((ps : List ℤ) × VariablesRead kinds.now ps count) × (count ≤ length sorts.old) }
-    ensures { (ps : List ℤ) (read : VariablesRead kinds.now ps count) →
-        sorts.new ≡ over (sorts_of read.variables) sorts.old }
+pub fn sorts_in(kinds: &[u8], sorts: &mut [Sort])
+    requires { (ps : List ℤ) × VariablesRead kinds.now ps (length sorts.old) }
+    ensures { (ps : List ℤ) (read : VariablesRead kinds.now ps (length sorts.old)) → sorts.new ≡ sorts_of read.variables }
 {
     let mut at = 0;
-    for sort in sorts[..count].iter_mut() {
+    for sort in sorts.iter_mut() {
         if kinds::stands_for(kinds[at], Kind::BooleanVariable) {
             *sort = Sort::Boolean;
             at += 1;
@@ -50,16 +53,16 @@ pub fn sorts_in(kinds: &[u8], count: usize, sorts: &mut [Sort])
     }
 }
 
-// So many variables from the first node on: their rows, and the place after them. The three nodes of a number are its low
-// end, its high end and its first value.
+// The variables from the first node on, as many as there are cells: their rows, and the place after them. The three nodes of
+// a number are its low end, its high end and its first value.
 #[tactic(auto, using(crate::proofs::StoredVariables::node_left, crate::proofs::StoredVariables::nodes_left))]
-fn read_variables(tree: &Tree, count: usize, variables: &mut [VariableRow]) -> usize
-    requires { (length tree.now.parameters.now ≡ length tree.now.kinds.now) × VariablesRead tree.now.kinds.now tree.now.parameters.now count × (count ≤ length variables.old) }
-    ensures { (read : VariablesRead tree.now.kinds.now tree.now.parameters.now count) →
-        (result ≡ read.next) × (variables.new ≡ over (variable_rows read.variables) variables.old) }
+fn read_variables(tree: &WholeTree, variables: &mut [VariableRow]) -> usize
+    requires { VariablesRead tree.now.kinds.now tree.now.parameters.now (length variables.old) }
+    ensures { (read : VariablesRead tree.now.kinds.now tree.now.parameters.now (length variables.old)) →
+        (result ≡ read.next) × (variables.new ≡ variable_rows read.variables) }
 {
     let mut at = 0;
-    for row in variables[..count].iter_mut() {
+    for row in variables.iter_mut() {
         let parameter = tree.parameters[at];
         if kinds::stands_for(tree.kinds[at], Kind::BooleanVariable) {
             *row = VariableRow {
@@ -92,35 +95,35 @@ fn children_of(kind: u8, parameter: i32) -> usize
     usize::from(kinds::row_of(kind).children)
 }
 
-// The place reached from place `from` by following so many entries, none of them past the last node.
-fn follow(nexts: &[u16], nodes: usize, count: usize, from: usize) -> usize
-    requires { (nodes ≤ length nexts.now) × (from < 65536) }
-    ensures { (result ≡ following nexts.now nodes count from) × (result < 65536) }
+// The place reached from place `from` by following so many entries, none of them past the last.
+fn follow(nexts: &[u16], count: usize, from: usize) -> usize
+    requires { from < 65536 }
+    ensures { (result ≡ following nexts.now (length nexts.now) count from) × (result < 65536) }
 {
     let mut here = from;
     for _ in 0..count {
-        if nodes <= here {
+        let Some(next) = nexts.get(here) else {
             return here;
-        }
-        here = usize::from(nexts[here]);
+        };
+        here = usize::from(*next);
     }
     here
 }
 
 // The place after each node with its children, from the last node to the first.
-fn next_places(tree: &Tree, nexts: &mut [u16])
-    requires { (length tree.now.kinds.now < 65536) × (length tree.now.kinds.now ≤ length nexts.old) × (length tree.now.parameters.now ≡ length tree.now.kinds.now) }
+fn next_places(tree: &WholeTree, nexts: &mut [u16])
+    requires { (length tree.now.kinds.now < 65536) × (length nexts.old ≡ length tree.now.kinds.now) }
     ensures { nexts.new ≡ filled tree.now.kinds.now tree.now.parameters.now (length tree.now.kinds.now) nexts.old }
 {
-    let nodes = tree.kinds.len();
-    for at in (0..nodes).rev() {
+    for at in (0..nexts.len()).rev() {
         let children = children_of(tree.kinds[at], tree.parameters[at]);
-        let after = follow(nexts, nodes, children, at + 1);
+        let after = follow(nexts, children, at + 1);
         nexts[at] = after as u16;
     }
 }
 
-// The places of the guards of so many transitions from place `from` on, and the place after them.
+// The places of the guards of so many transitions from place `from` on, and the place after them. With a count, and not in cells that
+// the caller cuts: of a part of a field's array that is lent last a proof knows nothing afterwards.
 fn guard_places(nexts: &[u16], count: usize, from: usize, guards: &mut [u16]) -> usize
     requires { (count ≤ length guards.old) × (length nexts.now < 65536) }
     ensures { (ts : List Transition) (rest : List ℕ) → length ts ≡ count → drop from nexts.now ≡ nexts_of_transitions ts from ++ rest →
@@ -128,35 +131,35 @@ fn guard_places(nexts: &[u16], count: usize, from: usize, guards: &mut [u16]) ->
 {
     let mut at = from;
     for guard in guards[..count].iter_mut() {
-        if nexts.len() <= at {
+        let Some(next) = nexts.get(at) else {
             return at;
-        }
+        };
         *guard = (at + 1) as u16;
-        at = usize::from(nexts[at]);
+        at = usize::from(*next);
     }
     at
 }
 
 // The parameters and the variables of an accepted file; the place of its first transition.
 fn decode_variables(
-    model: &[u8],
-    sizes: Sizes,
+    file: &AcceptedFile<'_>,
     parameters: &mut [i32],
     variables: &mut [VariableRow],
 ) -> usize
-    requires { (answer_of (verdict model.now) ≡ Ok sizes) × (sizes.nodes ≤ length parameters.old) × (sizes.states + sizes.flows ≤ length variables.old) }
-    ensures { (t : System) → verdict model.now ≡ accepted sizes t →
+    requires { (file.now.sizes.nodes ≤ length parameters.old) × (file.now.sizes.states + file.now.sizes.flows ≤ length variables.old) }
+    ensures { (t : System) → verdict file.now.bytes.now ≡ accepted file.now.sizes t →
         (result ≡ transitions_place t)
-        × (parameters.new ≡ over (parameters_in byte_layout sizes.nodes model.now) parameters.old)
+        × (parameters.new ≡ over (parameters_in byte_layout file.now.sizes.nodes file.now.bytes.now) parameters.old)
         × (variables.new ≡ over (variable_rows (trees.variables t)) variables.old) }
 {
+    let sizes = file.sizes;
     let nodes = sizes.nodes;
-    header::parameters_in(model, Model::HEADER + nodes, nodes, parameters);
-    let tree = Tree {
-        kinds: kinds_of(model, nodes),
+    header::parameters_in(file.bytes, Model::HEADER + nodes, &mut parameters[..nodes]);
+    let tree = WholeTree {
+        kinds: kinds_of(file.bytes, nodes),
         parameters: &parameters[..nodes],
     };
-    read_variables(&tree, sizes.variables(), variables)
+    read_variables(&tree, &mut variables[..sizes.variables()])
 }
 
 impl<const NODES: usize, const VARIABLES: usize> Decoding<NODES, VARIABLES> {
@@ -169,26 +172,23 @@ impl<const NODES: usize, const VARIABLES: usize> Decoding<NODES, VARIABLES> {
     };
 
     // The decoding of an accepted file, into cells that are enough for it.
-    pub fn decode(&mut self, model: &[u8], sizes: Sizes) -> Model
-        requires { (answer_of (verdict model.now) ≡ Ok sizes) × Enough sizes NODES VARIABLES }
-        ensures sizes { result.sizes ≡ sizes }
-        ensures decoded { (t : System) → verdict model.now ≡ accepted sizes t →
+    pub fn decode(&mut self, file: &AcceptedFile<'_>) -> Model
+        requires { Enough file.now.sizes NODES VARIABLES }
+        ensures sizes { result.sizes ≡ file.now.sizes }
+        ensures decoded { (t : System) → verdict file.now.bytes.now ≡ accepted file.now.sizes t →
             (result.assertion ≡ assertion_place t)
-            × (arrays_in self.new ≡ decoded_over model.now sizes t (arrays_in self.old)) }
+            × (arrays_in self.new ≡ decoded_over file.now.bytes.now file.now.sizes t (arrays_in self.old)) }
     {
+        let sizes = file.sizes;
         let nodes = sizes.nodes;
-        let transitions = decode_variables(model, sizes, &mut self.parameters, &mut self.variables);
-        let tree = Tree {
-            kinds: kinds_of(model, nodes),
+        let transitions = decode_variables(file, &mut self.parameters, &mut self.variables);
+        let tree = WholeTree {
+            kinds: kinds_of(file.bytes, nodes),
             parameters: &self.parameters[..nodes],
         };
-        next_places(&tree, &mut self.nexts);
-        let assertion = guard_places(
-            &self.nexts,
-            sizes.transitions,
-            transitions,
-            &mut self.guards,
-        );
+        let nexts = &mut self.nexts[..];
+        next_places(&tree, &mut nexts[..nodes]);
+        let assertion = guard_places(nexts, sizes.transitions, transitions, &mut self.guards);
         Model { sizes, assertion }
     }
 
@@ -212,18 +212,23 @@ impl<const NODES: usize, const VARIABLES: usize> Decoding<NODES, VARIABLES> {
 
 impl Decoding<{ Model::MAX_NODES }, { Model::MAX_VARIABLES }> {
     // Checks a model file and decodes it: the parameters, the rows of the variables, the place after each node with its children,
-    // the places of the guards (each action stands right after its guard) and of the assertion.
+    // the places of the guards (each action stands right after its guard) and of the assertion. Not one call with `tables`: what that
+    // lends would have to be told of while it is lent.
     pub fn prepare(&mut self, model: &[u8]) -> Result<Model, Refusal>
         ensures decoded { answered result (arrays_in self.new) ≡ prepared_by model.now (arrays_in self.old) (verdict model.now) }
         ensures sizes { IfOk result (λ ready. Enough ready.sizes max_nodes max_variables) }
     {
         let sizes = check::check(model)?;
-        Ok(self.decode(model, sizes))
+        let file = AcceptedFile {
+            bytes: model,
+            sizes,
+        };
+        Ok(self.decode(&file))
     }
 }
 
 // The kinds of a file with so many nodes.
-pub fn kinds_of(model: &[u8], nodes: usize) -> &[u8]
+fn kinds_of(model: &[u8], nodes: usize) -> &[u8]
     ensures { result.now ≡ kinds_in byte_layout nodes model.now }
 {
     let rest = model.get(Model::HEADER..).unwrap_or(&[]);
@@ -236,7 +241,7 @@ pub fn sorts_of(model: &[u8], sorts: &mut [Sort; Model::MAX_VARIABLES]) -> Resul
 {
     let sizes = check::check(model)?;
     let kinds = kinds_of(model, sizes.nodes);
-    sorts_in(kinds, sizes.variables(), sorts);
+    sorts_in(kinds, &mut sorts[..sizes.variables()]);
     Ok(sizes)
 }
 
@@ -248,8 +253,12 @@ pub fn variables_of(
     ensures { answered result variables.new ≡ rows_after (verdict model.now) variables.old }
 {
     let sizes = check::check(model)?;
+    let file = AcceptedFile {
+        bytes: model,
+        sizes,
+    };
     let mut parameters = [0i32; Model::MAX_NODES];
-    decode_variables(model, sizes, &mut parameters, variables);
+    decode_variables(&file, &mut parameters, variables);
     Ok(sizes)
 }
 

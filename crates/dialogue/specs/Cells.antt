@@ -44,6 +44,10 @@ into out r = answered (placed r.answer out) r.left
 abbrev pub store_of : Dialogue → Store
 store_of s = store (run s.values s.marks s.history s.n) s.buffer
 
+-- the line to be printed, told by its length, in the array for the lines
+abbrev pub line_of : Dialogue → Answered ℕ (List ℕ)
+line_of s = answered s.written s.out
+
 -- the cells that the run of its model takes
 abbrev pub used : Dialogue → Store
 used s = in_use s.dimensions (store_of s)

@@ -13,10 +13,10 @@ ghost use Rattle.replies.specs.Printing.{is_short, reply_into};
 ghost use Rattle.replies.specs.Replies.{reply, opening, is_started};
 ghost use Rattle.dialogue.specs.Sizes.{file_bytes, line_bytes};
 ghost use Rattle.dialogue.specs.Turns.{progress, turns, closing, to_line_feed, first_line};
-ghost use Rattle.dialogue.specs.Cells.{kept_of, dimensions_of, in_use, past_use, into, store_of, model_of, used, KeepsRest};
-ghost use Rattle.dialogue.specs.Program.{empty};
+ghost use Rattle.dialogue.specs.Cells.{kept_of, dimensions_of, in_use, past_use, into, store_of, line_of, model_of, used, KeepsRest};
+ghost use Rattle.dialogue.specs.Program.{empty, text_in};
 
-use super::{Dialogue, Dimensions, Line, Opening, Program, Taken, line_feed};
+use super::{Dialogue, Dimensions, Line, Program, line_feed};
 use commands::Command;
 use model::Model;
 
@@ -35,8 +35,7 @@ fn dimensions_of(model: &[u8], bytes: usize) -> Dimensions
     match run::check(model) {
         Err(_) => Dimensions {
             bytes,
-            variables: 0,
-            transitions: 0,
+            ..Dimensions::default()
         },
         Ok(sizes) => Dimensions {
             bytes,
@@ -114,40 +113,38 @@ fn respond_first(
 }
 
 impl Dialogue {
-    // Before the start: 0 in every cell.
+    // Before the start: 0 in every cell. Written out: of a derived `Default` it would be known of each cell alone that it is its type's.
     pub fn empty() -> Dialogue
         ensures cells { store_of result ≡ empty }
         ensures file_cells { result.file ≡ replicate file_bytes 0 }
         ensures out_cells { result.out ≡ replicate line_bytes 0 }
+        ensures nothing_to_print { result.written ≡ 0 }
         ensures line { kept_of result.line ≡ [] }
     {
         Dialogue {
             line: Line::empty(),
             out: [0; Program::LINE_BYTES],
+            written: 0,
             values: [0; Model::MAX_VARIABLES],
             marks: [0; Model::MAX_TRANSITIONS],
             history: [0; Program::PLACES],
             n: 0,
             buffer: [0; Model::MAX_TRANSITIONS],
-            dimensions: Dimensions {
-                bytes: 0,
-                variables: 0,
-                transitions: 0,
-            },
+            dimensions: Dimensions::default(),
             file: [0; Program::FILE_BYTES],
         }
     }
 
-    // The start: the run of the model in the first bytes of the file.
-    pub fn open(&mut self, bytes: usize) -> Opening
+    // The start: the run of the model in the first bytes of the file. Is it started? There is a line to print in both cases.
+    pub fn open(&mut self, bytes: usize) -> bool
         ensures dimensions_value { self.new.dimensions ≡ dimensions_of bytes (verdict (take bytes self.old.file)) }
         ensures variables_le_max_variables { (self.new.dimensions.variables ≤ max_variables) × (self.new.dimensions.transitions ≤ max_transitions) }
-        ensures is_started_value { result.is_started ≡ is_started (take bytes self.old.file) (in_use self.new.dimensions (store_of self.old)) }
-        ensures buffer_after { answered (answered result.length self.new.out) (used self.new)
+        ensures is_started_value { result ≡ is_started (take bytes self.old.file) (in_use self.new.dimensions (store_of self.old)) }
+        ensures buffer_after { answered (line_of self.new) (used self.new)
             ≡ into self.old.out (opening (take bytes self.old.file) (in_use self.new.dimensions (store_of self.old))) }
         ensures buffer_unchanged { past_use self.new.dimensions (store_of self.new) ≡ past_use self.new.dimensions (store_of self.old) }
         ensures file_unchanged { (self.new.file ≡ self.old.file) × (self.new.line ≡ self.old.line) }
-        ensures length_le_line_bytes { result.length ≤ line_bytes }
+        ensures length_le_line_bytes { self.new.written ≤ line_bytes }
     {
         let model = first(&self.file, bytes);
         self.dimensions = dimensions_of(model, bytes);
@@ -161,10 +158,8 @@ impl Dialogue {
             &mut self.buffer,
             &mut self.out,
         );
-        Opening {
-            is_started: opening.is_started,
-            length: opening.written.unwrap_or(0),
-        }
+        self.written = opening.written.unwrap_or(0);
+        opening.is_started
     }
 
     // The command of the line that was begun; none, if it is none.
@@ -175,12 +170,12 @@ impl Dialogue {
     }
 
     // Carries out a command, or refuses a line that is none, and writes its line.
-    fn answer(&mut self, command: Option<Command>) -> usize
-        ensures buffer_after { answered (answered result self.new.out) (used self.new)
+    fn answer(&mut self, command: Option<Command>)
+        ensures buffer_after { answered (line_of self.new) (used self.new)
             ≡ into self.old.out (reply (model_of self.old) command (used self.old)) }
         ensures rest { KeepsRest self.old self.new }
         ensures line { self.new.line ≡ self.old.line }
-        ensures length_le_line_bytes { result ≤ line_bytes }
+        ensures length_le_line_bytes { self.new.written ≤ line_bytes }
     {
         let dimensions = self.dimensions;
         let written = respond_first(
@@ -194,53 +189,49 @@ impl Dialogue {
             &mut self.buffer,
             &mut self.out,
         );
-        written.unwrap_or(0)
+        self.written = written.unwrap_or(0);
     }
 
     // Takes the bytes of a part of the input from this place on to the first line feed, which ends a line that is then answered;
-    // to the part's end, if there is none.
-    pub fn take_line(&mut self, part: &[u8], from: usize) -> Taken
-        ensures next_value { result.next ≡ from + to_line_feed (drop from part.now) }
-        ensures buffer_after { answered (answered result.length self.new.out) (progress (kept_of self.new.line) (used self.new))
+    // to the part's end, if there is none. The place after the bytes taken.
+    pub fn take_line(&mut self, part: &[u8], from: usize) -> usize
+        ensures next_value { result ≡ from + to_line_feed (drop from part.now) }
+        ensures buffer_after { answered (line_of self.new) (progress (kept_of self.new.line) (used self.new))
             ≡ into self.old.out (turns (model_of self.old) (first_line (drop from part.now)) (progress (kept_of self.old.line) (used self.old))) }
         ensures rest { KeepsRest self.old self.new }
-        ensures length_le_line_bytes { result.length ≤ line_bytes }
+        ensures length_le_line_bytes { self.new.written ≤ line_bytes }
     {
         let rest = part.get(from..).unwrap_or(b"");
         let Some(at) = line_feed(rest) else {
             self.line.keep(rest);
-            return Taken {
-                next: from + rest.len(),
-                length: 0,
-            };
+            self.written = 0;
+            return from + rest.len();
         };
         self.line.keep(&rest[..at]);
-        let length = self.answer(self.command());
+        self.answer(self.command());
         self.line = Line::empty();
-        Taken {
-            next: from + at + 1,
-            length,
-        }
+        from + at + 1
     }
 
-    // The end of the input: a last line without its line feed is answered too. How many bytes are to be printed.
-    pub fn close(&mut self) -> usize
-        ensures buffer_after { answered (answered result self.new.out) (used self.new)
+    // The end of the input: a last line without its line feed is answered too.
+    pub fn close(&mut self)
+        ensures buffer_after { answered (line_of self.new) (used self.new)
             ≡ into self.old.out (closing (model_of self.old) (progress (kept_of self.old.line) (used self.old))) }
         ensures rest { KeepsRest self.old self.new }
         ensures line_unchanged { self.new.line ≡ self.old.line }
-        ensures length_le_line_bytes { result ≤ line_bytes }
+        ensures length_le_line_bytes { self.new.written ≤ line_bytes }
     {
         if self.line.bytes.is_empty() {
-            return 0;
+            self.written = 0;
+            return;
         }
-        self.answer(self.command())
+        self.answer(self.command());
     }
 
-    // The line at the beginning of the array for the lines.
-    pub fn printed(&self, length: usize) -> &[u8]
-        ensures { result.now ≡ take length self.now.out }
+    // What is to be printed: the line that the last call left at the beginning of the array for the lines, or nothing.
+    pub fn printed(&self) -> &[u8]
+        ensures { result.now ≡ text_in (line_of self.now) }
     {
-        first(&self.out, length)
+        first(&self.out, self.written)
     }
 }

@@ -14,7 +14,7 @@ use arrayvec::ArrayVec;
 use exchange::first;
 use model::Model;
 
-// The program's sizes.
+// The program's sizes. No value is made of it: its name stands before the constants.
 #[derive(Clone, Copy)]
 pub struct Program {}
 
@@ -38,20 +38,21 @@ pub struct Line {
     pub bytes: ArrayVec<u8, { Program::KEPT_BYTES }>,
 }
 
-// How many bytes of the file, values and marks are in use.
-#[derive(Clone, Copy)]
+// How many bytes of the file, values and marks are in use; none by default.
+#[derive(Clone, Copy, Default)]
 pub struct Dimensions {
     pub bytes: usize,
     pub variables: usize,
     pub transitions: usize,
 }
 
-// All that the program keeps: the line that was begun, the array for the lines, the arrays that the run is lent, what of them and of
-// the model's file is in use, and the file.
+// All that the program keeps: the line that was begun, the array for the lines and how many of its bytes are to be printed, the arrays
+// that the run is lent, what of them and of the model's file is in use, and the file.
 #[derive(Drop)]
 pub struct Dialogue {
     pub line: Line,
     pub out: [u8; Program::LINE_BYTES],
+    pub written: usize,
     pub values: [i32; Model::MAX_VARIABLES],
     pub marks: [u8; Model::MAX_TRANSITIONS],
     pub history: [u8; Program::PLACES],
@@ -59,20 +60,6 @@ pub struct Dialogue {
     pub buffer: [u8; Model::MAX_TRANSITIONS],
     pub dimensions: Dimensions,
     pub file: [u8; Program::FILE_BYTES],
-}
-
-// The start: is the run started, and how many bytes are to be printed, which are some in both cases.
-#[derive(Clone, Copy, PartialEq, Eq, Debug)]
-pub struct Opening {
-    pub is_started: bool,
-    pub length: usize,
-}
-
-// A line taken from a part of the input: the place after the bytes taken, and how many bytes are to be printed.
-#[derive(Clone, Copy, PartialEq, Eq, Debug)]
-pub struct Taken {
-    pub next: usize,
-    pub length: usize,
 }
 
 // The place of the first line feed.
@@ -83,7 +70,7 @@ fn line_feed(part: &[u8]) -> Option<usize>
 }
 
 impl Line {
-    // No byte yet.
+    // No byte yet: what a derived `Default` would tell of the one field, in the words of the promises.
     pub fn empty() -> Line
         ensures { kept_of result ≡ [] }
     {

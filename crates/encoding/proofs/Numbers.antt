@@ -5,11 +5,11 @@ use Prim.Native.Nat.{ℕ, zero, suc, ◌/◌, ◌%◌, ◌^◌, ◌≤◌}
 use native.Mathlib.Omega.{arith}
 use lib.IntN.{ℤ, pos, negsuc}
 use lib.ListN.{take}
-use mir.Syntax.{w32}
+use mir.Syntax.{w32, w64}
 use mir.Val.{of_z}
-use Rattle.std.specs.Int.{byte_at, bytes_low_first}
+use Rattle.std.specs.Int.{byte_at, bytes_low_first, to_le_bytes}
 use Rattle.std.proofs.Math.Nat.{pow-suc, div-div-eq-div-mul}
-use Rattle.model.specs.Nodes.{little_bytes, twos_complement}
+use Rattle.model.specs.Nodes.{little_bytes, twos_complement, parameter_bytes}
 
 byte : (i n m : ℕ) → m ≡ n / 256 ^ i → byte_at i n ≡ m % 256
 byte zero n m e = let whole : n / 1 ≡ n = omega arith in ap (λ k. k % 256) (sym (e ∙ whole))
@@ -31,13 +31,15 @@ front i (suc k) (suc j) n h = ap (λ l. byte_at i n ∷ l) (front (suc i) k j n 
 whole : (n : ℕ) → n ≡ n / 256 ^ 0
 whole n = let e : n / 1 ≡ n = omega arith in sym e
 
-pub low_bytes : (k j n : ℕ) → k ≤ j → take k (bytes_low_first 0 j n) ≡ little_bytes k n
-low_bytes k j n h = front 0 k j n h ∙ low 0 k n n (whole n)
+-- of the eight bytes of a number the first
+pub low_bytes : (k n : ℕ) → k ≤ 8 → take k (to_le_bytes w64 n) ≡ little_bytes k n
+low_bytes k n h = front 0 k 8 n h ∙ low 0 k n n (whole n)
 
-pub all_bytes : (k n : ℕ) → bytes_low_first 0 k n ≡ little_bytes k n
-all_bytes k n = low 0 k n n (whole n)
-
-pub complement : (p : ℤ) → of_z w32 p ≡ twos_complement p
+complement : (p : ℤ) → of_z w32 p ≡ twos_complement p
 unfolding twos_complement
 complement (pos n) = refl
 complement (negsuc n) = refl
+
+-- a parameter has the bytes of its two's complement
+pub signed_bytes : (p : ℤ) → to_le_bytes w32 (of_z w32 p) ≡ parameter_bytes p
+signed_bytes p = let n = of_z w32 p in low 0 4 n n (whole n) ∙ ap (little_bytes 4) (complement p)

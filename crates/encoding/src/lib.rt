@@ -12,6 +12,7 @@ use syntax::Tree;
 use tapes::Tape;
 
 // Writes a number in so many bytes, low byte first.
+#[tactic(auto, using(crate::proofs::Numbers::low_bytes))]
 fn put_number(tape: &mut Tape<'_, u8>, number: usize, width: usize)
     requires { width ≤ 8 }
     ensures put { tape_in tape.new ≡ put_all (little_bytes width number) (tape_in tape.old) }
@@ -21,11 +22,12 @@ fn put_number(tape: &mut Tape<'_, u8>, number: usize, width: usize)
 }
 
 // Writes a parameter in four bytes.
+#[tactic(auto, using(crate::proofs::Numbers::signed_bytes))]
 fn put_parameter(tape: &mut Tape<'_, u8>, parameter: i32)
     ensures put { tape_in tape.new ≡ put_all (parameter_bytes parameter) (tape_in tape.old) }
     ensures same_cells { tape.new.cells.ghost_name ≡ tape.old.cells.ghost_name }
 {
-    tape.put(&parameter.cast_unsigned().to_le_bytes());
+    tape.put(&parameter.to_le_bytes());
 }
 
 // Writes the five numbers of the header, the kinds and the parameters.
@@ -49,7 +51,7 @@ fn put_file(tape: &mut Tape<'_, u8>, sizes: Sizes, tree: &Tree<'_>)
 pub fn write_file(sizes: Sizes, tree: &Tree<'_>, out: &mut [u8]) -> usize
     ensures { tape out.new result ≡ put_all (file_bytes sizes tree.now.kinds.now tree.now.parameters.now) (tape out.old 0) }
 {
-    let mut file = Tape { cells: out, at: 0 };
+    let mut file = Tape::new(out);
     put_file(&mut file, sizes, tree);
     file.at
 }

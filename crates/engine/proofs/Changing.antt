@@ -27,7 +27,7 @@ use Rattle.semantics.specs.Firing.{left_by_settling, left_by_acting, left_by_gua
 use Rattle.semantics.proofs.Knowing.{element_below}
 use Rattle.propagation.specs.Cells.{states_by_acting, ActionStands}
 use Rattle.propagation.proofs.Valuations.{known_values}
-use Rattle.results.specs.Results.{answered, over}
+use Rattle.results.specs.Results.{answered}
 use Rattle.engine.specs.Cells.{Loaded, AllHeld, admission, LeftByChanging}
 use Rattle.engine.proofs.Loading.{loaded_well_formed, loaded_states, loaded_places, loaded_guards, loaded_guard, loaded_action, loaded_scoped}
 use Rattle.engine.proofs.Counts.{rows_count}
@@ -54,10 +54,6 @@ clear_by m old ss new (faulty g) e =
     let z : true ≡ false = cc in absurd (true≢false z)
 clear_by m old ss new (states n) e = rw (ap (λ l. l.left) e)
 
-pub no_fault : (r : Result (Unit {0}) Fault) → ((f : Fault) → r ≡ Err f → ⊥) → r ≡ Ok tt
-no_fault (Ok tt) n = refl
-no_fault (Err f) n = absurd (n f refl)
-
 action_of : (s : System) (k : ℕ) (t : Transition) → get_elem? s.transitions k ≡ some t → (values : List ℤ)
     → act s t.action values ≡ (meaning_of s).action k values
 unfolding meaning_of action_in
@@ -68,6 +64,12 @@ module _ {model : Model} {kinds : List ℕ} {parameters : List ℤ} {rows : List
   no_states : (l : List ℤ) → l ≡ replicate (length rows) (pos 0) → l ≡ replicate (length (meaning_of d.decoded.system).declarations) (pos 0)
   unfolding meaning_of
   no_states l e = e ∙ ap (λ n. replicate n (pos 0)) (all_rows d)
+
+  length_blank : length blank ≡ length rows
+  length_blank = ap length zeros ∙ length-replicate (length rows) (pos 0)
+
+  pub few_states : model.sizes.states ≤ length blank
+  few_states = omega (arith, length_blank, all_rows d, length_all d)
 
   pub over_by_room : length old < model.sizes.states + model.sizes.flows → LeftByChanging (meaning_of d.decoded.system) k old blank (Err Disabled)
   unfolding LeftByChanging fired
@@ -119,16 +121,10 @@ module _ {model : Model} {kinds : List ℕ} {parameters : List ℤ} {rows : List
       pub length_states : model.sizes.states ≡ length (take model.sizes.states old)
       length_states = simp length-take (omega (arith, states_within))
 
-      length_blank : length blank ≡ length rows
-      length_blank = ap length zeros ∙ length-replicate (length rows) (pos 0)
-
-      pub few_states : length (take model.sizes.states old) ≤ length blank
-      few_states = omega (arith, length_states, length_blank, length_rows)
-
       -- the old states are stored, and the place of the action is looked up
-      module _ (array : List ℤ) (stored : array ≡ over (take model.sizes.states old) blank) (at : ℕ) (noted : at ≡ get_or nexts (get_or guards k 0) 0) where
+      module _ (array : List ℤ) (stored : array ≡ take model.sizes.states old ++ drop model.sizes.states blank) (at : ℕ) (noted : at ≡ get_or nexts (get_or guards k 0) 0) where
         length_array : length array ≡ length blank
-        length_array = ap length stored ∙ simp (length-append, length-drop) (omega (arith, few_states))
+        length_array = ap length stored ∙ simp (length-append, length-drop) (omega (arith, few_states, length_states))
 
         pub old_states : take model.sizes.states array ≡ take model.sizes.states old
         old_states = ap (take model.sizes.states) stored ∙ take_at (take model.sizes.states old) _ model.sizes.states (sym length_states)

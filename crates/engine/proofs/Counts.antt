@@ -36,6 +36,3 @@ module _ {model : Model} {kinds : List ℕ} {parameters : List ℤ} {rows : List
         (loaded_well_formed d).states,
         (loaded_well_formed d).flows,
       )
-
-  pub few_guards : length guards ≤ 255
-  few_guards = omega (arith, loaded_guards d, (loaded_well_formed d).transitions)

@@ -3,13 +3,13 @@ use Rattle.std.specs.Prelude.{Err, Result, Ok, Option}
 use Rattle.std.specs.Result.{is_ok, MatchResult}
 use Rattle.std.proofs.lemmas.Result.{MatchResult-at_ok}
 use mathlib.Core.Bool.{true, false, true≢false}
-use mathlib.Core.Path.{◌≡◌, refl, sym, ap, subst, ◌∙◌}
-use mathlib.Core.List.{List}
+use mathlib.Core.Path.{◌≡◌, refl, sym, ap, ap₂, subst, ◌∙◌}
+use mathlib.Core.List.{List, ◌++◌}
 use Prim.Native.Nat.{ℕ, ◌+◌, ◌-◌, ◌≤◌, ◌<◌}
 use native.Mathlib.Omega.{arith}
 use borrow.Author.Tests.{lt-ltb, le-ltb, eq-eqb, ne_eqb}
 use lib.IntN.{ℤ, pos}
-use lib.ListN.{length, take, replicate, length-take, length-replicate}
+use lib.ListN.{length, take, drop, replicate, length-take, length-replicate}
 use Rattle.model.specs.declared.Model.{Model}
 use Rattle.model.specs.Trees.{variables}
 use Rattle.semantics.specs.declared.NotFired.{NotFired}
@@ -20,7 +20,7 @@ use Rattle.semantics.specs.Meanings.{meaning_of}
 use Rattle.semantics.specs.Firing.{Firing, left_by_settling, fired, begun}
 use Rattle.scratch.specs.Blank.{unknown_cell, BlankFiring}
 use Rattle.propagation.specs.Cells.{PropagationStands, flows_by_settling}
-use Rattle.results.specs.Results.{answered, over}
+use Rattle.results.specs.Results.{answered}
 use Rattle.engine.specs.Cells.{Loaded, LeftByChanging}
 use Rattle.engine.proofs.Loading.{loaded_states, loaded_flows, assertion_stands}
 use Rattle.engine.proofs.Guards.{length_all, all_rows}
@@ -110,9 +110,11 @@ module _ {model : Model} {kinds : List ℕ} {parameters : List ℤ} {rows : List
               → answered (Err (AssertionFault f)) (with_flows model.sizes.states n old flows) ≡ begun (meaning_of d.decoded.system) ss old
           begin_refused f k = begin_entered _ _ (enter_refused _ _ ss old long rows_all begin_stands within r flows left f k)
 
-          pub begin_settled : (count : ℕ) → r ≡ Ok count → (new : List ℤ) → new ≡ over ss (with_flows model.sizes.states n old flows)
-              → answered (Ok count) new ≡ begun (meaning_of d.decoded.system) ss old
-          begin_settled count k new h = begin_entered _ _ (enter_settled _ _ ss old long rows_all begin_stands within r flows left count k new h)
+          pub begin_settled : (count : ℕ) → r ≡ Ok count → (first : List ℤ) → first ≡ ss
+              → answered (Ok count) (first ++ drop model.sizes.states (with_flows model.sizes.states n old flows)) ≡ begun (meaning_of d.decoded.system) ss old
+          begin_settled count k first h =
+              begin_entered _ _ (enter_settled _ _ ss old long rows_all begin_stands within r flows left count k _
+              (ap₂ (λ l n'. l ++ drop n' (with_flows model.sizes.states n old flows)) h (sym long)))
 
     -- the states are the first of those worked in
     pub begun_first : (cells : List ℤ) → ss ≡ take (model.sizes.states - 0) cells

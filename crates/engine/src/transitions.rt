@@ -65,9 +65,9 @@ fn change_states(
     ensures same { SameWork work.old work.new }
 {
     let tables = &decoded.tables;
-    let s = tables.model.sizes.states;
-    let n = tables.model.sizes.variables();
-    if values.len() < n {
+    let state_count = tables.model.sizes.states;
+    let variable_count = tables.model.sizes.variables();
+    if values.len() < variable_count {
         return Err(NotFired::Disabled);
     }
     let states = &mut *work.states;
@@ -75,10 +75,15 @@ fn change_states(
     let gathering = &mut *work.gathering;
     let evaluation = guard(decoded, cells, transition);
     admit(evaluation)?;
-    propagation::store(&values[..s], states);
-    let place = usize::from(tables.guards[transition]);
-    let action = usize::from(tables.nexts[place]);
-    if let Err(fault) = propagation::act(tables, cells, gathering, action, &mut states[..s]) {
+    states[..state_count].copy_from_slice(&values[..state_count]);
+    let action = tables.action_at(transition);
+    if let Err(fault) = propagation::act(
+        tables,
+        cells,
+        gathering,
+        action,
+        &mut states[..state_count],
+    ) {
         states.fill(0);
         return Err(NotFired::ActionFault(fault));
     }
@@ -93,15 +98,15 @@ pub fn begin(loaded: &LoadedModel<'_>, work: &mut Work<'_, '_>, values: &mut [i3
     ensures states { work.new.states.now ≡ work.old.states.now }
     ensures same { SameWork work.old work.new }
 {
-    let s = loaded.decoded.tables.model.sizes.states;
-    let n = loaded.decoded.tables.model.sizes.variables();
-    if values.len() < n {
+    let state_count = loaded.decoded.tables.model.sizes.states;
+    let variable_count = loaded.decoded.tables.model.sizes.variables();
+    if values.len() < variable_count {
         return Err(NotFired::Disabled);
     }
     let states = &mut *work.states;
     let cells = &mut *work.cells;
     let gathering = &mut *work.gathering;
-    let Some(states) = states.get(..s) else {
+    let Some(states) = states.get(..state_count) else {
         return Err(NotFired::Disabled);
     };
     let indexed = IndexedTables {
@@ -113,9 +118,10 @@ pub fn begin(loaded: &LoadedModel<'_>, work: &mut Work<'_, '_>, values: &mut [i3
         states,
         cells,
         gathering,
-        &mut values[s..n],
-    ).map_err(NotFired::AssertionFault)?;
-    propagation::store(states, values);
+        &mut values[state_count..variable_count],
+    )
+    .map_err(NotFired::AssertionFault)?;
+    values[..state_count].copy_from_slice(states);
     Ok(count)
 }
 
@@ -133,7 +139,7 @@ pub fn fire(
 {
     hold(values, work.cells);
     let changed = change_states(&loaded.decoded, work, values, transition);
-    scratch::forget(work.cells);
+    work.cells.fill(None);
     changed?;
     let firing = begin(loaded, work, values);
     work.states.fill(0);

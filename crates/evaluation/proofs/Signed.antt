@@ -1,17 +1,20 @@
 -- Signed numbers as the machine has them. `SFits w z` says that z is a signed number of width w: `mag z` is below half the
--- width's power. The sum, difference, product, quotient and remainder of two 32-bit numbers fit 64 bits.
+-- width's power.
 use mathlib.Core.Path.{◌≡◌, refl, sym, ap, ◌∙◌}
 use mathlib.Core.Bool.{Bool, true, false, true≢false}
-use Prim.Native.Nat.{ℕ, zero, suc, ◌/◌, ◌≤◌, ◌<◌, ◌^◌}
-use native.Mathlib.Nat.{div-le_self}
+use Prim.Native.Nat.{ℕ, zero, suc, ◌<◌, ◌^◌}
 use native.Mathlib.Omega.{arith}
 use borrow.Author.Tests.{eq-eqb, ne_eqb, le-leb, lt-leb}
 use lib.Dec.{eqb}
-use lib.IntN.{ℤ, pos, negsuc, neg_ℤ, nat_abs}
-use lib.Signed.{mag, mag_rem, nat_abs-le, quot_z, rem_z}
-use mir.Syntax.{Width, w32, w64}
+use lib.IntN.{ℤ, pos, negsuc}
+use lib.Signed.{mag, mag_rem, quot_z, rem_z}
+use mir.Syntax.{Width, w32}
 use mir.Val.{to_z, of_z, SFits}
 use mir.ValLaws.{to_z-of_z}
+use Rattle.std.specs.Prelude.{Option, Some, None, MatchOption}
+use Rattle.std.specs.Option.{SomeIff}
+use Rattle.std.specs.Int.{CanDivide}
+use Rattle.evaluation.specs.declared.Evaluation.{Evaluation}
 use Rattle.evaluation.specs.declared.Evaluation.TheVariants.{Failed, Value}
 use Rattle.evaluation.specs.Numbers.{checked, eq_z}
 use Rattle.evaluation.specs.Meaning.{divided}
@@ -32,10 +35,6 @@ read_one g {x} f = ap g (to_z-of_z w32 x f)
 
 pub read_both : {A : Type 0} (g : ℤ → ℤ → A) {x y : ℤ} → SFits w32 x → SFits w32 y → g (stored x) (stored y) ≡ g x y
 read_both g {x} {y} f h = rw (to_z-of_z w32 x f, to_z-of_z w32 y h)
-
--- what a test told
-pub read_test : (g : ℤ → Bool) {x : ℤ} {r t : Bool} → SFits w32 x → r ≡ g (stored x) → r ≡ t → g x ≡ t
-read_test g f e h = sym (read_one g f) ∙ sym e ∙ h
 
 -- two numbers are equal exactly if their bits are
 module _ (w : Width) {x y : ℤ} (f : SFits w x) (g : SFits w y) where
@@ -77,57 +76,17 @@ unfolding checked
 checked_fits (pos n) f = rw (le-leb n 2147483647 (omega (arith, f.sfits)))
 checked_fits (negsuc n) f = rw (le-leb n 2147483647 (omega (arith, f.sfits)))
 
--- a 64-bit number in 32 bits
-module _ {z : ℤ} (f : SFits w64 z) where
-  pub narrow_beyond : (SFits w32 (to_z w64 (of_z w64 z)) → ⊥) → Failed ≡ checked z
-  narrow_beyond e = sym (checked_beyond z (λ h. e (rw (to_z-of_z w64 z f) h)))
+-- what `held` makes of a number or nothing, as a checked operator of the library answers
+abbrev pub Held : Option ℤ → Evaluation → Type 0
+Held v r = MatchOption v (r ≡ Failed) (λ x. r ≡ Value x)
 
-  pub narrow_within : {v : ℤ} → SFits w32 (to_z w64 (of_z w64 z)) → v ≡ to_z w64 (of_z w64 z) → Value (stored v) ≡ checked z
-  narrow_within h e = rw (e, to_z-of_z w64 z f) (read_one Value (rw (to_z-of_z w64 z f) at h) ∙ sym (checked_fits z (rw (to_z-of_z w64 z f) at h)))
-
--- ---- the size of an answer by the sizes of its operands
-
-mag_neg : (n : ℕ) → mag (neg_ℤ (pos n)) ≤ n
-mag_neg zero = omega arith
-mag_neg (suc n) = omega arith
-
-mag_quotient : (x y : ℤ) → mag (quot_z x y) ≤ nat_abs x
-mag_quotient (pos a) (pos b) = div-le_self a b
-mag_quotient (pos a) (negsuc b) = omega (arith, mag_neg (a / suc b), div-le_self a (suc b))
-mag_quotient (negsuc a) (pos b) = omega (arith, mag_neg (suc a / b), div-le_self (suc a) b)
-mag_quotient (negsuc a) (negsuc b) = div-le_self (suc a) (suc b)
-
--- ---- 32 bits in 64
-
-size : {x : ℤ} → SFits w32 x → nat_abs x ≤ 2147483648
-size {x} f = nat_abs-le x f.sfits
-
--- the answer at two 32-bit numbers fits 64 bits
-abbrev pub Widens : (ℤ → ℤ → ℤ) → Type 0
-Widens op = (x y : ℤ) → SFits w32 x → SFits w32 y → SFits w64 (op x y)
-
-pub quotient_widens : Widens quot_z
-quotient_widens x y f g = record { sfits = omega (arith, mag_quotient x y, size f) }
-
-pub remainder_widens : Widens rem_z
-remainder_widens x y f g = record { sfits = omega (arith, mag_rem x y, f.sfits) }
-
--- a 32-bit number as the bits of 64 have it
-abbrev wide : ℤ → ℤ
-wide x = to_z w64 (of_z w64 (stored x))
-
-pub wide_fits : {x : ℤ} → SFits w32 x → SFits w64 (stored x)
-wide_fits {x} f = rw (to_z-of_z w32 x f) (record { sfits = omega (arith, f.sfits) })
-
-wide_same : {x : ℤ} → SFits w32 x → wide x ≡ x
-wide_same {x} f = to_z-of_z w64 (stored x) (wide_fits f) ∙ to_z-of_z w32 x f
-
-module _ {op : ℤ → ℤ → ℤ} (widens : Widens op) {x y : ℤ} (f : SFits w32 x) (g : SFits w32 y) where
-  pub answer_fits : SFits w64 (op (wide x) (wide y))
-  answer_fits = rw (wide_same f, wide_same g) (widens x y f g)
-
-  pub answer_same : to_z w64 (of_z w64 (op (wide x) (wide y))) ≡ op x y
-  answer_same = to_z-of_z w64 (op (wide x) (wide y)) answer_fits ∙ rw (wide_same f, wide_same g)
+pub held_checked : (op : ℤ → ℤ → ℤ) {x y : ℤ} → SFits w32 x → SFits w32 y → (v : Option ℤ)
+    → SomeIff v (SFits w32 (op (stored x) (stored y))) (op (stored x) (stored y)) → {r : Evaluation} → Held v r → r ≡ checked (op x y)
+held_checked op {x} {y} f g v s {r} m = by v s m ∙ read_both (λ a b. checked (op a b)) f g
+  where
+    by : (v : Option ℤ) → SomeIff v (SFits w32 (op (stored x) (stored y))) (op (stored x) (stored y)) → Held v r → r ≡ checked (op (stored x) (stored y))
+    by None n m = m ∙ sym (checked_beyond _ n)
+    by (Some z) s m = m ∙ ap Value s.1 ∙ sym (checked_fits _ s.0)
 
 -- ---- division
 
@@ -135,7 +94,25 @@ pub divided_by_zero : (op : ℤ → ℤ → ℤ) (x : ℤ) {y : ℤ} → SFits w
 unfolding divided
 divided_by_zero op x {y} g b = rw (equal_bits w32 g zero_fits b)
 
-pub divided_same : {op : ℤ → ℤ → ℤ} → Widens op → {x y : ℤ} → SFits w32 x → SFits w32 y → (of_z w32 y ≡ 0 → ⊥)
-    → checked (to_z w64 (of_z w64 (op (wide x) (wide y)))) ≡ divided op x y
+-- by another number
+divided_other : (op : ℤ → ℤ → ℤ) (x : ℤ) {y : ℤ} → SFits w32 y → (of_z w32 y ≡ 0 → ⊥) → divided op x y ≡ checked (op x y)
 unfolding divided
-divided_same widens f g n = rw (other_bits w32 g zero_fits n, answer_same widens f g)
+divided_other op x g n = rw (other_bits w32 g zero_fits n)
+
+module _ {x y : ℤ} (f : SFits w32 x) (g : SFits w32 y) where
+  pub quotient_held : (v : Option ℤ) → SomeIff v (CanDivide w32 (stored x) (stored y)) (quot_z (stored x) (stored y))
+      → {r : Evaluation} → Held v r → r ≡ divided quot_z x y
+  quotient_held v s {r} m = by v (of_z w32 y) refl (rw (to_z-of_z w32 x f, to_z-of_z w32 y g) at s) m
+    where
+      by : (v : Option ℤ) (b : ℕ) → of_z w32 y ≡ b → SomeIff v (CanDivide w32 x y) (quot_z x y) → Held v r → r ≡ divided quot_z x y
+      by None zero e n m = m ∙ divided_by_zero quot_z x g e
+      by None (suc b) e n m = m ∙ sym (divided_other quot_z x g (λ z. omega arith) ∙ checked_beyond (quot_z x y) (λ h. n (omega arith, h)))
+      by (Some q) b e s m = m ∙ ap Value s.1 ∙ sym (divided_other quot_z x g (λ z. omega (arith, s.0)) ∙ checked_fits (quot_z x y) s.0.1)
+
+  remainder_fits : SFits w32 (rem_z x y)
+  remainder_fits = record { sfits = omega (arith, mag_rem x y, f.sfits) }
+
+  pub remainder_given : (of_z w32 y ≡ 0 → ⊥) → {r : ℤ} → r ≡ rem_z (stored x) (stored y) → Value (stored r) ≡ divided rem_z x y
+  remainder_given n {r} e =
+      ap (λ z. Value (stored z)) (e ∙ read_both rem_z f g) ∙ read_one Value remainder_fits
+      ∙ sym (divided_other rem_z x g n ∙ checked_fits (rem_z x y) remainder_fits)

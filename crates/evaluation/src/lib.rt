@@ -2,7 +2,7 @@
 
 #![tactic(auto)]
 
-ghost use Rattle.std.specs.Prelude.{◌≡◌, ◌+ℤ◌, ◌-ℤ◌, ◌*ℤ◌};
+ghost use Rattle.std.specs.Prelude.{◌≡◌, MatchOption, ◌+ℤ◌, ◌-ℤ◌, ◌*ℤ◌};
 ghost use Rattle.std.specs.Int.Signed.{lt_z, le_z, quot_z, rem_z};
 ghost use Rattle.evaluation.specs.Numbers.{checked, eq_z, boolean};
 ghost use Rattle.evaluation.specs.Meaning.{divided, is_true};
@@ -17,13 +17,11 @@ pub enum Evaluation {
 
 impl Evaluation {
     // Is this the value true.
+    #[tactic(auto, unfolding(crate::specs::Meaning::is_true))]
     pub fn is_true(self) -> bool
         ensures { result ≡ is_true self }
     {
-        match self {
-            Evaluation::Value(v) => v == 1,
-            _ => false,
-        }
+        matches!(self, Evaluation::Value(1))
     }
 }
 
@@ -43,14 +41,11 @@ pub enum Operator {
     Equivalence,
 }
 
-// A number of 32 bits, or failed.
-fn narrowed(z: i64) -> Evaluation
-    ensures { result ≡ checked z }
+// What a checked operator made of two numbers, or failed.
+fn held(v: Option<i32>) -> Evaluation
+    ensures { MatchOption v (result ≡ Evaluation.Failed) (λ x. result ≡ Evaluation.Value x) }
 {
-    match i32::try_from(z) {
-        Ok(v) => Evaluation::Value(v),
-        Err(_) => Evaluation::Failed,
-    }
+    v.map_or(Evaluation::Failed, Evaluation::Value)
 }
 
 // A Boolean is 0 or 1.
@@ -62,64 +57,56 @@ fn truth(b: bool) -> Evaluation
 
 // Each operator below is a function in a line, or two: as arms of the one match that calls them they would carry no promise of their own.
 
-// Kind 38, and kind 47.
+// Of numbers, and of Booleans.
 pub fn equal(x: i32, y: i32) -> Evaluation
     ensures { result ≡ Evaluation.Value (boolean (eq_z x y)) }
 {
     truth(x == y)
 }
 
-// Kind 39.
 pub fn less(x: i32, y: i32) -> Evaluation
     ensures { result ≡ Evaluation.Value (boolean (lt_z x y)) }
 {
     truth(x < y)
 }
 
-// Kind 40.
 pub fn less_or_equal(x: i32, y: i32) -> Evaluation
     ensures { result ≡ Evaluation.Value (boolean (le_z x y)) }
 {
     truth(x <= y)
 }
 
-// Kind 41.
 pub fn sum(x: i32, y: i32) -> Evaluation
     ensures { result ≡ checked (x +ℤ y) }
 {
-    narrowed(i64::from(x) + i64::from(y))
+    held(x.checked_add(y))
 }
 
-// Kind 42.
 pub fn difference(x: i32, y: i32) -> Evaluation
     ensures { result ≡ checked (x -ℤ y) }
 {
-    narrowed(i64::from(x) - i64::from(y))
+    held(x.checked_sub(y))
 }
 
-// Kind 43.
 pub fn product(x: i32, y: i32) -> Evaluation
     ensures { result ≡ checked (x *ℤ y) }
 {
-    narrowed(i64::from(x) * i64::from(y))
+    held(x.checked_mul(y))
 }
 
-// Kind 44.
+// By 0, and of the least number by -1, it failed.
 pub fn quotient(x: i32, y: i32) -> Evaluation
     ensures { result ≡ divided quot_z x y }
 {
-    if y == 0 {
-        return Evaluation::Failed;
-    }
-    narrowed(i64::from(x) / i64::from(y))
+    held(x.checked_div(y))
 }
 
-// Kind 45.
+// By 0 it failed; of the least number by -1 it is 0, where `checked_rem` has nothing.
 pub fn remainder(x: i32, y: i32) -> Evaluation
     ensures { result ≡ divided rem_z x y }
 {
     if y == 0 {
         return Evaluation::Failed;
     }
-    narrowed(i64::from(x) % i64::from(y))
+    Evaluation::Value(x.wrapping_rem(y))
 }

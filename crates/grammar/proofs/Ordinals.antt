@@ -1,10 +1,10 @@
 -- Tokens told apart by their sort.
 use mathlib.Core.Path.{◌≡◌, refl, sym, ap, ◌∙◌}
-use mathlib.Core.Bool.{true, false}
+use mathlib.Core.Bool.{false}
 use mathlib.Core.List.{List, [], ◌∷◌}
 use Prim.Native.Nat.{ℕ, ◌<◌}
 use native.Mathlib.Omega.{arith}
-use borrow.Author.Tests.{eq-eqb, ne_eqb}
+use borrow.Author.Tests.{ne_eqb}
 use lib.Dec.{T, eqb→eq}
 use lib.ListN.{get_or}
 use Rattle.grammar.specs.declared.Token.{Token}
@@ -33,9 +33,6 @@ same_token t u h e = sym (of_sort t (omega arith)) ∙ ap (λ n. get_or sorts n 
 
 pub alike_same : (t u : Token) → 2 < ordinal u → T (alike t u) → t ≡ u
 alike_same t u h e = same_token t u h (eqb→eq (ordinal t) (ordinal u) e)
-
-pub same_alike : (t u : Token) → t ≡ u → alike t u ≡ true
-same_alike t u e = eq-eqb (ordinal t) (ordinal u) (ap ordinal e)
 
 -- another sort
 pub other_alike : (t u : Token) → 2 < ordinal u → (t ≡ u → ⊥) → alike t u ≡ false

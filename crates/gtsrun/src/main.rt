@@ -40,8 +40,8 @@ fn read_model(files: &impl Files, file: &mut [u8; Program::FILE_BYTES]) -> usize
 // would owe a contract over its calls, which is longer than the two.
 fn answer_part(rt: &impl Print, dialogue: &mut Dialogue, part: &[u8]) -> io::Result<()> {
     for piece in part.split_inclusive(|byte| *byte == b'\n') {
-        let taken = dialogue.take_line(piece, 0);
-        rt.write_all(dialogue.printed(taken.length))?;
+        dialogue.take_line(piece, 0);
+        rt.write_all(dialogue.printed())?;
     }
     Ok(())
 }
@@ -58,17 +58,17 @@ fn answer_all<R: Input + Print>(rt: &R, dialogue: &mut Dialogue) -> io::Result<(
         }
         answer_part(rt, dialogue, &part[..count])?;
     }
-    let length = dialogue.close();
-    rt.write_all(dialogue.printed(length))
+    dialogue.close();
+    rt.write_all(dialogue.printed())
 }
 
 // Reads the model, starts the run and, unless that is refused, answers the input.
 fn main(rt: HostRuntime) -> io::Result<()> {
     let mut dialogue = Dialogue::empty();
     let bytes = read_model(&rt, &mut dialogue.file);
-    let opening = dialogue.open(bytes);
-    rt.write_all(dialogue.printed(opening.length))?;
-    if opening.is_started {
+    let is_started = dialogue.open(bytes);
+    rt.write_all(dialogue.printed())?;
+    if is_started {
         answer_all(&rt, &mut dialogue)?;
     }
     Ok(())

@@ -6,7 +6,8 @@ ghost use Rattle.std.specs.Prelude.{◌≡◌, ◌<◌, ◌≤◌, ◌+◌, leng
 ghost use Rattle.waiting.specs.Index.{Linked, Owners, Indexed};
 
 use kinds::Kind;
-use syntax::{Tree, nodes};
+use syntax::nodes;
+use syntax::whole::WholeTree;
 
 // The last assignment or if-then, at this node or before.
 fn latest(kind: u8, here: usize, last: usize) -> usize
@@ -32,9 +33,8 @@ fn own(kinds: &[u8], assertion: usize, owners: &mut [u16])
 }
 
 // A node that mentions a variable becomes its first mention, before the one that was first.
-fn mention(tree: &Tree<'_>, heads: &mut [u16], mentions: &mut [u16], at: usize)
-    requires { (length mentions.old ≡ length tree.now.kinds.now) × (length tree.now.parameters.now ≡ length tree.now.kinds.now)
-        × (length tree.now.kinds.now < 65536) × (at < length tree.now.kinds.now) }
+fn mention(tree: &WholeTree<'_>, heads: &mut [u16], mentions: &mut [u16], at: usize)
+    requires { (length mentions.old ≡ length tree.now.kinds.now) × (length tree.now.kinds.now < 65536) × (at < length tree.now.kinds.now) }
     ensures { Linked tree.now.kinds.now tree.now.parameters.now (at + 1) heads.old mentions.old
         → Linked tree.now.kinds.now tree.now.parameters.now at heads.new mentions.new }
 {
@@ -42,23 +42,24 @@ fn mention(tree: &Tree<'_>, heads: &mut [u16], mentions: &mut [u16], at: usize)
         return;
     }
     let variable = nodes::magnitude(tree.parameters[at]);
-    if heads.len() <= variable {
+    let Some(head) = heads.get(variable) else {
         return;
-    }
-    mentions[at] = heads[variable];
+    };
+    mentions[at] = *head;
+    // Not through `get_mut`: of the slice that it lends from a proof knows afterwards only how long it is.
     heads[variable] = at as u16;
 }
 
 // The first mention of each variable from the assertion on, after each mention the next of the same variable, and the owners.
 pub fn index(
-    tree: &Tree<'_>,
+    tree: &WholeTree<'_>,
     assertion: usize,
     heads: &mut [u16],
     mentions: &mut [u16],
     owners: &mut [u16],
 )
     requires { (length mentions.old ≡ length tree.now.kinds.now) × (length owners.old ≡ length tree.now.kinds.now)
-        × (length tree.now.parameters.now ≡ length tree.now.kinds.now) × (length tree.now.kinds.now < 65536) × (assertion ≤ length tree.now.kinds.now) }
+        × (length tree.now.kinds.now < 65536) × (assertion ≤ length tree.now.kinds.now) }
     ensures { Indexed tree.now.kinds.now tree.now.parameters.now assertion (length heads.old) heads.new mentions.new owners.new }
 {
     let n = tree.kinds.len();

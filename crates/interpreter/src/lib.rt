@@ -19,8 +19,8 @@ pub enum Fault {
 }
 
 // What was found in going over an instruction, nothing by default; `fresh`: a variable without a value was given one. Each class of fault has
-// its flag, which is set without asking what was found before: as one Option, of which the greatest is kept, the classes would have to be
-// ordered against their numbers.
+// its flag, which is set without asking what was found before: of one Option of the lowest class each fault would be compared with the last,
+// and the definitions, which tell of each class, would stand further from the code.
 #[derive(Clone, Copy, PartialEq, Eq, Debug, Default)]
 pub struct Gathered {
     pub failed: bool,

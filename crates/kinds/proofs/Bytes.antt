@@ -4,7 +4,7 @@ use mathlib.Core.Bool.{Bool, true, false, cond, ◌&&◌, ◌||◌}
 use Prim.Native.Nat.{ℕ, ◌≤◌}
 use borrow.Author.Tests.{ne_eqb, leb-true}
 use lib.Dec.{eqb, leb}
-use Rattle.std.specs.Prelude.{◌≢◌, Result, Ok, Err}
+use Rattle.std.specs.Prelude.{◌≢◌, Result, Ok, Err, MatchResult}
 use native.Mathlib.Omega.{arith}
 use Rattle.evaluation.specs.declared.Operator.TheVariants.{Equivalence}
 use Rattle.kinds.specs.declared.Sort.TheVariants.{Boolean, Number}
@@ -46,6 +46,12 @@ module _ (byte : ℕ) (none : (k : Kind) → code_of k ≡ byte → ⊥) where
           absurd (omega arith)
       by true false e f = rw (other kind.Equivalence) refl
       by false u e f = rw (other kind.Equivalence) refl
+
+-- a rule over bytes, answered by the kind that the byte stands for, or by none
+pub by_kind : {A : Type 0} (rule : ℕ → A) (none : A) (byte : ℕ) → (((k : Kind) → code_of k ≢ byte) → rule byte ≡ none)
+    → (r : Result Kind UnknownKind) → Decodes byte r → {answer : A} → MatchResult r (λ k. answer ≡ rule (code_of k)) (λ _. answer ≡ none) → answer ≡ rule byte
+by_kind rule none byte n (Ok k) d m = m ∙ ap rule d
+by_kind rule none byte n (Err e) d m = m ∙ sym (n d.1)
 
 -- which kind a byte does not stand for, by the kind that it was decoded to
 pub other_kind : (byte : ℕ) (r : Result Kind UnknownKind) (found : Kind) → Decodes byte r → r ≡ Ok found → (k : Kind) → eqb (code_of found) (code_of k) ≡ false → eqb byte (code_of k) ≡ false

@@ -1,7 +1,7 @@
 -- The table follows 01's list: at all 256 bytes its row is the list's.
 use mathlib.Core.Path.{◌≡◌, refl, sym, ap, ◌∙◌}
 use mathlib.Core.List.{List}
-use Prim.Native.Nat.{ℕ, zero, suc, ◌+◌, ◌-◌, ◌<◌, ◌≤◌}
+use Prim.Native.Nat.{ℕ, zero, suc, ◌+◌, ◌<◌}
 use native.Mathlib.Nat.{add-zero, zero-add, le_of_suc-le-suc, not-suc-le-zero}
 use native.Mathlib.Omega.{arith}
 use lib.ListN.{get_or}
@@ -14,13 +14,6 @@ unfolding column
 from f d zero i k h = absurd (not-suc-le-zero h)
 from f d (suc n) i zero h = ap f (sym (add-zero i))
 from f d (suc n) i (suc k) h = from f d n (suc i) k (le_of_suc-le-suc h) ∙ ap f (omega arith)
-
--- two rules that agree on a column agree at each of its places
-pub same_rule : {A : Type 0} (f g : ℕ → A) (i n : ℕ) → column f i n ≡ column g i n → (k : ℕ) → i ≤ k → k < i + n → f k ≡ g k
-same_rule f g i n e k l h =
-    let q : i + (k - i) ≡ k = omega arith in
-    let b : k - i < n = omega arith in
-    ap f (sym q) ∙ sym (from f (f k) n i (k - i) b) ∙ ap (λ l. get_or l (k - i) (f k)) e ∙ from g (f k) n i (k - i) b ∙ ap g q
 
 pub row_at : (rows : List Row) (d : Row) (k : ℕ) → rows ≡ table → k < 256 → get_or rows k d ≡ row_of k
 unfolding table

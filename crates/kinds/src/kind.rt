@@ -88,7 +88,7 @@ impl TryFrom<u8> for Kind {
 }
 
 impl Kind {
-    // The byte that stands for it.
+    // The byte that stands for it. No `u8::from`: the name says which number it is.
     pub fn code(self) -> u8
         ensures { result ≡ code_of self }
     {

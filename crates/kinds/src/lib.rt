@@ -15,7 +15,7 @@ pub use kind::{Kind, UnknownKind};
 // The place where a kind may stand.
 #[derive(Clone, Copy, PartialEq, Eq, Debug)]
 pub enum Place {
-    // 01's row says of every byte where it may stand, and this is its answer for most.
+    // 01's row says of every byte where it may stand, and this is its own answer for most: an Option of a place would say no more.
     Nowhere,
     Variable,
     HighEnd,
@@ -54,23 +54,17 @@ pub fn stands_for(byte: u8, kind: Kind) -> bool
     byte == kind as u8
 }
 
-// The sort of the operands of kinds 35 to 45 and 47.
+// The sort of the operands of an operator, by the byte, as its node holds it; of another byte the answer means nothing.
 pub fn operand_sort(kind: u8) -> Sort
     ensures { result ≡ operand_sort kind }
 {
-    match Kind::try_from(kind) {
-        Ok(kind) => kind.operand_sort(),
-        Err(_) => Sort::Number,
-    }
+    Kind::try_from(kind).map_or(Sort::Number, Kind::operand_sort)
 }
 
-// The operator of kinds 36 to 45 and 47; it and the one before differ in what they call. Of another byte the answer means nothing: who
+// The operator of a kind with two operands; it and the one before differ in what they call. Of another byte the answer means nothing: who
 // asks knows the kind, and an Option would be taken apart again at every evaluation.
 pub fn operator_of(kind: u8) -> Operator
     ensures { result ≡ operator_of kind }
 {
-    match Kind::try_from(kind) {
-        Ok(kind) => kind.operator(),
-        Err(_) => Operator::Equivalence,
-    }
+    Kind::try_from(kind).map_or(Operator::Equivalence, Kind::operator)
 }

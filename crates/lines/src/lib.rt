@@ -125,7 +125,7 @@ fn write_line<T: Field>(
     if is_short::<T>(out.len(), fields.len()) {
         return None;
     }
-    let mut tape = Tape { cells: out, at: 0 };
+    let mut tape = Tape::new(out);
     tape.put(word);
     put_some(number, &mut tape);
     put_fields(fields, &mut tape);
@@ -162,6 +162,5 @@ pub fn marks_line(marks: &[u8], out: &mut [u8]) -> Option<usize>
 pub fn refusal_line(number: u8, out: &mut [u8]) -> Option<usize>
     ensures { written_into result out.new ≡ line_into (room mark_width 0) (refusal_text number) out.old }
 {
-    let no_marks: &[u8] = &[];
-    write_line(b"no", Some(usize::from(number)), no_marks, out)
+    write_line::<u8>(b"no", Some(usize::from(number)), &[], out)
 }

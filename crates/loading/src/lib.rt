@@ -13,12 +13,13 @@ ghost use Rattle.steps.specs.Answers.{seen_as, told_by, on_file};
 ghost use Rattle.moving.specs.Lent.{RoomFor};
 
 use decoding::Decoding;
+use decoding::file::AcceptedFile;
 use engine::{DecodedModel, LoadedModel};
 use model::Sizes;
 use replaying::Move;
 use results::Refusal;
 use standing::MovingRun;
-use syntax::Tree;
+use syntax::whole::WholeTree;
 use tables::Index;
 
 // Finds the index of a decoded model, and makes the move.
@@ -40,7 +41,7 @@ fn advance_decoded<const NODES: usize, const VARIABLES: usize>(
     let heads = &mut heads[..tables.variables.len()];
     let mentions = &mut mentions[..nodes];
     let owners = &mut owners[..nodes];
-    let tree = Tree {
+    let tree = WholeTree {
         kinds: tables.kinds,
         parameters: tables.parameters,
     };
@@ -56,7 +57,8 @@ fn advance_decoded<const NODES: usize, const VARIABLES: usize>(
     moving::dispatch::<NODES, VARIABLES>(&loaded, run, step)
 }
 
-// Decodes an accepted model of these sizes, and makes the move on it.
+// Decodes an accepted model of these sizes, and makes the move on it. The file is made here: of a slice in a struct that is lent it is not
+// told that each cell is a byte.
 #[tactic(auto, using(decoding::proofs::Preparing::answer_fits, decoding::proofs::InUse::decoded_used, decoding::proofs::InUse::kinds_lent, decoding::proofs::InUse::rows_lent))]
 pub fn advance_in<const NODES: usize, const VARIABLES: usize>(
     model: &[u8],
@@ -71,7 +73,11 @@ pub fn advance_in<const NODES: usize, const VARIABLES: usize>(
     ensures same { SameRun run.old run.new }
 {
     let mut arrays = Decoding::<NODES, VARIABLES>::BLANK;
-    let ready = arrays.decode(model, sizes);
+    let file = AcceptedFile {
+        bytes: model,
+        sizes,
+    };
+    let ready = arrays.decode(&file);
     let tables = arrays.tables(model, ready);
     let decoded = DecodedModel { tables };
     advance_decoded::<NODES, VARIABLES>(&decoded, run, step)

@@ -39,5 +39,5 @@ pub fn refresh(
     for (transition, mark) in marks[..tables.guards.len()].iter_mut().enumerate() {
         *mark = mark_of(transitions::guard(decoded, cells, transition));
     }
-    scratch::forget(cells);
+    cells.fill(None);
 }

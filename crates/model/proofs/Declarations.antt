@@ -1,10 +1,12 @@
--- What the functions that walk over variables answer: a law for each place where one of them returns.
+-- What the functions that walk over variables answer: a law for each, step by step as they go; for the row of them one for each
+-- place where it returns.
 use mathlib.Core.Path.{◌≡◌, refl, sym, ap, ◌∙◌}
 use mathlib.Core.List.{List, [], ◌∷◌, ◌++◌, append_assoc, append-nil}
 use Prim.Native.Nat.{ℕ, zero, suc, ◌+◌, ◌-◌, ◌≤◌, ◌<◌}
+use native.Mathlib.Nat.{add_assoc}
 use native.Mathlib.Numerals.{add-one}
 use native.Mathlib.Omega.{arith}
-use mathlib.Core.Bool.{true, false}
+use mathlib.Core.Bool.{Bool, true, false, cond}
 use lib.Dec.{eqb}
 use lib.IntN.{ℤ, pos}
 use lib.ListN.{length, take, set}
@@ -12,16 +14,16 @@ use lib.Seq.{take-suc-set, take_all}
 use Rattle.std.specs.Prelude.{Result, Ok, Err}
 use Rattle.results.specs.declared.refusal.Refusal.{Refusal}
 use Rattle.evaluation.specs.Numbers.{greatest}
-use Rattle.syntax.specs.declared.Node.{Node}
+use Rattle.syntax.specs.declared.Cursor.{Cursor}
 use Rattle.kinds.specs.declared.Sort.{Sort}
 use Rattle.kinds.specs.declared.Sort.TheVariants.{Boolean, Number}
 use Rattle.kinds.specs.declared.Place.TheVariants.{HighEnd, FirstValue}
 use Rattle.model.specs.declared.Declaration.{Declaration}
 use Rattle.model.specs.Trees.{Variable, sorts_of}
 use Rattle.model.specs.Walk.{Walk, and_then, outcome, declaration_of, range_at, variable_at, row_at}
-use Rattle.syntax.specs.Readings.{parameter_at, variable_reading, variable_refusal, end_reading, end_refusal}
+use Rattle.syntax.specs.Readings.{kind_at, parameter_at, variable_reading, variable_refusal, end_reading, end_refusal}
 use Rattle.model.specs.Walk.Walk.{refused, found}
-use Rattle.model.proofs.Walking.{Walked, Reading, split, refused_here, unless_none, Due, node_due, one_less, list_row, row_refused, row_next, row_done}
+use Rattle.model.proofs.Walking.{Walked, split, and_step, step_due, one_less, row_none, row_more}
 
 -- what a walk over a variable tells
 abbrev pub Declared : Type 0
@@ -29,51 +31,26 @@ Declared = Result Declaration Refusal
 
 module _ (ks : List ℕ) (ps : List ℤ) where
   -- the ends and the first value of a number
-  module _ (low : ℤ) (at : ℕ) {r : Reading} (e : r ≡ end_reading ks ps HighEnd low greatest at) where
-    pub high_refused : {n : Refusal} → r ≡ Err n → Err n ≡ declaration_of (range_at ks ps low at)
-    unfolding range_at declaration_of
-    high_refused h = rw (refused_here ks ps (end_refusal ks ps HighEnd low greatest at) at _ e h)
+  pub range_declared : (low : ℤ) (at : ℕ) → declaration_of (range_at ks ps low at)
+      ≡ and_step (end_reading ks ps HighEnd low greatest at) (λ high. and_step (end_reading ks ps FirstValue low high.parameter high.next.at)
+      (λ first. Ok (record { sort = Number; low = low; high = high.parameter; first = first.parameter; next = first.next })))
+  unfolding range_at declaration_of
+  range_declared low at =
+      step_due declaration_of (λ r. refl) ks ps (end_refusal ks ps HighEnd low greatest at) at _ _ (λ e.
+      step_due declaration_of (λ r. refl) ks ps (end_refusal ks ps FirstValue low (parameter_at ks ps at) (at + 1)) (at + 1) _ _ (λ f.
+      rw (add_assoc at 1 1)))
 
-    module _ {high : Node} (h : r ≡ Ok high) {r₁ : Reading} (e₁ : r₁ ≡ end_reading ks ps FirstValue low high.parameter high.next.at) where
-      due : Due ks ps (end_refusal ks ps HighEnd low greatest at) at high
-      due = node_due ks ps (end_refusal ks ps HighEnd low greatest at) at e h
-
-      first_read : r₁ ≡ end_reading ks ps FirstValue low (parameter_at ks ps at) (at + 1)
-      first_read = rw (sym due.parameter, sym due.place) at e₁
-
-      pub first_refused : {n : Refusal} → r₁ ≡ Err n → Err n ≡ declaration_of (range_at ks ps low at)
-      unfolding range_at declaration_of
-      first_refused h₁ =
-          rw (unless_none _ due.allowed, refused_here ks ps (end_refusal ks ps FirstValue low (parameter_at ks ps at) (at + 1)) (at + 1) _ first_read h₁)
-
-      pub range_walked : {first : Node} → r₁ ≡ Ok first
-          → Ok (record { sort = Number; low = low; high = high.parameter; first = first.parameter; next = first.next }) ≡ declaration_of (range_at ks ps low at)
-      unfolding range_at declaration_of
-      range_walked {first} h₁ =
-          let d : Due ks ps (end_refusal ks ps FirstValue low (parameter_at ks ps at) (at + 1)) (at + 1) first = node_due ks ps (end_refusal ks ps FirstValue low (parameter_at ks ps at) (at + 1)) (at + 1) first_read h₁ in
-          let q : at + 2 ≡ first.next.at = omega (arith, d.place) in
-          rw (unless_none _ due.allowed, unless_none _ d.allowed, due.parameter, d.parameter, q)
-
-  -- a variable
-  module _ (at : ℕ) {r : Reading} (e : r ≡ variable_reading ks ps at) where
-    pub variable_refused : {n : Refusal} → r ≡ Err n → Err n ≡ declaration_of (variable_at ks ps at)
-    unfolding variable_at declaration_of
-    variable_refused h = rw (refused_here ks ps (variable_refusal ks ps at) at _ e h)
-
-    module _ {node : Node} (h : r ≡ Ok node) where
-      variable_due : Due ks ps (variable_refusal ks ps at) at node
-      variable_due = node_due ks ps (variable_refusal ks ps at) at e h
-
-      pub boolean_walked : eqb node.kind 1 ≡ true
-          → Ok (record { sort = Boolean; low = pos 0; high = pos 1; first = node.parameter; next = node.next }) ≡ declaration_of (variable_at ks ps at)
-      unfolding variable_at declaration_of
-      boolean_walked z =
-          rw (unless_none _ variable_due.allowed, variable_due.kind, variable_due.parameter, variable_due.place, z)
-
-      pub number_walked : eqb node.kind 1 ≡ false → {x : Declared} → x ≡ declaration_of (range_at ks ps node.parameter node.next.at) → x ≡ declaration_of (variable_at ks ps at)
-      unfolding variable_at
-      number_walked z i =
-          rw (unless_none _ variable_due.allowed, variable_due.kind, variable_due.parameter, variable_due.place, z) i
+  pub variable_declared : (at : ℕ) → declaration_of (variable_at ks ps at)
+      ≡ and_step (variable_reading ks ps at) (λ node. cond (eqb node.kind 1)
+      (Ok (record { sort = Boolean; low = pos 0; high = pos 1; first = node.parameter; next = node.next }))
+      (declaration_of (range_at ks ps node.parameter node.next.at)))
+  unfolding variable_at declaration_of
+  variable_declared at = step_due declaration_of (λ r. refl) ks ps (variable_refusal ks ps at) at _ _ (λ e. by (eqb (kind_at ks ps at) 1) _ _ _)
+    where
+      by : (t : Bool) (v : Variable) (n : ℕ) (w : Walk Variable) → declaration_of (cond t (found v n) w)
+          ≡ cond t (Ok (record { sort = v.sort; low = v.low; high = v.high; first = v.first; next = record { at = n } })) (declaration_of w)
+      by true v n w = refl
+      by false v n w = refl
 
 -- ---- the variables in a row
 
@@ -90,6 +67,20 @@ module _ {r : Declared} {d : Declaration} (h : r ≡ Ok d) where
   declared_found (found v next) e =
       let q : record { sort = v.sort; low = v.low; high = v.high; first = v.first; next = record { at = next } } ≡ d = cc in
       ap (λ (x : Declaration). found (record { sort = x.sort; low = x.low; high = x.high; first = x.first }) x.next.at) q
+
+-- `x` is the outcome of the whole row, of which n are left, from place `at` on
+module _ {A : Type 0} (item : ℕ → Walk A) where
+  row_refused : (n at : ℕ) {x : Walked} {m : Refusal} → 0 < n → x ≡ outcome (row_at item n at) → outcome (item at) ≡ Err m → Err m ≡ x
+  row_refused zero at l i e = absurd (omega arith)
+  row_refused (suc n) at l i e = rw (i, row_more item (suc n) at l, e)
+
+  row_next : (n at : ℕ) {x : Walked} {c : Cursor} → 0 < n → x ≡ outcome (row_at item n at) → outcome (item at) ≡ Ok c → x ≡ outcome (row_at item (n - 1) c.at)
+  row_next zero at l i e = absurd (omega arith)
+  row_next (suc n) at l i e = i ∙ rw (row_more item (suc n) at l, e)
+
+  row_done : (n at : ℕ) {x : Walked} → n ≤ 0 → x ≡ outcome (row_at item n at) → Ok (record { at = at }) ≡ x
+  row_done zero at l i = sym (i ∙ row_none item 0 at refl)
+  row_done (suc n) at l i = absurd (omega arith)
 
 -- a row that was read, without its first
 rest_of : {A : Type 0} (item : ℕ → Walk A) (n at : ℕ) {place next : ℕ} {a : A} {list : List A} → 0 < n → item at ≡ found a place
@@ -133,7 +124,7 @@ module _ (item : ℕ → Walk Variable) where
     module _ (l : 0 < n) {r : Declared} (e : r ≡ declaration_of (item at)) where
       pub stored_refused : {m : Refusal} (sorts : List Sort) → r ≡ Err m → Post row (Err m) sorts
       stored_refused sorts h =
-          let q : Err _ ≡ outcome row = row_refused (list_row item) n at l S.outcomes (declared_refused (item at) e h) refl in
+          let q : Err _ ≡ outcome row = row_refused item n at l S.outcomes (sym (declared_refused (item at) e h)) in
           (q, λ vs next f. absurd (refused_nothing row q f))
 
       pub stored_next : {d : Declaration} (m : ℕ) → m ≡ n - 1 → r ≡ Ok d → i < length sorts
@@ -143,7 +134,7 @@ module _ (item : ℕ → Walk Variable) where
           let v : Variable = record { sort = d.sort; low = d.low; high = d.high; first = d.first } in
           let f : item at ≡ found v d.next.at = declared_found h (item at) e in
           rw k (record {
-            outcomes = row_next (list_row item) n at l S.outcomes refl (ap outcome f);
+            outcomes = row_next item n at l S.outcomes (ap outcome f);
             stored = λ vs next q.
                 let s = S.stored vs next q in
                 let t = rest_of item n at l f s.1 in
@@ -152,7 +143,7 @@ module _ (item : ℕ → Walk Variable) where
 
     pub stored_whole : length sorts ≤ i → n ≤ 0 → Post row (Ok (record { at = at })) sorts
     stored_whole k l = (
-      row_done (list_row item) n at l S.outcomes,
+      row_done item n at l S.outcomes,
       λ vs next q.
           let s = S.stored vs next q in
           sym (append-nil sorts)

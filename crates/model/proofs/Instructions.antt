@@ -1,87 +1,57 @@
--- What the functions that walk over an instruction answer: a law for each place where one of them returns.
-use mathlib.Core.Path.{◌≡◌, refl, sym, ◌∙◌}
-use mathlib.Core.Bool.{true, false, cond}
+-- What the functions that walk over an instruction answer: a law for each, step by step as they go.
+use mathlib.Core.Path.{◌≡◌, refl}
+use mathlib.Core.Bool.{Bool, true, false, cond}
 use mathlib.Core.List.{List}
-use Prim.Native.Nat.{ℕ, zero, suc, ◌+◌, ◌-◌, ◌<◌}
+use Prim.Native.Nat.{ℕ, zero, suc, ◌-◌, ◌<◌}
 use native.Mathlib.Omega.{arith}
+use borrow.Author.Tests.{ne_eqb}
 use lib.Dec.{eqb}
 use lib.IntN.{ℤ, nat_abs}
-use Rattle.std.specs.Prelude.{Option, Ok, Err, slice_get}
-use Rattle.results.specs.declared.refusal.Refusal.{Refusal}
-use Rattle.syntax.specs.declared.Cursor.{Cursor}
-use Rattle.syntax.specs.declared.Node.{Node}
-use Rattle.kinds.specs.declared.Row.{Row}
+use Rattle.std.specs.Prelude.{Option, Ok, slice_get}
 use Rattle.kinds.specs.declared.Sort.{Sort}
-use Rattle.kinds.specs.Kinds.{boolean_sort, children_of, row_of}
-use Rattle.model.specs.Trees.{Expression, Instruction}
+use Rattle.kinds.specs.declared.Place.TheVariants.{Instruction as InstructionPlace}
+use Rattle.kinds.specs.Kinds.{boolean_sort, children_of}
+use Rattle.model.specs.Trees.{Expression, Instruction, Instructions}
 use Rattle.model.specs.Trees.Instruction.{block}
-use Rattle.model.specs.Walk.{Walk, Scope, and_then, unless_refused, outcome, expression_at, branches_at, parts_at, instruction_at}
-use Rattle.syntax.specs.Readings.{kind_at, parameter_at, instruction_refusal, instruction_reading}
+use Rattle.model.specs.Walk.{Walk, Scope, and_then, outcome, expression_at, branches_at, parts_at, instruction_at}
+use Rattle.syntax.specs.Readings.{kind_at, stands_at, instruction_fits, instruction_refusal, instruction_reading}
 use Rattle.model.specs.Walk.Walk.{found}
-use Rattle.model.proofs.Walking.{Walked, Reading, then_refused, then_next, then_found, refused_here, unless_none, Due, node_due, one_less, children_of_lem}
+use Rattle.model.proofs.Walking.{and_step, outcome_next, outcome_last, outcome_due, no_depth, one_less, not_zero}
 
-module _ (ks : List ℕ) (ps : List ℤ) (s : Scope) (at : ℕ) where
-  abbrev offence : ℕ → Option Refusal
-  offence left = instruction_refusal ks ps s.from s.past left at
+module _ (ks : List ℕ) (ps : List ℤ) where
+  pub instruction_outcome : (s : Scope) (left at : ℕ) → outcome (instruction_at ks ps s left at)
+      ≡ and_step (instruction_reading ks ps s.from s.past left at) (λ node. cond (eqb node.kind 19)
+      (outcome (branches_at ks ps (instruction_at ks ps s (left - 1)) (nat_abs node.parameter) node.next.at))
+      (outcome (parts_at ks ps (expression_at ks ps s.sorts (left - 1)) (instruction_at ks ps s (left - 1))
+      (slice_get s.sorts (nat_abs node.parameter)) node.parameter node.next.at (children_of node.kind))))
+  unfolding instruction_at instruction_refusal
+  instruction_outcome s zero at =
+      outcome_due ks ps (instruction_refusal ks ps s.from s.past 0 at) at _ _ (λ e. absurd (no_depth ks ps (stands_at InstructionPlace) (instruction_fits s.from s.past) at e))
+  instruction_outcome s (suc left) at =
+      rw (one_less left) (outcome_due ks ps (instruction_refusal ks ps s.from s.past (suc left) at) at _ _ (λ e. by (eqb (kind_at ks ps at) 19) _ _))
+    where
+      by : (t : Bool) (w : Walk Instructions) (v : Walk Instruction) → outcome (cond t (and_then w (λ is next. found (block is) next)) v) ≡ cond t (outcome w) (outcome v)
+      by true w v = outcome_last w block
+      by false w v = refl
 
-  pub instruction_refused : (left : ℕ) {r : Reading} {n : Refusal} → r ≡ instruction_reading ks ps s.from s.past left at → r ≡ Err n
-      → Err n ≡ outcome (instruction_at ks ps s left at)
-  unfolding instruction_at outcome
-  instruction_refused zero e h = rw (refused_here ks ps (offence zero) at _ e h)
-  instruction_refused (suc left) e h = rw (refused_here ks ps (offence (suc left)) at _ e h)
+  -- the branches of a block
+  pub branches_none : (child : ℕ → Walk Instruction) (n at : ℕ) → n ≡ 0 → outcome (branches_at ks ps child n at) ≡ Ok (record { at = at })
+  unfolding branches_at outcome
+  branches_none child n at e = rw e
 
-  instruction_step : (left : ℕ) → 0 < left → instruction_at ks ps s left at ≡ unless_refused (offence left) (cond (eqb (kind_at ks ps at) 19)
-      (and_then (branches_at ks ps (instruction_at ks ps s (left - 1)) (nat_abs (parameter_at ks ps at)) (at + 1)) (λ is next. found (block is) next))
-      (parts_at ks ps (expression_at ks ps s.sorts (left - 1)) (instruction_at ks ps s (left - 1))
-      (slice_get s.sorts (nat_abs (parameter_at ks ps at))) (parameter_at ks ps at) (at + 1) (children_of (kind_at ks ps at))))
-  unfolding instruction_at
-  instruction_step zero l = absurd (omega arith)
-  instruction_step (suc left) l = rw (one_less left)
+  pub branches_more : (child : ℕ → Walk Instruction) (n at : ℕ) → 0 < n
+      → outcome (branches_at ks ps child n at) ≡ and_step (outcome (child at)) (λ c. outcome (branches_at ks ps child (n - 1) c.at))
+  unfolding branches_at
+  branches_more child zero at l = absurd (omega arith)
+  branches_more child (suc n) at l = rw (one_less n) (outcome_next _ _ _ (λ a m. outcome_last _ _))
 
-  module _ (left : ℕ) {r : Reading} {node : Node} (e : r ≡ instruction_reading ks ps s.from s.past left at) (h : r ≡ Ok node) (l : 0 < left)
-      {m : ℕ} (q : m ≡ nat_abs node.parameter) where
-    due : Due ks ps (offence left) at node
-    due = node_due ks ps (offence left) at e h
-
-    pub instruction_block : eqb node.kind 19 ≡ true → {x : Walked}
-        → x ≡ outcome (branches_at ks ps (instruction_at ks ps s (left - 1)) m node.next.at) → x ≡ outcome (instruction_at ks ps s left at)
-    instruction_block z i =
-        rw (instruction_step left l, unless_none _ due.allowed, due.kind, due.parameter, due.place, z, sym q) (i ∙ then_found _ _)
-
-    pub instruction_parts : eqb node.kind 19 ≡ false → {sort : Option Sort} → sort ≡ slice_get s.sorts m → {x : Walked}
-        → ((p : ℤ) → x ≡ outcome (parts_at ks ps (expression_at ks ps s.sorts (left - 1)) (instruction_at ks ps s (left - 1)) sort p node.next.at (children_of node.kind)))
-        → x ≡ outcome (instruction_at ks ps s left at)
-    instruction_parts z g i =
-        rw (instruction_step left l, unless_none _ due.allowed, due.kind, due.parameter, due.place, z, sym q, sym g) (i node.parameter)
-
--- what follows a node other than a block
-module _ (ks : List ℕ) (ps : List ℤ) (expression : Option Sort → ℕ → Walk Expression) (child : ℕ → Walk Instruction) (sort : Option Sort) (k : ℕ) (p : ℤ) (at : ℕ) {row : Row} (b : row ≡ row_of k) where
-  abbrev parts : ℕ → Walk Instruction
-  parts = parts_at ks ps expression child sort p at
-
-  pub no_parts : row.children ≡ 0 → Ok (record { at = at }) ≡ outcome (parts (children_of k))
+  -- what follows a node other than a block, by the number of its children
+  pub parts_outcome : (expression : Option Sort → ℕ → Walk Expression) (child : ℕ → Walk Instruction) (sort : Option Sort) (p : ℤ) (at n : ℕ)
+      → outcome (parts_at ks ps expression child sort p at n)
+      ≡ cond (eqb n 0) (Ok (record { at = at })) (cond (eqb n 1) (outcome (expression sort at))
+      (and_step (outcome (expression boolean_sort at)) (λ c. outcome (child c.at))))
   unfolding parts_at outcome
-  no_parts z = rw (children_of_lem k b, z)
-
-  pub assigned : row.children ≡ 1 → {r : Walked} → r ≡ outcome (expression sort at) → r ≡ outcome (parts (children_of k))
-  unfolding parts_at
-  assigned z e = rw (children_of_lem k b, z) (e ∙ then_found _ _)
-
-  module _ (none : row.children ≡ 0 → ⊥) (one : row.children ≡ 1 → ⊥) {r : Walked} (e : r ≡ outcome (expression boolean_sort at)) where
-    pub test_refused : {n : Refusal} → r ≡ Err n → Err n ≡ outcome (parts (children_of k))
-    unfolding parts_at
-    test_refused {n = n} h = rw (children_of_lem k b) (by row.children none one)
-      where
-        by : (m : ℕ) → (m ≡ 0 → ⊥) → (m ≡ 1 → ⊥) → Err n ≡ outcome (parts m)
-        by zero none one = absurd (none refl)
-        by (suc zero) none one = absurd (one refl)
-        by (suc (suc m)) none one = then_refused _ _ e h
-
-    pub guarded : {c : Cursor} → r ≡ Ok c → {x : Walked} → x ≡ outcome (child c.at) → x ≡ outcome (parts (children_of k))
-    unfolding parts_at
-    guarded h {x} i = rw (children_of_lem k b) (by row.children none one)
-      where
-        by : (m : ℕ) → (m ≡ 0 → ⊥) → (m ≡ 1 → ⊥) → x ≡ outcome (parts m)
-        by zero none one = absurd (none refl)
-        by (suc zero) none one = absurd (one refl)
-        by (suc (suc m)) none one = then_next _ _ e h (λ c. i ∙ then_found _ _)
+  parts_outcome expression child sort p at zero = refl
+  parts_outcome expression child sort p at (suc zero) = outcome_last _ _
+  parts_outcome expression child sort p at (suc (suc n)) =
+      rw (not_zero (suc n), ne_eqb (suc (suc n)) 1 (λ e. omega arith)) (outcome_next _ _ _ (λ a m. outcome_last _ _))

@@ -29,7 +29,7 @@ use Rattle.model.specs.Standing.{NodeAt, ExpressionAt, InstructionAt, Instructio
 use Rattle.model.proofs.KindCases.{both, standing_place, ExpressionKind, expression_kind, operator_row, InstructionKind, instruction_kind}
 use Rattle.model.proofs.KindCases.ExpressionKind.{is_numeral, is_truth as is_truth_kind, is_variable, is_negation, is_binary, is_if_then_else}
 use Rattle.model.proofs.KindCases.InstructionKind.{is_skip, is_assign, is_if_then, is_block}
-use Rattle.model.proofs.WalkClaims.{Holds, holds_found, holds_then, holds_unless, Due, no_refusal}
+use Rattle.model.proofs.WalkClaims.{Holds, holds_then, holds_unless, Due, no_refusal}
 
 -- every parameter is a 32-bit number
 abbrev pub AllRepresentable : List ℤ → Type 0
@@ -200,11 +200,6 @@ module _ (ks : List ℕ) (ps : List ℤ) (long : length ps ≡ length ks) where
       wanted at (parameter_at ks ps at) (λ r. r at) (kind_at ks ps at) (expression_kind (kind_at ks ps at) (allowed_place wanted (kind_at ks ps at) d.allows))
       (due_node d) d.allows d.suits)
 
-  pub standing_expression : (sorts : List Sort) (left : ℕ) (wanted : Option Sort) (at : ℕ) {e : Expression} {next : ℕ}
-      → expression_at ks ps sorts left wanted at ≡ found e next → ExpressionAt ks ps e at × (next ≡ at + size_of_expression e)
-  standing_expression sorts left wanted at h =
-      let f = holds_found (ExpressionFound ks ps sorts left wanted at) (expression_found sorts left wanted at) h in (f.stands, f.after)
-
 -- ---- instructions
 
 pub record InstructionFound (ks : List ℕ) (ps : List ℤ) (s : Scope) (left at : ℕ) (i : Instruction) (next : ℕ) : Type 0 where
@@ -330,8 +325,3 @@ module _ (ks : List ℕ) (ps : List ℤ) (long : length ps ≡ length ks) where
       (λ w next. expression_at ks ps s.sorts left w next) (λ w next. expression_found ks ps long s.sorts left w next)
       at (parameter_at ks ps at) (kind_at ks ps at) (instruction_kind (kind_at ks ps at) (standing_place InstructionPlace (kind_at ks ps at) d.allows))
       (due_node ks ps long d) d.suits)
-
-  pub standing_instruction : (s : Scope) (left at : ℕ) {i : Instruction} {next : ℕ}
-      → instruction_at ks ps s left at ≡ found i next → InstructionAt ks ps i at × (next ≡ at + size_of i)
-  standing_instruction s left at h =
-      let f = holds_found (InstructionFound ks ps s left at) (instruction_found s left at) h in (f.stands, f.after)

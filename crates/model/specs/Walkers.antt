@@ -8,7 +8,7 @@ use Rattle.model.specs.Check.{max_depth}
 
 -- the variables that its instructions may assign
 abbrev pub scope_in : Walker → Scope
-scope_in w = scope_of w.sorts.now w.from w.past
+scope_in w = scope_of w.sorts.now w.targets.start w.targets.end
 
 module _ (w : Walker) where
   -- each of the walks, from this walker

@@ -10,23 +10,26 @@ use results::Refusal;
 use syntax::{Cursor, Tree};
 use walk::Walker;
 
-// The nodes of a file whose sizes have been read.
-fn nodes_of(model: &[u8], sizes: Sizes) -> Result<Cursor, Refusal>
+// The walk over the nodes of a file whose sizes have been read.
+#[tactic(auto, using(crate::proofs::Bytes::file_few, crate::proofs::Bytes::file_length, crate::proofs::Bytes::few_variables))]
+fn walk_file(model: &[u8], sizes: Sizes) -> Result<Cursor, Refusal>
     requires { sized byte_layout model.now ≡ Ok sizes }
     ensures { result ≡ outcome (walked_in byte_layout model.now sizes) }
 {
-    let mut parameters = [0i32; Model::MAX_NODES];
+    let mut cells = [0i32; Model::MAX_NODES];
     let nodes = sizes.nodes;
     let past = Model::HEADER + nodes;
-    header::parameters_in(model, past, nodes, &mut parameters);
+    let parameters = &mut cells[..nodes];
+    header::parameters_in(model, past, parameters);
     let tree = Tree {
         kinds: &model[Model::HEADER..past],
-        parameters: &parameters[..nodes],
+        parameters,
     };
     walk::system(&tree, sizes)
 }
 
 // The check of a model file: its five sizes, or what refuses it.
+#[tactic(auto, using(crate::proofs::Verdicts::file_answer))]
 pub fn check(model: &[u8]) -> Result<Sizes, Refusal>
     ensures { result ≡ answer_of (verdict model.now) }
 {
@@ -35,11 +38,12 @@ pub fn check(model: &[u8]) -> Result<Sizes, Refusal>
         max_nodes: Model::MAX_NODES,
     };
     let sizes = header::read_sizes(layout, model)?;
-    nodes_of(model, sizes)?;
+    walk_file(model, sizes)?;
     Ok(sizes)
 }
 
 // The check of an expression handed outside a model, over variables of these sorts.
+#[tactic(auto, using(crate::proofs::Verdicts::given_outcome))]
 pub fn check_over_sorts(tree: &Tree, sorts: &[Sort], wanted: Sort) -> Result<(), Refusal>
     ensures { result ≡ given_answer (expression_given tree.now.kinds.now tree.now.parameters.now sorts.now (Some wanted)) }
 {
@@ -49,8 +53,7 @@ pub fn check_over_sorts(tree: &Tree, sorts: &[Sort], wanted: Sort) -> Result<(),
     let walker = Walker {
         tree: *tree,
         sorts,
-        from: 0,
-        past: 0,
+        targets: 0..0,
     };
     let next = walker.expression(Model::MAX_DEPTH, Some(wanted), Cursor::empty())?;
     if next.at < tree.kinds.len() {
@@ -61,6 +64,7 @@ pub fn check_over_sorts(tree: &Tree, sorts: &[Sort], wanted: Sort) -> Result<(),
 
 // The check of a transition that stands at place `at` among these nodes, over variables of these sorts, the first `states` of
 // them states: what refuses it, or the place after it.
+#[tactic(auto, using(crate::proofs::Walking::row_none, crate::proofs::Walking::row_more))]
 pub fn check_transition(
     tree: &Tree,
     sorts: &[Sort],
@@ -73,8 +77,7 @@ pub fn check_transition(
     let walker = Walker {
         tree: *tree,
         sorts,
-        from: 0,
-        past: states,
+        targets: 0..states,
     };
     // As a row of one, so that `transition` keeps its one caller and is compiled into it.
     walker.transitions(events, 1, Cursor { at })

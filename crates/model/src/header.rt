@@ -1,6 +1,6 @@
 // The bytes of a model file: sizes and parameters.
 
-ghost use Rattle.std.specs.Prelude.{◌≡◌, ◌+◌, ◌*◌, ◌^◌, ◌≤◌, ◌<◌, ◌++◌, length, drop};
+ghost use Rattle.std.specs.Prelude.{◌≡◌, ◌+◌, ◌*◌, ◌^◌, ◌≤◌, ◌<◌, length};
 ghost use Rattle.model.specs.Check.{signed, parameters_at};
 ghost use Rattle.model.specs.Nodes.{parameter_width};
 ghost use Rattle.model.specs.Sizes.{little_at, sized, sizes_in, header_of};
@@ -21,6 +21,7 @@ pub fn number(bytes: &[u8], at: usize, width: usize) -> usize
 }
 
 // The five sizes.
+#[tactic(auto, using(crate::proofs::Bytes::sizes_read))]
 fn sizes_in(layout: Layout, model: &[u8]) -> Sizes
     requires { (1 ≤ layout.width) × (layout.width ≤ 2) × (header_of layout ≤ length model.now) }
     ensures { result ≡ sizes_in layout model.now }
@@ -36,6 +37,7 @@ fn sizes_in(layout: Layout, model: &[u8]) -> Sizes
 }
 
 // Refusals 1, 2, 3, or the five sizes.
+#[tactic(auto, using(crate::proofs::Bytes::refused_1, crate::proofs::Bytes::refused_2, crate::proofs::Bytes::refused_3, crate::proofs::Bytes::read_whole, crate::proofs::Bytes::nodes_small))]
 pub fn read_sizes(layout: Layout, model: &[u8]) -> Result<Sizes, Refusal>
     requires { (1 ≤ layout.width) × (layout.width ≤ 2) }
     ensures { result ≡ sized layout model.now }
@@ -57,22 +59,19 @@ pub fn read_sizes(layout: Layout, model: &[u8]) -> Result<Sizes, Refusal>
 }
 
 // The parameter in the four bytes from place `at` on.
-fn parameter_in(model: &[u8], at: usize) -> i32
+pub fn parameter_in(model: &[u8], at: usize) -> i32
     requires { at + parameter_width ≤ length model.now }
     ensures { result ≡ signed (little_at model.now at parameter_width) }
 {
     i32::from_le_bytes([model[at], model[at + 1], model[at + 2], model[at + 3]])
 }
 
-// So many parameters from place `from` on, into the first cells.
-// By a counter: zipped with chunks of four bytes, the cells come as lent pairs, and what the loop keeps is no plainer.
-pub fn parameters_in(model: &[u8], from: usize, count: usize, parameters: &mut [i32])
-    requires { (count ≤ length parameters.old) × (from + parameter_width * count ≤ length model.now) }
-    ensures { parameters.new ≡ parameters_at model.now from count ++ drop count parameters.old }
+// The parameters from place `from` on, as many as there are cells.
+pub fn parameters_in(model: &[u8], from: usize, parameters: &mut [i32])
+    requires { from + parameter_width * length parameters.old ≤ length model.now }
+    ensures { parameters.new ≡ parameters_at model.now from (length parameters.old) }
 {
-    let mut at = from;
-    for parameter in parameters[..count].iter_mut() {
-        *parameter = parameter_in(model, at);
-        at += Layout::PARAMETER_WIDTH;
+    for (i, parameter) in parameters.iter_mut().enumerate() {
+        *parameter = parameter_in(model, from + Layout::PARAMETER_WIDTH * i);
     }
 }

@@ -13,7 +13,8 @@ use syntax::Cursor;
 // What an expression handed outside a model must yield.
 pub use kinds::Sort;
 
-// How a file's header is laid out: the bytes of each of S, F, E, T, and the most nodes.
+// How a file's header is laid out: the bytes of each of S, F, E, T, and the most nodes. The check makes one value of it; the definitions
+// and `read_sizes` speak of any.
 #[derive(Clone, Copy, PartialEq, Eq, Debug)]
 pub struct Layout {
     pub width: usize,

@@ -12,20 +12,21 @@ ghost use Rattle.model.specs.Check.{complete, rest_at, system_at};
 use super::{Declaration, Model, Sizes};
 use kinds::{Kind, Place, Sort};
 use results::Refusal;
+use std::ops::Range;
 use syntax::{Cursor, Tree};
 
-// What is walked over, the sorts of the variables, and those that instructions may assign, from `from` up to `past`.
-#[derive(Clone, Copy)]
+// What is walked over, the sorts of the variables, and those that instructions may assign.
+#[derive(Drop)]
 pub struct Walker<'a> {
     pub tree: Tree<'a>,
     pub sorts: &'a [Sort],
-    pub from: usize,
-    pub past: usize,
+    pub targets: Range<usize>,
 }
 
 impl Walker<'_> {
     // An expression of the wanted sort.
     #[cycle(conditional_expression_operands)]
+    #[tactic(auto, using(crate::proofs::Expressions::expression_outcome))]
     pub fn expression(
         &self,
         left: usize,
@@ -40,6 +41,7 @@ impl Walker<'_> {
 
     // The children of an expression node.
     #[cycle(conditional_expression_operands)]
+    #[tactic(auto, using(crate::proofs::Walking::children_of_lem, crate::proofs::Expressions::children_most, crate::proofs::Expressions::operands_outcome))]
     fn operands(
         &self,
         left: usize,
@@ -49,23 +51,22 @@ impl Walker<'_> {
     ) -> Result<Cursor, Refusal>
         ensures { (p : ℤ) → result ≡ outcome (operands_in self.now left wanted kind p cursor.at (children_of kind)) }
     {
-        let children = kinds::row_of(kind).children;
-        if children == 0 {
-            return Ok(cursor);
+        // By the number of children, which is a number in the row of the kind.
+        match kinds::row_of(kind).children {
+            0 => Ok(cursor),
+            1 => self.expression(left, Some(kinds::operand_sort(kind)), cursor),
+            3 => self.conditional(left, wanted, cursor),
+            _ => {
+                let sort = Some(kinds::operand_sort(kind));
+                let second = self.expression(left, sort, cursor)?;
+                self.expression(left, sort, second)
+            }
         }
-        if children == 3 {
-            return self.conditional(left, wanted, cursor);
-        }
-        let sort = Some(kinds::operand_sort(kind));
-        let second = self.expression(left, sort, cursor)?;
-        if children == 1 {
-            return Ok(second);
-        }
-        self.expression(left, sort, second)
     }
 
     // The condition and the two branches of an if-then-else.
     #[cycle(conditional_expression_operands)]
+    #[tactic(auto, using(crate::proofs::Expressions::conditional_outcome))]
     fn conditional(
         &self,
         left: usize,
@@ -81,10 +82,11 @@ impl Walker<'_> {
 
     // An instruction.
     #[cycle(branches_instruction_parts)]
+    #[tactic(auto, using(crate::proofs::Instructions::instruction_outcome))]
     fn instruction(&self, left: usize, cursor: Cursor) -> Result<Cursor, Refusal>
         ensures { result ≡ outcome (instruction_in self.now left cursor.at) }
     {
-        let node = cursor.instruction_node(&self.tree, self.from, self.past, left)?;
+        let node = cursor.instruction_node(&self.tree, &self.targets, left)?;
         let number = node.magnitude();
         if kinds::stands_for(node.kind, Kind::Block) {
             return self.branches(left - 1, number, node.next);
@@ -95,6 +97,7 @@ impl Walker<'_> {
 
     // What follows an instruction node other than a block; `sort` is that of the variable it assigns.
     #[cycle(branches_instruction_parts)]
+    #[tactic(auto, using(crate::proofs::Walking::children_of_lem, crate::proofs::Instructions::parts_outcome))]
     fn parts(
         &self,
         left: usize,
@@ -104,19 +107,19 @@ impl Walker<'_> {
     ) -> Result<Cursor, Refusal>
         ensures { (p : ℤ) → result ≡ outcome (parts_in self.now left sort p cursor.at (children_of kind)) }
     {
-        let children = kinds::row_of(kind).children;
-        if children == 0 {
-            return Ok(cursor);
+        match kinds::row_of(kind).children {
+            0 => Ok(cursor),
+            1 => self.expression(left, sort, cursor),
+            _ => {
+                let second = self.expression(left, Some(Sort::Boolean), cursor)?;
+                self.instruction(left, second)
+            }
         }
-        if children == 1 {
-            return self.expression(left, sort, cursor);
-        }
-        let second = self.expression(left, Some(Sort::Boolean), cursor)?;
-        self.instruction(left, second)
     }
 
     // The branches of a block. `transitions` loops alike: a closure for the step would bring its own calls into this cycle and onto its stack.
     #[cycle(branches_instruction_parts)]
+    #[tactic(auto, using(crate::proofs::Instructions::branches_none, crate::proofs::Instructions::branches_more))]
     fn branches(&self, left: usize, count: usize, cursor: Cursor) -> Result<Cursor, Refusal>
         ensures { result ≡ outcome (branches_in self.now left count cursor.at) }
     {
@@ -128,6 +131,7 @@ impl Walker<'_> {
     }
 
     // A transition: its event, guard and action.
+    #[tactic(auto, using(crate::proofs::Systems::transition_outcome))]
     fn transition(&self, events: usize, cursor: Cursor) -> Result<Cursor, Refusal>
         ensures { result ≡ outcome (transition_in self.now events cursor.at) }
     {
@@ -137,6 +141,7 @@ impl Walker<'_> {
     }
 
     // So many transitions.
+    #[tactic(auto, using(crate::proofs::Walking::row_none, crate::proofs::Walking::row_more))]
     pub fn transitions(
         &self,
         events: usize,
@@ -154,6 +159,7 @@ impl Walker<'_> {
 }
 
 // The nodes of a number's high end and first value.
+#[tactic(auto, using(evaluation::proofs::Signed::read_back, crate::proofs::Declarations::range_declared))]
 fn range(tree: &Tree, low: i32, cursor: Cursor) -> Result<Declaration, Refusal>
     ensures { result ≡ declaration_of (range_at tree.now.kinds.now tree.now.parameters.now low cursor.at) }
 {
@@ -171,6 +177,7 @@ fn range(tree: &Tree, low: i32, cursor: Cursor) -> Result<Declaration, Refusal>
 }
 
 // A variable.
+#[tactic(auto, using(crate::proofs::Declarations::variable_declared))]
 fn variable(tree: &Tree, cursor: Cursor) -> Result<Declaration, Refusal>
     ensures { result ≡ declaration_of (variable_at tree.now.kinds.now tree.now.parameters.now cursor.at) }
 {
@@ -202,6 +209,7 @@ fn variables(tree: &Tree, sorts: &mut [Sort]) -> Result<Cursor, Refusal>
 }
 
 // What follows the variables, whose sorts are given: transitions, the assertion, no node left over.
+#[tactic(auto, using(crate::proofs::Systems::rest_outcome))]
 fn rest(tree: &Tree, sorts: &[Sort], sizes: Sizes, cursor: Cursor) -> Result<Cursor, Refusal>
     requires { sizes.states + sizes.flows ≤ max_variables }
     ensures { result ≡ outcome (complete sizes.nodes (rest_at tree.now.kinds.now tree.now.parameters.now sorts.now sizes cursor.at)) }
@@ -210,15 +218,13 @@ fn rest(tree: &Tree, sorts: &[Sort], sizes: Sizes, cursor: Cursor) -> Result<Cur
     let actions = Walker {
         tree: *tree,
         sorts,
-        from: 0,
-        past: states,
+        targets: 0..states,
     };
     let second = actions.transitions(sizes.events, sizes.transitions, cursor)?;
     let assertion = Walker {
         tree: *tree,
         sorts,
-        from: states,
-        past: sizes.variables(),
+        targets: states..sizes.variables(),
     };
     let next = assertion.instruction(Model::MAX_DEPTH, second)?;
     if next.at < sizes.nodes {

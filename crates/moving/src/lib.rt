@@ -81,7 +81,7 @@ fn conclude(
     }
     let values = &mut *run.values;
     let marks = &mut *run.marks;
-    propagation::store(new, values);
+    values[..new.len()].copy_from_slice(new);
     marking::refresh(decoded, values, cells, marks);
 }
 
@@ -98,17 +98,13 @@ pub fn dispatch<const NODES: usize, const VARIABLES: usize>(
 {
     let tables = &loaded.decoded.tables;
     let lent = run.shared();
-    let declared = Declared {
-        transitions: tables.guards.len(),
-        variables: tables.variables,
-    };
-    moves::test(&declared, &lent, step)?;
+    moves::test(&Declared::from(tables), &lent, step)?;
     let count = tables.variables.len();
     let mut cells = [None; VARIABLES];
     let mut copy = [0i32; VARIABLES];
     let cells = &mut cells[..count];
     let copy = &mut copy[..count];
-    propagation::store(&lent.values[..count], copy);
+    copy.copy_from_slice(&lent.values[..count]);
     let firing = replay_within::<NODES, VARIABLES>(loaded, cells, copy, &lent, step);
     conclude(firing, &loaded.decoded, copy, cells, run);
     moves::answer_to(step, firing)

@@ -1,8 +1,8 @@
 -- The operators at each form of their operands, with values as they are read back from their bits.
-use mathlib.Core.Path.{◌≡◌, refl, sym, ◌∙◌}
-use mathlib.Core.Bool.{Bool, true, false, cond, ◌||◌, or-false}
+use mathlib.Core.Path.{◌≡◌, refl, sym, ap, ◌∙◌}
+use mathlib.Core.Bool.{Bool, true, false, cond, ◌||◌, or-false, or-true}
 use Prim.Native.Nat.{◌<◌, ◌^◌}
-use lib.IntN.{ℤ, pos}
+use lib.IntN.{ℤ}
 use lib.Signed.{mag}
 use mir.Syntax.{w32}
 use mir.Val.{of_z, SFits}
@@ -10,12 +10,13 @@ use Rattle.evaluation.specs.declared.Evaluation.{Evaluation}
 use Rattle.evaluation.specs.declared.Evaluation.TheVariants.{Unknown, Failed, Value}
 use Rattle.evaluation.specs.declared.Operator.{Operator}
 use Rattle.evaluation.specs.declared.Operator.TheVariants.{Conjunction, Disjunction, Equality, Less, LessOrEqual, Sum, Difference, Product, Quotient, Remainder, Equivalence}
+use Rattle.evaluation.specs.Numbers.{eq_z}
 use Rattle.evaluation.specs.Meaning.{operated, decides, decisive, decision, is_unknown, is_failed, number, calculated, negated, agree, chosen, is_true}
 use Rattle.evaluation.proofs.Laws.{cond_keeps}
-use Rattle.evaluation.proofs.Signed.{stored, read_back, read_both, read_test, equal_bits, other_bits}
+use Rattle.evaluation.proofs.Signed.{stored, read_back, read_one, equal_bits, other_bits}
 
 -- no other operator has a deciding operand
-pub no_other_decides : (op : Operator) (v : ℤ) → (op ≡ Conjunction → ⊥) → (op ≡ Disjunction → ⊥) → false ≡ decisive op v
+pub no_other_decides : (op : Operator) (v : ℤ) → (op ≡ Conjunction → ⊥) → (op ≡ Disjunction → ⊥) → decisive op v ≡ false
 unfolding decisive
 no_other_decides Conjunction v n m = absurd (n refl)
 no_other_decides Disjunction v n m = absurd (m refl)
@@ -29,21 +30,6 @@ no_other_decides Quotient v n m = refl
 no_other_decides Remainder v n m = refl
 no_other_decides Equivalence v n m = refl
 
--- the decision of any other operator than or
-pub no_other_decision : (op : Operator) → (op ≡ Disjunction → ⊥) → Value (pos 0) ≡ Value (decision op)
-unfolding decision
-no_other_decision Conjunction n = refl
-no_other_decision Disjunction n = absurd (n refl)
-no_other_decision Equality n = refl
-no_other_decision Less n = refl
-no_other_decision LessOrEqual n = refl
-no_other_decision Sum n = refl
-no_other_decision Difference n = refl
-no_other_decision Product n = refl
-no_other_decision Quotient n = refl
-no_other_decision Remainder n = refl
-no_other_decision Equivalence n = refl
-
 -- without a value, not hands its operand on
 pub handed_on : (a : Evaluation) → ((v : ℤ) → a ≡ Value v → ⊥) → a ≡ negated a
 unfolding negated
@@ -51,30 +37,31 @@ handed_on Unknown n = refl
 handed_on Failed n = refl
 handed_on (Value v) n = absurd (n v refl)
 
--- one operand is a value
-module _ (op : Operator) (other : Evaluation) {v : ℤ} (f : SFits w32 v) {t : Bool} (test : t ≡ decisive op (stored v)) where
-  pub beside_decides : {r : Evaluation} → t ≡ true → r ≡ Value (decision op) → r ≡ cond (decisive op v) (Value (decision op)) other
-  beside_decides e h = rw (read_test (decisive op) f test e) h
+-- a value decides exactly if it is the one that decides
+module _ (op : Operator) {d v : ℤ} (h : SFits w32 d) (g : SFits w32 v) (told : (d ≡ decision op) × ((v : ℤ) → decisive op v ≡ eq_z v d)) where
+  pub decides_at : of_z w32 v ≡ of_z w32 d → decisive op v ≡ true
+  decides_at e = told.1 v ∙ equal_bits w32 g h e
 
-  pub beside_leaves : t ≡ false → other ≡ cond (decisive op v) (Value (decision op)) other
-  beside_leaves e = rw (read_test (decisive op) f test e)
+  pub leaves_at : (of_z w32 v ≡ of_z w32 d → ⊥) → decisive op v ≡ false
+  leaves_at n = told.1 v ∙ other_bits w32 g h n
 
--- both are values: the left one decides, the right one, or neither
-module _ (op : Operator) {x y : ℤ} (f : SFits w32 x) (g : SFits w32 y) {r : Evaluation}
-    {t : Bool} (test : t ≡ decisive op (stored x)) where
-  pub left_decides : t ≡ true → r ≡ Value (decision op) → r ≡ operated op (Value x) (Value y)
+-- and is then the answer
+pub decided : (op : Operator) {d : ℤ} → SFits w32 d → d ≡ decision op → Value (stored d) ≡ Value (decision op)
+decided op {d} h e = read_one Value h ∙ ap Value e
+
+-- both are values: one of them decides, or none
+module _ (op : Operator) (x y : ℤ) where
+  pub left_decides : decisive op x ≡ true → Value (decision op) ≡ operated op (Value x) (Value y)
   unfolding operated decides
-  left_decides e h = rw (read_test (decisive op) f test e) h
+  left_decides e = rw e
 
-  module _ {u : Bool} (e : t ≡ false) (test' : u ≡ decisive op (stored y)) where
-    pub right_decides : u ≡ true → r ≡ Value (decision op) → r ≡ operated op (Value x) (Value y)
-    unfolding operated decides
-    right_decides e' h = rw (read_test (decisive op) f test e, read_test (decisive op) g test' e') h
+  pub right_decides : decisive op y ≡ true → Value (decision op) ≡ operated op (Value x) (Value y)
+  unfolding operated decides
+  right_decides e = rw (e, or-true (decisive op x))
 
-    pub neither_decides : u ≡ false → r ≡ calculated op (stored x) (stored y) → r ≡ operated op (Value x) (Value y)
-    unfolding operated decides is_unknown is_failed number
-    neither_decides e' h =
-        rw (read_test (decisive op) f test e, read_test (decisive op) g test' e') (h ∙ read_both (calculated op) f g)
+  pub neither_decides : decisive op x ≡ false → decisive op y ≡ false → calculated op x y ≡ operated op (Value x) (Value y)
+  unfolding operated decides is_unknown is_failed number
+  neither_decides e f = rw (e, f)
 
 -- any two evaluations
 module _ (op : Operator) {a b : Evaluation} where

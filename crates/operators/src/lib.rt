@@ -2,12 +2,13 @@
 
 #![tactic(auto)]
 
-ghost use Rattle.std.specs.Prelude.{◌≡◌, cond, ◌||◌};
+ghost use Rattle.std.specs.Prelude.{◌≡◌, false, cond, ◌||◌, ℤ, MatchOption};
+ghost use Rattle.evaluation.specs.Numbers.{eq_z};
 ghost use Rattle.evaluation.specs.Meaning.{calculated, decisive, decision, operated, negated, is_unknown, agree, chosen};
 
 use evaluation::{Evaluation, Operator};
 
-// The operator at two values: and, or where neither decides.
+// The operator at two values: and, or where neither decides. The one match over all operators, which it is there for.
 fn calculate(op: Operator, x: i32, y: i32) -> Evaluation
     ensures { result ≡ calculated op x y }
 {
@@ -25,24 +26,14 @@ fn calculate(op: Operator, x: i32, y: i32) -> Evaluation
     }
 }
 
-// Does the value decide the operator alone: false of and, true of or.
-fn is_decisive(op: Operator, v: i32) -> bool
-    ensures { result ≡ decisive op v }
+// The value that decides the operator alone, and is then its answer: false of and, true of or.
+fn deciding(op: Operator) -> Option<i32>
+    ensures { MatchOption result ((v : ℤ) → decisive op v ≡ false) (λ d. (d ≡ decision op) × ((v : ℤ) → decisive op v ≡ eq_z v d)) }
 {
     match op {
-        Operator::Conjunction => v == 0,
-        Operator::Disjunction => v == 1,
-        _ => false,
-    }
-}
-
-// What a deciding operand makes of and, or.
-fn decide(op: Operator) -> Evaluation
-    ensures { result ≡ Evaluation.Value (decision op) }
-{
-    match op {
-        Operator::Disjunction => Evaluation::Value(1),
-        _ => Evaluation::Value(0),
+        Operator::Conjunction => Some(0),
+        Operator::Disjunction => Some(1),
+        _ => None,
     }
 }
 
@@ -50,10 +41,9 @@ fn decide(op: Operator) -> Evaluation
 fn beside(op: Operator, v: i32, other: Evaluation) -> Evaluation
     ensures { result ≡ cond (decisive op v) (Evaluation.Value (decision op)) other }
 {
-    if is_decisive(op, v) {
-        decide(op)
-    } else {
-        other
+    match deciding(op) {
+        Some(d) if v == d => Evaluation::Value(d),
+        _ => other,
     }
 }
 
@@ -61,13 +51,13 @@ fn beside(op: Operator, v: i32, other: Evaluation) -> Evaluation
 fn at_values(op: Operator, x: i32, y: i32) -> Evaluation
     ensures { result ≡ operated op (Evaluation.Value x) (Evaluation.Value y) }
 {
-    if is_decisive(op, x) || is_decisive(op, y) {
-        return decide(op);
+    match deciding(op) {
+        Some(d) if x == d || y == d => Evaluation::Value(d),
+        _ => calculate(op, x, y),
     }
-    calculate(op, x, y)
 }
 
-// Kinds 36 to 45 and 47. Four arms with a value: the checker has no rule for one that reads a value where another takes that operand whole.
+// An operator with two operands. Four arms with a value: the checker has no rule for one that reads a value where another takes that operand whole.
 pub fn operate(op: Operator, a: Evaluation, b: Evaluation) -> Evaluation
     ensures { result ≡ operated op a b }
 {
@@ -82,7 +72,7 @@ pub fn operate(op: Operator, a: Evaluation, b: Evaluation) -> Evaluation
     }
 }
 
-// Kind 35.
+// Not.
 pub fn negate(a: Evaluation) -> Evaluation
     ensures { result ≡ negated a }
 {
@@ -98,18 +88,12 @@ fn undecided(a: Evaluation, b: Evaluation, otherwise: Evaluation) -> Evaluation
 {
     match (a, b) {
         (Evaluation::Unknown, _) | (_, Evaluation::Unknown) => Evaluation::Unknown,
-        (Evaluation::Value(x), Evaluation::Value(y)) => {
-            if x == y {
-                Evaluation::Value(x)
-            } else {
-                otherwise
-            }
-        }
+        (Evaluation::Value(x), Evaluation::Value(y)) if x == y => Evaluation::Value(x),
         _ => otherwise,
     }
 }
 
-// Kind 46.
+// If-then-else.
 pub fn choose(condition: Evaluation, a: Evaluation, b: Evaluation) -> Evaluation
     ensures { result ≡ chosen condition a b }
 {

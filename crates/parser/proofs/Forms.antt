@@ -1,9 +1,8 @@
 -- What a reading comes to.
-use mathlib.Core.Path.{◌≡◌, sym, ap, ◌∙◌, subst}
+use mathlib.Core.Path.{◌≡◌, sym, ap, ◌∙◌}
 use mathlib.Core.List.{List}
 use Prim.Native.Nat.{ℕ, ◌≤◌}
 use lib.ListN.{length}
-use lib.Seq.{length-take-le}
 use Rattle.std.proofs.Common.{Option, Some, None}
 use Rattle.grammar.specs.declared.Word.{Word}
 use Rattle.grammar.specs.Phrases.{Phrase, call_level}
@@ -11,13 +10,12 @@ use Rattle.grammar.specs.Reading.{Parse, read_level}
 use Rattle.grammar.specs.Reading.Parse.{parsed}
 use Rattle.grammar.specs.Held.{FirstWord}
 use Rattle.composition.specs.declared.Node.{Node}
-use Rattle.composition.specs.declared.list.Nodes.{Nodes}
 use Rattle.composition.specs.declared.Part.{Part}
-use Rattle.composition.specs.Parts.{written, Holds, Composed}
+use Rattle.composition.specs.Parts.{Nodes, written, Holds, Composed}
 use Rattle.parser.specs.declared.source.Source.{Source}
 use Rattle.parser.specs.Levels.{Stands, ReadAs, Reached}
 use Rattle.parser.proofs.Steps.{words_at}
-use Rattle.parser.proofs.Places.{read_earlier, word_stands}
+use Rattle.parser.proofs.Places.{read_earlier, word_stands, one_stands, two_stand, three_stand, enclosed_stands, stands_earlier, handed_read, place_next}
 
 module _ (source : Source) where
   abbrev text : List ℕ
@@ -37,8 +35,10 @@ module _ (source : Source) where
   composed_read p e n s = record { phrase = p; reads = e ∙ ap (λ (k : ℕ). parsed p (words_at text k)) (sym n); stands = s }
 
   -- a single word is this phrase
-  pub single_read : (nodes : Nodes) {cells : Nodes} {at : ℕ} {w : Word} {r : Part} (p : Phrase) (f : FirstWord text at w) → nodes.count ≤ length nodes.cells
-      → read_level call_level (words_at text at) ≡ parsed p (words_at text w.next) → Composed nodes.count w.next cells r
+  pub single_read : (nodes : Nodes) {cells : Nodes} {at : ℕ} {w : Word} {r : Part} (p : Phrase) (f : FirstWord text at w)
+      → read_level call_level (words_at text at) ≡ parsed p (words_at text w.next) → Composed (length (written nodes)) w.next cells r
       → Holds source.sorts.now p (written nodes) cells r → ReadAs source at (written nodes) cells (read_level call_level (words_at text at)) r
-  single_read nodes {cells} {w = w} {r = r} p f l e c h =
-      composed_read p e c.ends (word_stands source p f.after f.within (subst (λ n. Composed n w.next cells r) (sym (length-take-le nodes.count nodes.cells l)) c) h)
+  single_read nodes p f e c h = composed_read p e c.ends (word_stands source p f.after f.within c h)
+
+-- what stands when parts were read, for the search
+pub ruleset standings = (reached_as, composed_read, one_stands, two_stand, three_stand, enclosed_stands, stands_earlier, handed_read, place_next)

@@ -12,9 +12,8 @@ use Rattle.grammar.specs.Phrases.Phrase.{operation}
 use Rattle.grammar.specs.Reading.{read_level}
 use Rattle.grammar.specs.Reading.Parse.{failed, parsed}
 use Rattle.composition.specs.declared.Node.{Node}
-use Rattle.composition.specs.declared.list.Nodes.{Nodes}
 use Rattle.composition.specs.declared.Part.{Part}
-use Rattle.composition.specs.Parts.{written, Holds, Composed}
+use Rattle.composition.specs.Parts.{Nodes, written, Holds, Composed}
 use Rattle.parser.specs.declared.source.Source.{Source}
 use Rattle.parser.specs.Levels.{Next, Handed, Stands, ReadAs, chain_from}
 use Rattle.parser.proofs.Steps.{then_failed, then_parsed, words_at}
@@ -63,7 +62,7 @@ module _ (below : ℕ) (source : Source) (old : Nodes) (first : Part) where
       -- one does
       pub grouped_again : {nodes others : Nodes} {right r : Part}
           → (a : ReadAs source next (written cells) nodes (read_level below (words_at text next)) right)
-          → Composed nodes.count right.next others r
+          → Composed (length (written nodes)) right.next others r
           → ((us : List Sort) (p q : Phrase) (before : List Node) (mid : Nodes) → Holds us p before mid left
           → Holds us q (written mid) nodes right → Holds us (operation c p q) before others r)
           → Grouped below source old first others r

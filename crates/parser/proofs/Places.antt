@@ -4,16 +4,14 @@ use mathlib.Core.List.{List}
 use Prim.Native.Nat.{ℕ, ◌+◌, ◌*◌, ◌-◌, ◌≤◌, ◌<◌}
 use native.Mathlib.Omega.{arith}
 use lib.ListN.{length}
-use lib.Seq.{length-take-le}
 use Rattle.kinds.specs.declared.Sort.{Sort}
 use Rattle.grammar.specs.Phrases.{Phrase}
 use Rattle.grammar.specs.Phrases.Phrase.{enclosed}
 use Rattle.grammar.specs.Reading.{Parse}
 use Rattle.composition.specs.declared.Node.{Node}
-use Rattle.composition.specs.declared.list.Nodes.{Nodes}
 use Rattle.composition.specs.declared.Part.{Part}
 use Rattle.composition.specs.Typing.{sort_in, variables_below, expression_of}
-use Rattle.composition.specs.Parts.{written, Holds, Composed}
+use Rattle.composition.specs.Parts.{Nodes, written, Holds, Composed}
 use Rattle.parser.specs.declared.source.Source.{Source}
 use Rattle.parser.specs.Levels.{Place, Handed, Stands, ReadAs}
 
@@ -36,21 +34,13 @@ module _ (source : Source) where
   pub place_next : {nodes : Nodes} {at next : ℕ} → Place source nodes at → at < next → next ≤ length text → Place source nodes next
   place_next p a b = record { within = b; room = omega (arith, p.room) }
 
-  -- the nodes before a part
-  pub before_length : {nodes : Nodes} {at : ℕ} → Place source nodes at → length (written nodes) ≡ nodes.count
-  before_length {nodes} p = length-take-le nodes.count nodes.cells (omega (arith, p.room, p.within, source.short, nodes.whole))
-
-  -- and with it
-  pub part_length : {cells : Nodes} {part : Part} → Handed source cells part → length (written cells) ≡ cells.count
-  part_length {cells} h = length-take-le cells.count cells.cells (omega (arith, h.room, h.within, source.short, cells.whole))
-
   -- a part that was read may be handed on
   pub handed_read : {nodes cells : Nodes} {at : ℕ} {p : Phrase} {part : Part} → Place source nodes at
       → Stands vs (length text) at (written nodes) p part cells → Handed source cells part
   handed_read q s =
       record {
         within = s.within;
-        room = omega (arith, s.room, q.room, before_length q);
+        room = omega (arith, s.room, q.room);
         placed = s.placed;
       }
 
@@ -67,7 +57,7 @@ module _ (source : Source) where
 
   -- of one operand, after a word
   pub one_stands : {nodes cells others : Nodes} {at next : ℕ} {p : Phrase} {part r : Part} (x : Phrase) → Place source nodes at → at < next
-      → Stands vs (length text) next (written nodes) p part cells → Composed cells.count part.next others r → Holds vs x (written nodes) others r
+      → Stands vs (length text) next (written nodes) p part cells → Composed (length (written cells)) part.next others r → Holds vs x (written nodes) others r
       → Stands vs (length text) at (written nodes) x r others
   one_stands x q a s c h =
       record {
@@ -95,24 +85,22 @@ module _ (source : Source) where
       (b : next ≤ length text) (s : Stands vs (length text) next (written cells) q right nodes) where
     -- up to a place where they end, or a later one
     pub two_stand : {others : Nodes} {before : List Node} {at past : ℕ} {p : Phrase} {r : Part} (x : Phrase) → right.next ≤ past → past ≤ length text
-        → Stands vs (length text) at before p left cells → Composed nodes.count past others r → Holds vs x before others r
+        → Stands vs (length text) at before p left cells → Composed (length (written nodes)) past others r → Holds vs x before others r
         → Stands vs (length text) at before x r others
     two_stand x f g l c o =
-        let n = part_length h in
         record {
           after = omega (arith, l.after, s.after, c.ends);
           within = omega (arith, c.ends);
           placed = c.placed;
-          room = omega (arith, l.room, s.room, c.most, c.ends, n);
+          room = omega (arith, l.room, s.room, c.most, c.ends);
           holds = o;
         }
 
-    pub two_handed : {others : Nodes} {r : Part} → Composed nodes.count right.next others r → Handed source others r
+    pub two_handed : {others : Nodes} {r : Part} → Composed (length (written nodes)) right.next others r → Handed source others r
     two_handed c =
-        let n = part_length h in
         record {
           within = omega (arith, s.within, c.ends);
-          room = omega (arith, s.room, h.room, c.most, c.ends, n);
+          room = omega (arith, s.room, h.room, c.most, c.ends);
           placed = c.placed;
         }
 
@@ -122,16 +110,14 @@ module _ (source : Source) where
       (s : Stands vs (length text) next (written cells) q second nodes) (c : second.next < past) (d : past ≤ length text)
       (v : Stands vs (length text) past (written nodes) u third others) where
     pub three_stand : {left : Nodes} {before : List Node} {at : ℕ} {p : Phrase} {r : Part} (x : Phrase)
-        → Stands vs (length text) at before p first cells → Composed others.count third.next left r → Holds vs x before left r
+        → Stands vs (length text) at before p first cells → Composed (length (written others)) third.next left r → Holds vs x before left r
         → Stands vs (length text) at before x r left
     three_stand x l o g =
-        let n = part_length h in
-        let m = part_length (handed_after h a b s) in
         record {
           after = omega (arith, l.after, s.after, v.after, o.ends);
           within = omega (arith, v.within, o.ends);
           placed = o.placed;
-          room = omega (arith, l.room, s.room, v.room, o.most, o.ends, n, m);
+          room = omega (arith, l.room, s.room, v.room, o.most, o.ends);
           holds = g;
         }
 

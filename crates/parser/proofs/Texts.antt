@@ -7,8 +7,8 @@ use Rattle.grammar.specs.declared.Word.{Word}
 use Rattle.grammar.specs.Phrases.{whole_level}
 use Rattle.grammar.specs.Reading.{entire, read_level, phrase_of}
 use Rattle.grammar.specs.Held.{FirstWord}
-use Rattle.composition.specs.declared.list.Nodes.{Nodes}
 use Rattle.composition.specs.declared.Part.{Part}
+use Rattle.composition.specs.Parts.{Nodes}
 use Rattle.parser.specs.declared.source.Source.{Source}
 use Rattle.parser.specs.Levels.{ReadAs, TextReadAs}
 use Rattle.parser.proofs.Steps.{words_at}

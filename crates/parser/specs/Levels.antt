@@ -9,9 +9,8 @@ use Rattle.grammar.specs.Phrases.{Phrase, call_level, product_level, negation_le
 use Rattle.grammar.specs.Reading.{Parse, is_next, chain, read_level}
 use Rattle.grammar.specs.Reading.Parse.{failed, parsed}
 use Rattle.composition.specs.declared.Node.{Node}
-use Rattle.composition.specs.declared.list.Nodes.{Nodes}
 use Rattle.composition.specs.declared.Part.{Part}
-use Rattle.composition.specs.Parts.{Holds, Placed}
+use Rattle.composition.specs.Parts.{Nodes, written, Holds, Placed}
 use Rattle.parser.specs.declared.source.Source.{Source}
 use Rattle.parser.specs.declared.Level.{Level}
 use Rattle.parser.specs.declared.Level.TheVariants.{Product, Sum, Conjunction, Disjunction}
@@ -19,20 +18,20 @@ use Rattle.parser.specs.declared.Level.TheVariants.{Product, Sum, Conjunction, D
 -- a place of the text to read from, and nodes to write after: at most two for a byte
 pub record Place (s : Source) (nodes : Nodes) (at : ℕ) : Type 0 where
   pub within : at ≤ length s.text.now
-  pub room : nodes.count ≤ 2 * at
+  pub room : length (written nodes) ≤ 2 * at
 
 -- a part that was read, whose nodes are the last ones
 pub record Handed (s : Source) (nodes : Nodes) (part : Part) : Type 0 where
   pub within : part.next ≤ length s.text.now
-  pub room : nodes.count ≤ 2 * part.next
-  pub placed : Placed nodes.count part
+  pub room : length (written nodes) ≤ 2 * part.next
+  pub placed : Placed (length (written nodes)) part
 
 -- the part read from place `at` of a text of this size, its nodes after `before`
 pub record Stands (vs : List Sort) (size at : ℕ) (before : List Node) (p : Phrase) (part : Part) (cells : Nodes) : Type 0 where
   pub after : at < part.next
   pub within : part.next ≤ size
-  pub placed : Placed cells.count part
-  pub room : cells.count + 2 * at ≤ length before + 2 * part.next
+  pub placed : Placed (length (written cells)) part
+  pub room : length (written cells) + 2 * at ≤ length before + 2 * part.next
   pub holds : Holds vs p before cells part
 
 -- what was read is this part, and the words after it follow
@@ -70,7 +69,7 @@ chain_from below p ts = chain (λ us. read_level below us) (is_chained (suc belo
 pub record TextReadAs (vs : List Sort) (cells : Nodes) (o : maybe.Option Phrase) (part : Part) : Type 0 where
   pub phrase : Phrase
   pub reads : o ≡ some phrase
-  pub room : cells.count ≤ 400
+  pub room : length (written cells) ≤ 400
   pub holds : Holds vs phrase [] cells part
 
 -- no part exactly where the text is not in the grammar

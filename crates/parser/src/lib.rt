@@ -8,7 +8,7 @@
 //
 // `at` is a place in the text.
 
-#![tactic(auto, using(crate::proofs::Grouping::readings), unfolding(grammar::specs::Reading::and_then, grammar::specs::Reading::is_next, grammar::specs::Reading::after_next, grammar::specs::Reading::arguments_by, grammar::specs::Reading::call_by, grammar::specs::Reading::prefix_by, grammar::specs::Reading::related_by, grammar::specs::Reading::whole_by))]
+#![tactic(auto, using(crate::proofs::Grouping::readings, crate::proofs::Forms::standings), unfolding(grammar::specs::Reading::and_then, grammar::specs::Reading::is_next, grammar::specs::Reading::after_next, grammar::specs::Reading::arguments_by, grammar::specs::Reading::call_by, grammar::specs::Reading::prefix_by, grammar::specs::Reading::related_by, grammar::specs::Reading::whole_by))]
 
 ghost use Rattle.std.specs.Prelude.{◌≡◌, ℕ, suc, List, ◌<◌, ◌≤◌, length, take, drop};
 ghost use Rattle.grammar.specs.declared.Token.TheVariants.{Open, Div, Mod};
@@ -95,9 +95,9 @@ impl Source<'_> {
     }
 
     // A number, a variable, true or false.
-    #[tactic(auto, using(crate::proofs::Steps::level_call), unfolding(grammar::specs::Reading::call_by, grammar::specs::Held::held))]
+    #[tactic(auto, using(crate::proofs::Steps::level_call, crate::proofs::Forms::single_read, grammar::proofs::Ordinals::held_number, grammar::proofs::Ordinals::held_variable), unfolding(grammar::specs::Reading::call_by, grammar::specs::Held::held))]
     fn single(&self, nodes: &mut Nodes, word: Word) -> Option<Part>
-        requires { nodes.old.count < 400 }
+        requires { length (written nodes.old) < 400 }
         ensures { (at : ℕ) → FirstWord self.now.text.now at word
             → (word.token ≡ Open → ⊥) → (word.token ≡ Div → ⊥) → (word.token ≡ Mod → ⊥)
             → Reached self.now at (written nodes.old) nodes.new
@@ -320,14 +320,14 @@ impl Source<'_> {
     }
     // The whole text; None where it is not in the grammar. One with more opening than closing parentheses, or fewer, is refused
     // beforehand: this halves the deepest nesting that is read.
-    #[tactic(auto, using(grammar::proofs::Balance::unbalanced_none), unfolding(grammar::specs::Reading::phrase_of, grammar::specs::Reading::entire))]
+    #[tactic(auto, using(grammar::proofs::Balance::unbalanced_none, crate::proofs::Texts::words_left, crate::proofs::Texts::all_read), unfolding(grammar::specs::Reading::phrase_of, grammar::specs::Reading::entire))]
     pub fn parse(&self, nodes: &mut Nodes) -> Option<Part>
         ensures { TextRead self.now.sorts.now nodes.new (phrase_of self.now.text.now) result }
     {
         if !scanner::is_balanced(self.text) {
             return None;
         }
-        nodes.count = 0;
+        nodes.clear();
         let part = self.whole(nodes, 0)?;
         self.word_at(part.next).is_none().then_some(part)
     }

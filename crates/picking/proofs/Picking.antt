@@ -21,22 +21,17 @@ use Rattle.semantics.specs.Meanings.{Meaning}
 use Rattle.standing.specs.declared.Declared.{Declared}
 use Rattle.standing.specs.Runs.{Run, Answer, answered}
 use Rattle.standing.specs.Runs.Answer.{picked}
-use Rattle.standing.specs.Holding.{IsEnough, holds, holds_declared}
+use Rattle.standing.specs.Holding.{IsEnough, declared_by, holds, holds_declared}
 use Rattle.marking.specs.Marks.{mark_of, marks_from, marks_of}
 use Rattle.steps.specs.Declarations.{Declares}
-use Rattle.steps.proofs.Declarations.{rows_declared, holds_same, loaded_declares}
-use Rattle.engine.specs.Lent.{LoadedIn}
-use Rattle.engine.proofs.Counts.{meaning}
+use Rattle.steps.proofs.Declarations.{rows_declared, holds_same}
 use Rattle.tables.specs.declared.Tables.{Tables}
 use Rattle.steps.specs.Answers.{on_file, on_file_answer}
 use Rattle.inspection.specs.Queries.{first_fireable, pick}
 
--- what the tables of a model declare
-abbrev pub declared_by : Tables → Declared
-declared_by t = record { transitions = length t.guards.now; variables = t.variables }
-
-pub declares : (t : Tables) (l : LoadedIn t) → Declares (meaning l) (declared_by t)
-declares t l = loaded_declares l refl refl
+-- what is declared by tables is as many rows and transitions as they have
+pub as_many : (t : Tables) {d : Declared} → d ≡ declared_by t → (length d.variables.now ≡ length t.variables.now) × (d.transitions ≡ length t.guards.now)
+as_many t e = (ap (λ (d : Declared). length d.variables.now) e, ap (λ (d : Declared). d.transitions) e)
 
 -- ---- what is found on a run, over what is declared
 

@@ -26,17 +26,13 @@ fn pick_loaded(
     ensures { OnLoadedIn decoded.now.tables (λ m. seen_as picked result ≡ queries.pick m (run_in run.now)) }
 {
     let tables = &decoded.tables;
-    let transitions = tables.guards.len();
-    let declared = Declared {
-        transitions,
-        variables: tables.variables,
-    };
+    let declared = Declared::from(tables);
     run.measure(&declared)?;
     run.check(&declared)?;
     let count = tables.variables.len();
     propagation::overwrite(&run.values[..count], cells);
     // By a loop: a `find` was tried, and what its test ensures was out of reach of the proof.
-    for transition in 0..transitions {
+    for transition in 0..declared.transitions {
         let guard = transitions::guard(decoded, cells, transition);
         if guard.is_true() {
             return Ok(Some(transition));

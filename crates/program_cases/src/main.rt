@@ -34,11 +34,12 @@ impl From<[u8; 12]> for Head {
 }
 
 // Answers each line that a part of the input ends, and compares it as it is printed: what is still wanted; none, if another byte was printed.
+// The program prints by the same loop.
 fn answer_part<'a>(wanted: &'a [u8], dialogue: &mut Dialogue, part: &[u8]) -> Option<&'a [u8]> {
     let mut rest = wanted;
     for piece in part.split_inclusive(|byte| *byte == b'\n') {
-        let taken = dialogue.take_line(piece, 0);
-        rest = rest.strip_prefix(dialogue.printed(taken.length))?;
+        dialogue.take_line(piece, 0);
+        rest = rest.strip_prefix(dialogue.printed())?;
     }
     Some(rest)
 }
@@ -49,17 +50,17 @@ fn answer_all<'a>(wanted: &'a [u8], dialogue: &mut Dialogue, input: &[u8]) -> Op
     for part in input.chunks(PART) {
         rest = answer_part(rest, dialogue, part)?;
     }
-    let length = dialogue.close();
-    rest.strip_prefix(dialogue.printed(length))
+    dialogue.close();
+    rest.strip_prefix(dialogue.printed())
 }
 
 // Starts the run and, unless that is refused, answers the input: what is still wanted then; none, if another byte was printed.
 fn answered<'a>(model: &[u8], input: &[u8], wanted: &'a [u8]) -> Option<&'a [u8]> {
     let mut dialogue = Dialogue::empty();
     let bytes = keep(model, &mut dialogue.file);
-    let opening = dialogue.open(bytes);
-    let rest = wanted.strip_prefix(dialogue.printed(opening.length))?;
-    if !opening.is_started {
+    let is_started = dialogue.open(bytes);
+    let rest = wanted.strip_prefix(dialogue.printed())?;
+    if !is_started {
         return Some(rest);
     }
     answer_all(rest, &mut dialogue, input)

@@ -18,18 +18,10 @@ ghost use Rattle.propagation.specs.Cells.{cells_of, held_or, flows_by_settling, 
 ghost use Rattle.propagation.specs.Lent.{Emptied, FitsIn, BlankIn, BlankCellsIn, PropagationHeld, ActionHeld};
 
 use interpreter::{Fault, Gathered};
-use reading::Gathering;
+use reading::{Gathering, Reading};
 use rounds::IndexedTables;
 use tables::Tables;
 use variables::VariableRow;
-
-// The first cells become these.
-pub fn store(from: &[i32], to: &mut [i32])
-    requires { length from.now ≤ length to.old }
-    ensures { to.new ≡ over from.now to.old }
-{
-    to[..from.len()].copy_from_slice(from);
-}
 
 // The first cells become these values. Cells are taken by number, here and in `fill` and `replace`: of those that are lent one by one to a
 // `zip` nothing is known afterwards.
@@ -105,7 +97,13 @@ fn finish(
     gathering.given.copy_from_slice(cells);
     gathering.found = Gathered::default();
     gathering.queued = 0;
-    rounds::scan(tables, cells, gathering, (count + 1) as u16);
+    // The tables are lent again, for as long as the cells are.
+    let reading = Reading {
+        tables: &*tables,
+        cells,
+        round: (count + 1) as u16,
+    };
+    rounds::scan(&reading, gathering);
     rounds::fault_in(gathering.found)?;
     replace(&cells[states..tables.variables.len()], flows);
     Ok(count)
@@ -169,7 +167,12 @@ pub fn act(
     ensures same { SameCells gathering.old gathering.new }
 {
     gathering.begin();
-    reading::gather(tables, cells, gathering, 1, action);
+    let reading = Reading {
+        tables,
+        cells,
+        round: 1,
+    };
+    reading.gather(gathering, action);
     let changed = change(gathering.found, gathering.given, states);
     clear(gathering);
     changed

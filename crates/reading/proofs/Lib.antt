@@ -3,4 +3,4 @@ pub mod Cells
 mod Marking
 mod Giving
 mod Walking
-mod Reading
+mod Remaining

@@ -42,32 +42,32 @@ no_value Unknown h = inl refl
 no_value Failed h = inr refl
 no_value (Value v) h = absurd (miss all_but_value 2 tt h)
 
+-- ---- what an assignment and an if-then ask
+
+module _ {ks : List ℕ} {ps : List ℤ} {variables given at : ℕ} (s : AssignmentStands ks ps variables given at) where
+  pub assigned_stands : ExpressionStands ks ps (at + 1)
+  unfolding InstructionAt
+  assigned_stands = record { expression = s.expression; stands = s.stands.1 }
+
+  pub target_within : {x : ℕ} → mag (get_or ps at (pos 0)) < 2 ^ 31 → x ≡ nat_abs (to_z w32 (of_z w32 (get_or ps at (pos 0))))
+      → (x < given) × (x < variables)
+  unfolding InstructionAt
+  target_within {x} f p =
+      let q : x ≡ s.target = p ∙ ap nat_abs (read_back (get_or ps at (pos 0)) f ∙ s.stands.0.parameter) in
+      (omega (arith, s.target_given), omega (arith, s.target_variable))
+
+module _ {ks : List ℕ} {ps : List ℤ} {nexts : List ℕ} {at : ℕ} (s : TestStands ks ps nexts at) where
+  pub condition_stands : ExpressionStands ks ps (at + 1)
+  unfolding InstructionAt
+  condition_stands = record { expression = s.condition; stands = s.stands.1 }
+
+  pub body_within : (σ : Valuation) {r : Evaluated} → Told ks ps σ r (at + 1) → r.next.at < length nexts
+  unfolding InstructionAt
+  body_within σ {r} told =
+      let m : r.next.at ≡ at + 1 + size_of_expression s.condition = ap (λ r. r.next.at) (told s.condition s.stands.1) in
+      omega (arith, instruction_within ks ps s.body _ s.stands.2, s.places.long)
+
 module _ (ks : List ℕ) (ps : List ℤ) where
-  -- ---- what an assignment and an if-then ask
-
-  module _ {variables given : ℕ} (at : ℕ) (s : AssignmentStands ks ps variables given at) where
-    pub assigned_stands : ExpressionStands ks ps (at + 1)
-    unfolding InstructionAt
-    assigned_stands = record { expression = s.expression; stands = s.stands.1 }
-
-    pub target_within : {x : ℕ} → mag (get_or ps at (pos 0)) < 2 ^ 31 → x ≡ nat_abs (to_z w32 (of_z w32 (get_or ps at (pos 0))))
-        → (x < given) × (x < variables)
-    unfolding InstructionAt
-    target_within {x} f p =
-        let q : x ≡ s.target = p ∙ ap nat_abs (read_back (get_or ps at (pos 0)) f ∙ s.stands.0.parameter) in
-        (omega (arith, s.target_given), omega (arith, s.target_variable))
-
-  module _ (nexts : List ℕ) (at : ℕ) (s : TestStands ks ps nexts at) where
-    pub condition_stands : ExpressionStands ks ps (at + 1)
-    unfolding InstructionAt
-    condition_stands = record { expression = s.condition; stands = s.stands.1 }
-
-    pub body_within : (σ : Valuation) {r : Evaluated} → Told ks ps σ r (at + 1) → r.next.at < length nexts
-    unfolding InstructionAt
-    body_within σ {r} told =
-        let m : r.next.at ≡ at + 1 + size_of_expression s.condition = ap (λ r. r.next.at) (told s.condition s.stands.1) in
-        omega (arith, instruction_within ks ps s.body _ s.stands.2, s.places.long)
-
   -- ---- what they give
 
   module _ (σ : Valuation) (lows highs : List ℤ) (at round : ℕ) (start : Held) {r : Evaluated} (told : Told ks ps σ r (at + 1)) {now : Held} (noting : now ≡ noted r.evaluation at round start) where

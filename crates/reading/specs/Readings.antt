@@ -1,17 +1,21 @@
 -- One reading of an instruction in a round: the effects gathered, the flows queued that become known, the marks of what waits.
-use Rattle.std.specs.Prelude.{Option, ◌≡◌, List, [], ◌∷◌, ◌++◌, ℕ, ◌+◌, ◌-◌, ℤ, length, take, set}
+use Rattle.std.specs.Prelude.{Option, ◌≡◌, List, [], ◌∷◌, ◌++◌, ℕ, ◌+◌, ◌-◌, ◌≤◌, ℤ, length, take, set}
 use Rattle.evaluation.specs.declared.Evaluation.{Evaluation}
 use Rattle.evaluation.specs.declared.Evaluation.TheVariants.{Unknown, Failed, Value}
 use Rattle.model.specs.Trees.{Instruction, count}
-use Rattle.model.specs.Standing.{size_of, size_of_all}
+use Rattle.model.specs.Standing.{InstructionAt, size_of, size_of_all}
+use Rattle.variables.specs.Rows.{lows_in, highs_in}
 use Rattle.expressions.specs.Expressions.{Valuation}
+use Rattle.expressions.specs.Cells.{valuation_of}
 use Rattle.interpreter.specs.declared.Gathered.{Gathered}
+use Rattle.interpreter.specs.Cells.{InstructionStands}
 use Rattle.interpreter.specs.Instructions.{effects}
 use Rattle.interpreter.specs.Instructions.Effect.{gives}
 use Rattle.interpreter.specs.Gathering.{Gathering as Folded, gathering, failing, gather, gather_all, at_once, due_after}
 use Rattle.waiting.specs.News.{news_of, Room}
 use Rattle.waiting.specs.Marks.{marked, mark_at_once, mark_count, stamp_of}
 use Rattle.reading.specs.declared.Gathering.{Gathering}
+use Rattle.reading.specs.declared.Reading.{Reading}
 
 -- the flags, once an expression came to this
 unfoldable pub found_by : Evaluation → Gathered → Gathered
@@ -87,3 +91,23 @@ walked_by lows highs σ at r i h =
     })
     (at + size_of i - size_of_all (due_after i σ))
     (count (due_after i σ))
+
+-- of the tables and cells of a reading, in its round
+module _ (r : Reading) where
+  -- the instruction stands at the place
+  abbrev pub InstructionIn : Instruction → ℕ → Type 0
+  InstructionIn i at = InstructionAt r.tables.now.kinds.now r.tables.now.parameters.now i at
+
+  -- an instruction stands at the place, over variables that have a cell there and a number of 16 bits, and each node has a mark
+  abbrev pub ReadableIn : Gathering → ℕ → Type 0
+  ReadableIn g at =
+      InstructionStands r.tables.now.kinds.now r.tables.now.parameters.now r.tables.now.nexts.now (length r.tables.now.variables.now) (length g.given.now) at
+      × (length g.waits.now ≡ length r.tables.now.kinds.now) × (length r.tables.now.variables.now ≤ 65536) × Whole g
+
+  -- the reading of an instruction that stands at the place
+  abbrev pub read_in : ℕ → Instruction → Held → Held
+  read_in at i h = read_by (lows_in r.tables.now.variables.now) (highs_in r.tables.now.variables.now) (valuation_of r.cells.now) at r.round i h
+
+  -- one node of it done
+  abbrev pub walked_in : ℕ → Instruction → Held → Walked
+  walked_in at i h = walked_by (lows_in r.tables.now.variables.now) (highs_in r.tables.now.variables.now) (valuation_of r.cells.now) at r.round i h

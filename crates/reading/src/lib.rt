@@ -6,11 +6,10 @@ ghost use Rattle.std.specs.Prelude.{◌≡◌, List, ℕ, ◌<◌, ◌≤◌, �
 ghost use Rattle.variables.specs.Rows.{lows_in, highs_in};
 ghost use Rattle.model.specs.Trees.{Expression, Instruction};
 ghost use Rattle.model.specs.Trees.Instruction.{assign, if_then};
-ghost use Rattle.model.specs.Standing.{InstructionAt};
 ghost use Rattle.expressions.specs.Cells.{valuation_of};
 ghost use Rattle.interpreter.specs.Gathering.{nothing_found};
-ghost use Rattle.interpreter.specs.Cells.{InstructionStands, AssignmentStands, TestStands};
-ghost use Rattle.reading.specs.Readings.{held_in, marking, noted, giving, read_by, walked, walked_by, Whole, SameCells};
+ghost use Rattle.interpreter.specs.Cells.{AssignmentStands, TestStands};
+ghost use Rattle.reading.specs.Readings.{held_in, marking, noted, giving, walked, walked_by, read_in, walked_in, Whole, SameCells, InstructionIn, ReadableIn};
 
 use evaluation::Evaluation;
 use interpreter::Gathered;
@@ -25,9 +24,9 @@ const ASSIGNMENT: u8 = Kind::Assignment as u8;
 const IF_THEN: u8 = Kind::IfThen as u8;
 
 // What readings gather, in cells that are lent: what was found, the values given, the flows that became known, the first `queued` of the
-// queue, and the marks of what waits, `pending` of them set. A count is stored before or after what it counts, so between the two there
-// is no invariant. A mark is a round, and 0 where nothing waits: an Option would take twice the memory, which is fixed. The queue is read
-// by place while it grows, so it is no tape.
+// queue, and the marks of what waits, `pending` of them set. There is no invariant: at the beginning of a reading the counts are 0 whatever the
+// marks are. A mark is a round, and 0 where nothing waits: an Option would take twice the memory, of a `NonZero` too, and memory is fixed.
+// The queue is no tape: that leaves out what has no room, and here it is told that there is room.
 #[derive(Drop)]
 pub struct Gathering<'a> {
     pub found: Gathered,
@@ -101,120 +100,104 @@ struct Walk {
     due: usize,
 }
 
-// An assignment at place `at`.
-fn assignment(
-    tables: &Tables<'_>,
-    cells: &[Option<i32>],
-    gathering: &mut Gathering<'_>,
-    round: u16,
-    at: usize,
-) -> Walk
-    requires { AssignmentStands tables.now.kinds.now tables.now.parameters.now (length tables.now.variables.now) (length gathering.old.given.now) at
-        × (at < length gathering.old.waits.now) × (length tables.now.variables.now ≤ 65536) × Whole gathering.old }
-    ensures walked { (x : ℕ) (e : Expression) → InstructionAt tables.now.kinds.now tables.now.parameters.now (assign x e) at
-        → walked (held_in gathering.new) result.next result.due
-        ≡ walked_by (lows_in tables.now.variables.now) (highs_in tables.now.variables.now) (valuation_of cells.now) at round (assign x e) (held_in gathering.old) }
-    ensures whole { Whole gathering.new }
-    ensures same { SameCells gathering.old gathering.new }
-{
-    let assigned = expressions::evaluate(
-        tables.kinds,
-        tables.parameters,
-        cells,
-        Cursor { at: at + 1 },
-    );
-    gathering.note(at, round, assigned.evaluation);
-    if let Evaluation::Value(value) = assigned.evaluation {
-        let variable = nodes::magnitude(tables.parameters[at]);
-        gathering.give(tables.variables, variable, value);
-    }
-    Walk {
-        next: assigned.next.at,
-        due: 0,
-    }
+// A reading: the tables that are read, what the cells say of the variables, and the round that it is.
+#[derive(Clone, Copy)]
+pub struct Reading<'a> {
+    pub tables: &'a Tables<'a>,
+    pub cells: &'a [Option<i32>],
+    pub round: u16,
 }
 
-// An if-then at place `at`: its body is due if the condition is true, and skipped if not.
-fn test(
-    tables: &Tables<'_>,
-    cells: &[Option<i32>],
-    gathering: &mut Gathering<'_>,
-    round: u16,
-    at: usize,
-) -> Walk
-    requires { TestStands tables.now.kinds.now tables.now.parameters.now tables.now.nexts.now at × (at < length gathering.old.waits.now) × Whole gathering.old }
-    ensures walked { (lows highs : List ℤ) (c : Expression) (i : Instruction) → InstructionAt tables.now.kinds.now tables.now.parameters.now (if_then c i) at
-        → walked (held_in gathering.new) result.next result.due
-        ≡ walked_by lows highs (valuation_of cells.now) at round (if_then c i) (held_in gathering.old) }
-    ensures whole { Whole gathering.new }
-    ensures same { SameCells gathering.old gathering.new }
-{
-    let condition = expressions::evaluate(
-        tables.kinds,
-        tables.parameters,
-        cells,
-        Cursor { at: at + 1 },
-    );
-    let body = condition.next.at;
-    gathering.note(at, round, condition.evaluation);
-    if condition.evaluation.is_true() {
-        return Walk { next: body, due: 1 };
+impl Reading<'_> {
+    // An assignment at place `at`.
+    fn assignment(&self, gathering: &mut Gathering<'_>, at: usize) -> Walk
+        requires { AssignmentStands self.now.tables.now.kinds.now self.now.tables.now.parameters.now (length self.now.tables.now.variables.now) (length gathering.old.given.now) at
+            × (at < length gathering.old.waits.now) × (length self.now.tables.now.variables.now ≤ 65536) × Whole gathering.old }
+        ensures walked { (x : ℕ) (e : Expression) → InstructionIn self.now (assign x e) at
+            → walked (held_in gathering.new) result.next result.due ≡ walked_in self.now at (assign x e) (held_in gathering.old) }
+        ensures whole { Whole gathering.new }
+        ensures same { SameCells gathering.old gathering.new }
+    {
+        let tables = self.tables;
+        let assigned = expressions::evaluate(
+            tables.kinds,
+            tables.parameters,
+            self.cells,
+            Cursor { at: at + 1 },
+        );
+        gathering.note(at, self.round, assigned.evaluation);
+        if let Evaluation::Value(value) = assigned.evaluation {
+            let variable = nodes::magnitude(tables.parameters[at]);
+            gathering.give(tables.variables, variable, value);
+        }
+        Walk {
+            next: assigned.next.at,
+            due: 0,
+        }
     }
-    Walk {
-        next: usize::from(tables.nexts[body]),
-        due: 0,
-    }
-}
 
-// One node of an instruction.
-fn step(
-    tables: &Tables<'_>,
-    cells: &[Option<i32>],
-    gathering: &mut Gathering<'_>,
-    round: u16,
-    at: usize,
-) -> Walk
-    requires { InstructionStands tables.now.kinds.now tables.now.parameters.now tables.now.nexts.now (length tables.now.variables.now) (length gathering.old.given.now) at
-        × (length gathering.old.waits.now ≡ length tables.now.kinds.now) × (length tables.now.variables.now ≤ 65536) × Whole gathering.old }
-    ensures walked { (i : Instruction) → InstructionAt tables.now.kinds.now tables.now.parameters.now i at
-        → walked (held_in gathering.new) result.next result.due
-        ≡ walked_by (lows_in tables.now.variables.now) (highs_in tables.now.variables.now) (valuation_of cells.now) at round i (held_in gathering.old) }
-    ensures whole { Whole gathering.new }
-    ensures same { SameCells gathering.old gathering.new }
-{
-    match tables.kinds[at] {
-        ASSIGNMENT => assignment(tables, cells, gathering, round, at),
-        IF_THEN => test(tables, cells, gathering, round, at),
-        // skip has parameter 0, a block the number of its branches
-        _ => Walk {
-            next: at + 1,
-            due: nodes::magnitude(tables.parameters[at]),
-        },
+    // An if-then at place `at`: its body is due if the condition is true, and skipped if not.
+    fn test(&self, gathering: &mut Gathering<'_>, at: usize) -> Walk
+        requires { TestStands self.now.tables.now.kinds.now self.now.tables.now.parameters.now self.now.tables.now.nexts.now at
+            × (at < length gathering.old.waits.now) × Whole gathering.old }
+        ensures walked { (lows highs : List ℤ) (c : Expression) (i : Instruction) → InstructionIn self.now (if_then c i) at
+            → walked (held_in gathering.new) result.next result.due
+            ≡ walked_by lows highs (valuation_of self.now.cells.now) at self.now.round (if_then c i) (held_in gathering.old) }
+        ensures whole { Whole gathering.new }
+        ensures same { SameCells gathering.old gathering.new }
+    {
+        let tables = self.tables;
+        let condition = expressions::evaluate(
+            tables.kinds,
+            tables.parameters,
+            self.cells,
+            Cursor { at: at + 1 },
+        );
+        let body = condition.next.at;
+        gathering.note(at, self.round, condition.evaluation);
+        if condition.evaluation.is_true() {
+            return Walk { next: body, due: 1 };
+        }
+        Walk {
+            next: usize::from(tables.nexts[body]),
+            due: 0,
+        }
     }
-}
 
-// The instruction at place `at`, read in a round.
-pub fn gather(
-    tables: &Tables<'_>,
-    cells: &[Option<i32>],
-    gathering: &mut Gathering<'_>,
-    round: u16,
-    at: usize,
-)
-    requires { InstructionStands tables.now.kinds.now tables.now.parameters.now tables.now.nexts.now (length tables.now.variables.now) (length gathering.old.given.now) at
-        × (length gathering.old.waits.now ≡ length tables.now.kinds.now) × (length tables.now.variables.now ≤ 65536) × Whole gathering.old }
-    ensures read { (i : Instruction) → InstructionAt tables.now.kinds.now tables.now.parameters.now i at
-        → held_in gathering.new
-        ≡ read_by (lows_in tables.now.variables.now) (highs_in tables.now.variables.now) (valuation_of cells.now) at round i (held_in gathering.old) }
-    ensures whole { Whole gathering.new }
-    ensures same { SameCells gathering.old gathering.new }
-{
-    let mut here = at;
-    let mut due: usize = 1;
-    // Which node comes next is known only once this one is read, so there is no sequence to go over.
-    while 0 < due {
-        let done = step(tables, cells, gathering, round, here);
-        here = done.next;
-        due = due - 1 + done.due;
+    // One node of an instruction.
+    fn step(&self, gathering: &mut Gathering<'_>, at: usize) -> Walk
+        requires { ReadableIn self.now gathering.old at }
+        ensures walked { (i : Instruction) → InstructionIn self.now i at
+            → walked (held_in gathering.new) result.next result.due ≡ walked_in self.now at i (held_in gathering.old) }
+        ensures whole { Whole gathering.new }
+        ensures same { SameCells gathering.old gathering.new }
+    {
+        let tables = self.tables;
+        match tables.kinds[at] {
+            ASSIGNMENT => self.assignment(gathering, at),
+            IF_THEN => self.test(gathering, at),
+            // skip has parameter 0, a block the number of its branches
+            _ => Walk {
+                next: at + 1,
+                due: nodes::magnitude(tables.parameters[at]),
+            },
+        }
+    }
+
+    // The instruction at place `at`.
+    pub fn gather(&self, gathering: &mut Gathering<'_>, at: usize)
+        requires { ReadableIn self.now gathering.old at }
+        ensures read { (i : Instruction) → InstructionIn self.now i at → held_in gathering.new ≡ read_in self.now at i (held_in gathering.old) }
+        ensures whole { Whole gathering.new }
+        ensures same { SameCells gathering.old gathering.new }
+    {
+        let mut here = at;
+        let mut due: usize = 1;
+        // Which node comes next is known only once this one is read, so there is no sequence to go over.
+        while 0 < due {
+            let done = self.step(gathering, here);
+            here = done.next;
+            due = due - 1 + done.due;
+        }
     }
 }

@@ -43,8 +43,8 @@ fn written(line: Result<Option<usize>, Refusal>, out: &mut [u8]) -> Option<usize
     }
 }
 
-// Carries out a command, 13 if there is none, and writes its line unless it is refused.
-#[tactic(auto, unfolding(run::specs::Lists::call_by, run::specs::Lists::call_on, steps::specs::Answers::on_file, crate::specs::Replies::reply, crate::specs::Replies::run_text, crate::specs::Replies::look_text, lines::specs::Lines::line_into, results::specs::Refusals::number_of))]
+// Carries out a command, refused if there is none, and writes its line unless it is refused.
+#[tactic(auto, unfolding(crate::specs::Replies::reply, crate::specs::Replies::run_text, crate::specs::Replies::look_text, lines::specs::Lines::line_into, results::specs::Refusals::number_of))]
 fn carry_out(
     command: Option<Command>,
     model: &[u8],
@@ -55,22 +55,18 @@ fn carry_out(
         → Replied result out.old out.new (store_in store.new) (reply model.now command (store_in store.old)) }
     ensures same { SameCells store.old store.new }
 {
-    let command = command.ok_or(Refusal::NoCommand)?;
-    let values = &mut *store.values;
-    let marks = &mut *store.marks;
-    let history = &mut *store.history;
-    let n = &mut store.n;
-    match command {
+    match command.ok_or(Refusal::NoCommand)? {
         Command::Fire(transition) => {
-            let count = run::fire(model, values, marks, history, n, transition)?;
-            Ok(lines::ok_line(count, values, out))
+            let count = store.fire(model, transition)?;
+            Ok(lines::ok_line(count, store.run().values, out))
         }
         Command::Undo => {
-            run::undo(model, values, marks, history, n)?;
-            Ok(lines::back_line(values, out))
+            store.undo(model)?;
+            Ok(lines::back_line(store.run().values, out))
         }
         Command::Marks => {
             store.copy_marks(model)?;
+            // Named first: of a slice in a struct that is lent to be read at once it is not known that it stays.
             let buffer = &mut *store.buffer;
             Ok(lines::marks_line(buffer, out))
         }
@@ -98,30 +94,26 @@ pub fn respond(
         values,
         marks,
         history,
-        n: *n,
+        n,
         buffer,
     };
     if is_short(out, &store) {
         return None;
     }
     let line = carry_out(command, model, &mut store, out);
-    *n = store.n;
     written(line, out)
 }
 
 // The start, and its line unless it is refused.
-#[tactic(auto, unfolding(run::specs::Lists::call_by, run::specs::Lists::call_on, steps::specs::Answers::on_file, crate::specs::Replies::run_text, crate::specs::Replies::is_accepted, lines::specs::Lines::line_into, results::specs::Refusals::number_of))]
+#[tactic(auto, unfolding(crate::specs::Replies::run_text, crate::specs::Replies::is_accepted, lines::specs::Lines::line_into, results::specs::Refusals::number_of))]
 fn begin(model: &[u8], store: &mut Store<'_>, out: &mut [u8]) -> Result<Option<usize>, Refusal>
     ensures started { is_ok result ≡ is_started model.now (store_in store.old) }
     ensures replied { is_short out.old (store_in store.old) ≡ false
         → Replied result out.old out.new (store_in store.new) (opening model.now (store_in store.old)) }
     ensures same { SameCells store.old store.new }
 {
-    let values = &mut *store.values;
-    let marks = &mut *store.marks;
-    let n = &mut store.n;
-    let count = run::start(model, values, marks, n)?;
-    Ok(lines::ok_line(count, values, out))
+    let count = store.start(model)?;
+    Ok(lines::ok_line(count, store.run().values, out))
 }
 
 // The start and its line.
@@ -145,7 +137,7 @@ pub fn open(
         values,
         marks,
         history,
-        n: *n,
+        n,
         buffer,
     };
     if is_short(out, &store) {
@@ -155,7 +147,6 @@ pub fn open(
         };
     }
     let line = begin(model, &mut store, out);
-    *n = store.n;
     Opening {
         is_started: line.is_ok(),
         written: written(line, out),

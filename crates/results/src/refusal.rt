@@ -69,7 +69,7 @@ pub enum Refusal {
 }
 
 impl Refusal {
-    // The number that stands for it.
+    // The number that stands for it. No `u8::from`: the name says which number it is.
     #[tactic(auto, unfolding(crate::specs::Refusals::number_of))]
     pub fn number(self) -> u8
         ensures { result ≡ number_of self }

@@ -1,15 +1,13 @@
--- What was lent fits still, after readings.
-use Rattle.std.specs.Prelude.{Option as Optional}
+-- A reading can go on after readings.
 use mathlib.Core.Path.{sym, ◌∙◌}
-use Prim.Native.Nat.{ℕ}
 use native.Mathlib.Omega.{arith}
-use lib.IntN.{ℤ}
-use mathlib.Core.List.{List}
-use Rattle.tables.specs.declared.Tables.{Tables}
 use Rattle.reading.specs.declared.Gathering.{Gathering}
+use Rattle.reading.specs.declared.Reading.{Reading}
 use Rattle.reading.specs.Readings.{SameCells}
-use Rattle.rounds.specs.Lent.{FittingIn, StillWakingIn}
+use Rattle.rounds.specs.Lent.{UnderWay, StillWakingIn}
+use Rattle.rounds.proofs.Visiting.{some_then}
 
-pub fits_still : (t : Tables) (cells : List (Optional ℤ)) (r : ℕ) (g g' : Gathering) → FittingIn t cells g → SameCells g g' → StillWakingIn t cells r g g' → FittingIn t cells g'
-fits_still t cells r g g' f s w =
-    (s.waits_length ∙ f.0, f.1, omega (arith, f.2, s.given_length), f.3 ∙ sym s.given_length, w.room, omega (arith, f.5, s.queue_length), w.counted)
+pub goes_on : (r : Reading) (g g' : Gathering) → UnderWay r g → SameCells g g' → StillWakingIn r g g' → UnderWay r g'
+goes_on r g g' u s w =
+    let f = u.1 in
+    (some_then u.0 w, (s.waits_length ∙ f.0, f.1, omega (arith, f.2, s.given_length), f.3 ∙ sym s.given_length, w.room, omega (arith, f.5, s.queue_length), w.counted))

@@ -1,6 +1,6 @@
 -- The rounds as the code makes them: each turn reads the assertion over the cells, and the rounds from there are those from the
 -- beginning. A turn that gives a new value leaves fewer cells that hold nothing.
-use Rattle.std.specs.Prelude.{Option as Optional, Ok, Err}
+use Rattle.std.specs.Prelude.{Option as Optional, Result, Ok, Err}
 use mathlib.Core.Path.{◌≡◌, refl, sym, ◌∙◌}
 use mathlib.Core.Bool.{true, false, true≢false}
 use mathlib.Core.List.{List}
@@ -43,6 +43,11 @@ pub finding_clear : (o : Option Fault) → finding_of o ≡ Ok tt → o ≡ none
 unfolding finding_of
 finding_clear none e = refl
 finding_clear (some g) e = let z : true ≡ false = cc in absurd (true≢false z)
+
+-- where it is not an error
+pub no_fault : (r : Result (Unit {0}) Fault) → ((f : Fault) → r ≡ Err f → ⊥) → r ≡ Ok tt
+no_fault (Ok tt) n = refl
+no_fault (Err f) n = absurd (n f refl)
 
 -- ---- the rounds
 

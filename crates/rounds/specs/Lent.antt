@@ -3,7 +3,9 @@ use Rattle.std.specs.Prelude.{List, ℕ, ℤ, length, Option}
 use Rattle.tables.specs.declared.Tables.{Tables}
 use Rattle.tables.specs.declared.Index.{Index}
 use Rattle.waiting.specs.Index.{Indexed}
+use Rattle.waiting.specs.Waking.{Passed}
 use Rattle.reading.specs.declared.Gathering.{Gathering}
+use Rattle.reading.specs.declared.Reading.{Reading}
 use Rattle.rounds.specs.Cells.{AssertionStands}
 use Rattle.rounds.specs.Rounds.{Fitting, SomeWaking, StillWaking, Resting, Turn, Ready, SomeReady}
 
@@ -20,17 +22,6 @@ module _ (t : Tables) where
   abbrev pub FittingIn : List (Option ℤ) → Gathering → Type 0
   FittingIn cells g =
       Fitting t.kinds.now t.parameters.now t.nexts.now t.variables.now t.model.assertion cells g.given.now g.queued g.queue.now g.waits.now g.pending
-
-  -- some waking of what waits has come so far in round r
-  abbrev pub SomeWakingIn : List (Option ℤ) → ℕ → Gathering → Type 0
-  SomeWakingIn cells r g =
-      SomeWaking t.kinds.now t.parameters.now t.nexts.now t.variables.now t.model.assertion cells r g.found g.given.now g.queued g.queue.now g.waits.now
-
-  -- from the one gathering to the other it has gone on
-  abbrev pub StillWakingIn : List (Option ℤ) → ℕ → Gathering → Gathering → Type 0
-  StillWakingIn cells r g g' =
-      StillWaking t.kinds.now t.parameters.now t.nexts.now t.variables.now t.model.assertion cells r
-      g.found g.given.now g.queued g.queue.now g.waits.now g'.found g'.given.now g'.queued g'.queue.now g'.waits.now g'.pending
 
   -- after so many rounds nothing wakes any more
   abbrev pub RestingIn : AssertionHeld → List (Option ℤ) → Gathering → ℕ → Type 0
@@ -51,3 +42,25 @@ module _ (t : Tables) where
   abbrev pub SomeReadyIn : List (Option ℤ) → Gathering → ℕ → ℕ → Type 0
   SomeReadyIn cells g r done =
       SomeReady t.kinds.now t.parameters.now t.nexts.now t.variables.now t.model.assertion cells g.given.now g.queue.now g.waits.now g.found g.queued g.pending r done
+
+-- of a reading, over its tables and cells, in its round
+module _ (r : Reading) where
+  -- some waking of what waits has come so far
+  abbrev pub SomeWakingIn : Gathering → Type 0
+  SomeWakingIn g =
+      SomeWaking r.tables.now.kinds.now r.tables.now.parameters.now r.tables.now.nexts.now r.tables.now.variables.now r.tables.now.model.assertion r.cells.now r.round
+      g.found g.given.now g.queued g.queue.now g.waits.now
+
+  -- and the cells that are worked in fit: what waits can be read
+  abbrev pub UnderWay : Gathering → Type 0
+  UnderWay g = SomeWakingIn g × FittingIn r.tables.now r.cells.now g
+
+  -- from the one gathering to the other the waking has gone on
+  abbrev pub StillWakingIn : Gathering → Gathering → Type 0
+  StillWakingIn g g' =
+      StillWaking r.tables.now.kinds.now r.tables.now.parameters.now r.tables.now.nexts.now r.tables.now.variables.now r.tables.now.model.assertion r.cells.now r.round
+      g.found g.given.now g.queued g.queue.now g.waits.now g'.found g'.given.now g'.queued g'.queue.now g'.waits.now g'.pending
+
+  -- what owns a mention of the variable is read
+  abbrev pub PassedIn : Gathering → ℕ → Type 0
+  PassedIn g x = Passed r.tables.now.kinds.now r.tables.now.parameters.now r.tables.now.model.assertion r.round g.waits.now x

@@ -9,14 +9,13 @@ ghost use Rattle.interpreter.specs.Gathering.{fault_in};
 ghost use Rattle.expressions.specs.Cells.{valuation_of};
 ghost use Rattle.semantics.specs.Propagation as propagation_specs;
 ghost use Rattle.waiting.specs.Marks.{mark_count};
-ghost use Rattle.waiting.specs.Waking.{Passed};
 ghost use Rattle.reading.specs.Readings.{SameCells};
 ghost use Rattle.rounds.specs.Cells.{ending, finding_of, reached_in};
 ghost use Rattle.rounds.specs.Rounds.{Pending, Queued, Done};
-ghost use Rattle.rounds.specs.Lent.{AssertionHeld, IndexHeld, FittingIn, SomeWakingIn, StillWakingIn, RestingIn, TurnIn, ReadyIn, SomeReadyIn};
+ghost use Rattle.rounds.specs.Lent.{AssertionHeld, IndexHeld, FittingIn, UnderWay, StillWakingIn, PassedIn, RestingIn, TurnIn, ReadyIn, SomeReadyIn};
 
 use interpreter::{Fault, Gathered};
-use reading::Gathering;
+use reading::{Gathering, Reading};
 use tables::{Index, Tables};
 
 // The tables of a model, and the index of its assertion.
@@ -25,6 +24,14 @@ pub struct IndexedTables<'a> {
     pub tables: &'a Tables<'a>,
     pub index: &'a Index<'a>,
     pub ghost held: { IndexHeld tables.now index.now },
+}
+
+// A reading, and the index of the assertion that it reads.
+#[derive(Clone, Copy)]
+struct IndexedReading<'a> {
+    reading: Reading<'a>,
+    index: &'a Index<'a>,
+    ghost held: { IndexHeld reading.tables.now index.now },
 }
 
 // The fault found, the lowest class first.
@@ -57,90 +64,69 @@ fn apply(gathering: &Gathering<'_>, done: usize, cells: &mut [Option<i32>])
 }
 
 // The instruction at the place is read, if it waits since an earlier round.
-fn visit(
-    tables: &Tables<'_>,
-    cells: &[Option<i32>],
-    gathering: &mut Gathering<'_>,
-    round: u16,
-    at: usize,
-)
-    requires { SomeWakingIn tables.now cells.now round gathering.old × FittingIn tables.now cells.now gathering.old × (at < length tables.now.kinds.now) }
-    ensures still { StillWakingIn tables.now cells.now round gathering.old gathering.new }
-    ensures done { Done round gathering.new.waits.now at }
+fn visit(reading: &Reading<'_>, gathering: &mut Gathering<'_>, at: usize)
+    requires { UnderWay reading.now gathering.old × (at < length reading.now.tables.now.kinds.now) }
+    ensures still { StillWakingIn reading.now gathering.old gathering.new }
+    ensures done { Done reading.now.round gathering.new.waits.now at }
     ensures same { SameCells gathering.old gathering.new }
 {
     let stamp = gathering.waits[at];
-    if stamp == 0 {
+    if stamp == 0 || stamp == reading.round {
         return;
     }
-    if stamp == round {
-        return;
-    }
-    reading::gather(tables, cells, gathering, round, at);
+    reading.gather(gathering, at);
 }
 
-// What waits and mentions the variable is read, from the first mention on.
-fn wake(
-    indexed: &IndexedTables<'_>,
-    cells: &[Option<i32>],
-    gathering: &mut Gathering<'_>,
-    round: u16,
-    variable: usize,
-)
-    requires { SomeWakingIn indexed.now.tables.now cells.now round gathering.old × FittingIn indexed.now.tables.now cells.now gathering.old
-        × (variable < length indexed.now.tables.now.variables.now) }
-    ensures still { StillWakingIn indexed.now.tables.now cells.now round gathering.old gathering.new }
-    ensures passed { Passed indexed.now.tables.now.kinds.now indexed.now.tables.now.parameters.now indexed.now.tables.now.model.assertion round gathering.new.waits.now variable }
-    ensures same { SameCells gathering.old gathering.new }
-{
-    let tables = indexed.tables;
-    let index = indexed.index;
-    let nodes = tables.kinds.len();
-    let mut mention = usize::from(index.heads[variable]);
-    // Each mention tells the next, so there is no sequence to go over.
-    while mention < nodes {
-        if gathering.pending == 0 {
-            return;
+impl IndexedReading<'_> {
+    // What waits and mentions the variable is read, from the first mention on.
+    fn wake(&self, gathering: &mut Gathering<'_>, variable: usize)
+        requires { UnderWay self.now.reading gathering.old × (variable < length self.now.reading.tables.now.variables.now) }
+        ensures still { StillWakingIn self.now.reading gathering.old gathering.new }
+        ensures passed { PassedIn self.now.reading gathering.new variable }
+        ensures same { SameCells gathering.old gathering.new }
+    {
+        let index = self.index;
+        let nodes = self.reading.tables.kinds.len();
+        let mut mention = usize::from(index.heads[variable]);
+        // Each mention tells the next, so there is no sequence to go over.
+        while mention < nodes {
+            if gathering.pending == 0 {
+                return;
+            }
+            let owner = usize::from(index.owners[mention]);
+            visit(&self.reading, gathering, owner);
+            mention = usize::from(index.mentions[mention]);
         }
-        let owner = usize::from(index.owners[mention]);
-        visit(tables, cells, gathering, round, owner);
-        mention = usize::from(index.mentions[mention]);
     }
-}
 
-// What waits and mentions a flow in the queue is read, for those from `done` on. The queue grows meanwhile, so it is read by place.
-fn wake_all(
-    indexed: &IndexedTables<'_>,
-    cells: &[Option<i32>],
-    gathering: &mut Gathering<'_>,
-    round: u16,
-    done: usize,
-)
-    requires { SomeWakingIn indexed.now.tables.now cells.now round gathering.old × FittingIn indexed.now.tables.now cells.now gathering.old
-        × Queued gathering.old.queue.now gathering.old.queued (length indexed.now.tables.now.variables.now) × (done ≤ gathering.old.queued) }
-    ensures still { StillWakingIn indexed.now.tables.now cells.now round gathering.old gathering.new }
-    ensures passed { (x : ℕ) → Memᴰ x (drop done (take gathering.old.queued gathering.old.queue.now))
-        → Passed indexed.now.tables.now.kinds.now indexed.now.tables.now.parameters.now indexed.now.tables.now.model.assertion round gathering.new.waits.now x }
-    ensures same { SameCells gathering.old gathering.new }
-{
-    for k in done..gathering.queued {
-        let variable = usize::from(gathering.queue[k]);
-        wake(indexed, cells, gathering, round, variable);
+    // What waits and mentions a flow in the queue is read, for those from `done` on. The queue grows meanwhile, so it is read by place.
+    fn wake_all(&self, gathering: &mut Gathering<'_>, done: usize)
+        requires { UnderWay self.now.reading gathering.old
+            × Queued gathering.old.queue.now gathering.old.queued (length self.now.reading.tables.now.variables.now) × (done ≤ gathering.old.queued) }
+        ensures still { StillWakingIn self.now.reading gathering.old gathering.new }
+        ensures passed { (x : ℕ) → Memᴰ x (drop done (take gathering.old.queued gathering.old.queue.now)) → PassedIn self.now.reading gathering.new x }
+        ensures same { SameCells gathering.old gathering.new }
+    {
+        for k in done..gathering.queued {
+            let variable = usize::from(gathering.queue[k]);
+            self.wake(gathering, variable);
+        }
     }
 }
 
 // Everything that waits since an earlier round is read, from the assertion on. A reading changes the marks, so they are asked by place.
-pub fn scan(tables: &Tables<'_>, cells: &[Option<i32>], gathering: &mut Gathering<'_>, round: u16)
-    requires { SomeWakingIn tables.now cells.now round gathering.old × FittingIn tables.now cells.now gathering.old }
-    ensures still { StillWakingIn tables.now cells.now round gathering.old gathering.new }
-    ensures done { (p : ℕ) → tables.now.model.assertion ≤ p → p < length tables.now.kinds.now → Done round gathering.new.waits.now p }
+pub fn scan(reading: &Reading<'_>, gathering: &mut Gathering<'_>)
+    requires { UnderWay reading.now gathering.old }
+    ensures still { StillWakingIn reading.now gathering.old gathering.new }
+    ensures done { (p : ℕ) → reading.now.tables.now.model.assertion ≤ p → p < length reading.now.tables.now.kinds.now → Done reading.now.round gathering.new.waits.now p }
     ensures same { SameCells gathering.old gathering.new }
 {
     if gathering.pending == 0 {
         return;
     }
+    let tables = reading.tables;
     for at in tables.model.assertion..tables.kinds.len() {
-        visit(tables, cells, gathering, round, at);
+        visit(reading, gathering, at);
     }
 }
 
@@ -160,13 +146,27 @@ fn read_round(
     ensures same { SameCells gathering.old gathering.new }
 {
     gathering.found = Gathered::default();
+    let tables = indexed.tables;
     if round == 1 {
-        let tables = indexed.tables;
-        reading::gather(tables, cells, gathering, round, tables.model.assertion);
+        let reading = Reading {
+            tables,
+            cells,
+            round,
+        };
+        reading.gather(gathering, tables.model.assertion);
         return;
     }
     apply(gathering, done, cells);
-    wake_all(indexed, cells, gathering, round, done);
+    let reading = Reading {
+        tables,
+        cells,
+        round,
+    };
+    let indexed = IndexedReading {
+        reading,
+        index: indexed.index,
+    };
+    indexed.wake_all(gathering, done);
 }
 
 // Rounds over the cells until one sets nothing, or a fault is met: how many were made.
@@ -194,9 +194,8 @@ pub fn rounds(
         let queued = gathering.queued;
         read_round(indexed, cells, gathering, round, done);
         done = queued;
-        match fault_in(gathering.found) {
-            Err(fault) => break Err(fault),
-            Ok(()) => {}
+        if let Err(fault) = fault_in(gathering.found) {
+            break Err(fault);
         }
         if !gathering.found.fresh {
             break Ok(usize::from(round));

@@ -1,5 +1,5 @@
 -- What each function promises gives the promise of its call: theorem CallsReached. Every list has results: theorem PerformancesExist.
-use mathlib.Core.Path.{◌≡◌, refl, sym, ap, ◌∙◌, subst}
+use mathlib.Core.Path.{◌≡◌, refl, ap, ◌∙◌}
 use mathlib.Core.List.{List, [], ◌∷◌}
 use Prim.Native.Nat.{ℕ}
 use Rattle.model.specs.declared.Sizes.{Sizes}
@@ -16,9 +16,9 @@ use Rattle.steps.specs.Answers.{seen_as, on_file, on_file_answer}
 use Rattle.steps.specs.Calls as calls
 use Rattle.inspection.specs.Asked.{told_outside}
 use Rattle.inspection.specs.Queries as queries
-use Rattle.run.specs.Lists.{on_run, on_buffer, call_on, call_by, call, calls_of, Promise}
+use Rattle.run.specs.Lists.{on_run, on_buffer, call_on, call_by, call, calls_of}
 use Rattle.run.specs.Lists.Performed.{nothing, next}
-use Rattle.run.specs.Promises.{seen_check, MarksPromise}
+use Rattle.run.specs.Promises.{seen_check}
 use Rattle.run.specs.Theorems.{CallsReached, PerformancesExist}
 
 module _ (s : Store) where
@@ -85,13 +85,6 @@ module _ (m : List ℕ) (s : Store) (a : Answer) (left : Run) where
       → answered a (store left s.buffer) ≡ call m Undo s
   unfolding call_on
   undo_reached = run_reached s Undo (λ m. calls.undo m s.run) (λ z m. refl) (verdict m) a left
-
--- the marks of a store copied into its buffer
-pub copied_reached : (m : List ℕ) (s left : Store) (r : Result (Unit {0}) Refusal) → MarksPromise m s.run s.buffer r left.buffer → left.run ≡ s.run
-    → Promise m Marks s (answered (seen_as (λ _. done) r) left)
-copied_reached m s left r p same =
-    subst (λ held. Promise m Marks s (answered (seen_as (λ _. done) r) (store held left.buffer))) (sym same)
-    (marks_reached s (verdict m) (seen_as (λ _. done) r) left.buffer p)
 
 -- ---- the theorems
 

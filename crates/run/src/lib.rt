@@ -5,7 +5,11 @@
 ghost use Rattle.std.specs.Prelude.{◌≡◌};
 ghost use Rattle.run.specs.Promises.{CheckPromise, StartPromise, FirePromise, UndoPromise, MarksPromise, ValuePromise, PickPromise, FirstOutsidePromise, PerformPromise};
 ghost use Rattle.run.specs.Lent.{store_in, SameCells};
-ghost use Rattle.standing.specs.Runs.{run_in};
+ghost use Rattle.run.specs.Lists.{Promise};
+ghost use Rattle.run.specs.declared.Call.TheVariants.{Start, Fire, Undo, Marks};
+ghost use Rattle.standing.specs.Runs.{run_in, answered};
+ghost use Rattle.standing.specs.Runs.Answer.{rounds, done};
+ghost use Rattle.steps.specs.Answers.{seen_as};
 
 use model::Sizes;
 use replaying::Move;
@@ -43,7 +47,7 @@ pub struct Store<'a> {
     pub values: &'a mut [i32],
     pub marks: &'a mut [u8],
     pub history: &'a mut [u8],
-    pub n: usize,
+    pub n: &'a mut usize,
     pub buffer: &'a mut [u8],
 }
 
@@ -52,26 +56,52 @@ impl Store<'_> {
     pub fn run(&self) -> Run<'_>
         ensures { run_in result ≡ (store_in self.now).run }
     {
-        Run::new(self.values, self.marks, self.history, self.n)
+        Run::new(self.values, self.marks, self.history, *self.n)
+    }
+
+    // The start of the run.
+    pub fn start(&mut self, model: &[u8]) -> Result<usize, Refusal>
+        ensures performed { Promise model.now Start (store_in self.old) (answered (seen_as rounds result) (store_in self.new)) }
+        ensures same { SameCells self.old self.new }
+    {
+        start(model, self.values, self.marks, self.n)
+    }
+
+    // A transition of the run.
+    pub fn fire(&mut self, model: &[u8], transition: usize) -> Result<usize, Refusal>
+        ensures performed { Promise model.now (Fire transition) (store_in self.old) (answered (seen_as rounds result) (store_in self.new)) }
+        ensures same { SameCells self.old self.new }
+    {
+        fire(
+            model,
+            self.values,
+            self.marks,
+            self.history,
+            self.n,
+            transition,
+        )
+    }
+
+    // The last recorded transition taken back.
+    pub fn undo(&mut self, model: &[u8]) -> Result<(), Refusal>
+        ensures performed { Promise model.now Undo (store_in self.old) (answered (seen_as (λ _. done) result) (store_in self.new)) }
+        ensures same { SameCells self.old self.new }
+    {
+        // A part that is only read beside others that are lent to be changed is named first, here and below: no rule covers it else.
+        let history = &mut *self.history;
+        undo(model, self.values, self.marks, history, self.n)
     }
 
     // The marks call, into the buffer. Not by `run`, which borrows the buffer too.
     pub fn copy_marks(&mut self, model: &[u8]) -> Result<(), Refusal>
-        ensures copied { MarksPromise model.now (store_in self.old).run self.old.buffer.now result self.new.buffer.now }
-        ensures run { (store_in self.new).run ≡ (store_in self.old).run }
+        ensures performed { Promise model.now Marks (store_in self.old) (answered (seen_as (λ _. done) result) (store_in self.new)) }
         ensures same { SameCells self.old self.new }
     {
         let values = &mut *self.values;
         let marks = &mut *self.marks;
         let history = &mut *self.history;
-        let run = Run {
-            values,
-            marks,
-            history,
-            count: self.n,
-        };
-        let buffer = &mut *self.buffer;
-        self::marks(model, &run, buffer)
+        let n = *self.n;
+        self::marks(model, &Run::new(values, marks, history, n), self.buffer)
     }
 }
 
@@ -83,6 +113,7 @@ pub fn check(model: &[u8]) -> Result<Sizes, Refusal>
 }
 
 // States initial, then the assertion; n = 0, and the marks of the guards. The history is not lent.
+// Here and in the next two the slices are lent one by one, as C lends them.
 pub fn start(
     model: &[u8],
     values: &mut [i32],
@@ -95,7 +126,7 @@ pub fn start(
     let mut run = MovingRun {
         values,
         marks,
-        history: &[0u8; 0],
+        history: &[],
         count: 0,
     };
     let rounds = advancing::advance(model, &mut run, Move::Start)?;
@@ -184,20 +215,14 @@ pub fn perform(call: Call, model: &[u8], store: &mut Store<'_>) -> Result<Answer
     ensures performed { PerformPromise model.now call (store_in store.old) result (store_in store.new) }
     ensures same { SameCells store.old store.new }
 {
-    let values = &mut *store.values;
-    let marks = &mut *store.marks;
-    let history = &mut *store.history;
-    let n = &mut store.n;
     match call {
         Call::Check => check(model).map(Answer::Sizes),
-        Call::Start => start(model, values, marks, n).map(Answer::Rounds),
-        Call::Fire(transition) => {
-            fire(model, values, marks, history, n, transition).map(Answer::Rounds)
-        }
-        Call::Undo => undo(model, values, marks, history, n).map(|()| Answer::Done),
+        Call::Start => store.start(model).map(Answer::Rounds),
+        Call::Fire(transition) => store.fire(model, transition).map(Answer::Rounds),
+        Call::Undo => store.undo(model).map(|()| Answer::Done),
         Call::Marks => store.copy_marks(model).map(|()| Answer::Done),
         Call::Value(variable) => value(model, &store.run(), variable).map(Answer::Number),
         Call::Pick => pick(model, &store.run()).map(Answer::Picked),
-        Call::FirstOutside => first_outside(model, values).map(Answer::Outside),
+        Call::FirstOutside => first_outside(model, store.run().values).map(Answer::Outside),
     }
 }

@@ -2,11 +2,12 @@
 use mathlib.Core.Path.{◌≡◌, refl, sym, ap, ◌∙◌}
 use mathlib.Core.Bool.{Bool, true, false, cond, ◌&&◌}
 use mathlib.Core.List.{List, [], ◌∷◌}
-use Prim.Native.Nat.{ℕ, ◌≤◌, ◌<◌}
+use Prim.Native.Nat.{ℕ, ◌-◌, ◌≤◌, ◌<◌}
 use native.Mathlib.Omega.{arith}
 use borrow.Author.Tests.{leb-true, le-leb, lt-leb, ne_eqb}
 use lib.Dec.{T, leb, ltb, ltb→lt}
-use lib.ListN.{length}
+use lib.ListN.{length, take, drop, length-drop, get_or}
+use lib.Seq.{take_all}
 use Rattle.std.specs.Prelude.{Option, Some, None, MatchOption, unwrap_or}
 use Rattle.std.proofs.lemmas.Option.{MatchOption-at_some, MatchOption-at_none}
 use Rattle.ascii.specs.Ascii.{same, is_digit, are_digits, value_of}
@@ -24,20 +25,42 @@ unfolding held token_of other_token token_among fixed_words is_numeral are_digit
 empty_meaning [] e = refl
 empty_meaning (b ∷ t) e = absurd (omega arith)
 
+-- a first byte and the rest
+pub first_rest : (w : List ℕ) → 0 < length w → w ≡ get_or w 0 0 ∷ drop 1 w
+first_rest [] h = absurd (omega arith)
+first_rest (b ∷ t) h = refl
+
+pub digit_byte : (b : ℕ) → 48 ≤ b → b ≤ 57 → is_digit b ≡ true
+digit_byte b h k = rw (le-leb 48 b h, le-leb b 57 k)
+
+pub other_byte : (b : ℕ) → (48 ≤ b → b ≤ 57 → ⊥) → is_digit b ≡ false
+other_byte b n = by (leb 48 b) (leb b 57) refl refl
+  where
+    by : (s t : Bool) → leb 48 b ≡ s → leb b 57 ≡ t → (s && t) ≡ false
+    by true true e f = absurd (n (leb-true 48 b e) (leb-true b 57 f))
+    by true false e f = refl
+    by false t e f = refl
+
 -- ---- `v`, 118
 
 v_token : (t : List ℕ) → token_of (118 ∷ t) ≡ cond (is_numeral t) (Variable (value_of t)) Unknown
 unfolding token_of other_token token_among fixed_words is_numeral are_digits same
 v_token t = refl
 
-pub variable_meaning : {w : List ℕ} {b : ℕ} {t : List ℕ} → w ≡ b ∷ t → b ≡ 118 → {o : Option ℕ} {r : Token} → o ≡ numeral_of t
+variable_token : {w : List ℕ} {b : ℕ} {t : List ℕ} → w ≡ b ∷ t → b ≡ 118 → {o : Option ℕ} {r : Token} → o ≡ numeral_of t
     → MatchOption o (r ≡ Unknown) (λ x. r ≡ Variable x) → r ≡ held (token_of w)
 unfolding held numeral_of
-variable_meaning {t = t} is v {o} {r} e m = rw (is, v, v_token t) (by (is_numeral t) e)
+variable_token {t = t} is v {o} {r} e m = rw (is, v, v_token t) (by (is_numeral t) e)
   where
     by : (b : Bool) → o ≡ cond b (Some (capped (value_of t))) None → r ≡ held (cond b (Variable (value_of t)) Unknown)
     by true f = MatchOption-at_some (r ≡ Unknown) (λ x. r ≡ Variable x) (capped (value_of t)) f m
     by false f = MatchOption-at_none (r ≡ Unknown) (λ x. r ≡ Variable x) f m
+
+-- the bytes after it, as a part of the slice
+pub variable_meaning : (w : List ℕ) → 0 < length w → get_or w 0 0 ≡ 118 → {o : Option ℕ} {r : Token} → o ≡ numeral_of (take (length w - 1) (drop 1 w))
+    → MatchOption o (r ≡ Unknown) (λ x. r ≡ Variable x) → r ≡ held (token_of w)
+variable_meaning w h v e m =
+    variable_token (first_rest w h) v (e ∙ ap numeral_of (take_all (length w - 1) (drop 1 w) (omega (arith, length-drop 1 w)))) m
 
 -- ---- a digit
 

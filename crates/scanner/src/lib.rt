@@ -52,30 +52,25 @@ fn fixed_token(word: &[u8]) -> Option<Token>
 fn numeral(digits: &[u8]) -> Option<u32>
     ensures { result ≡ numeral_of digits.now }
 {
-    let (first, rest) = digits.split_first()?;
-    if *first == b'0' && !rest.is_empty() {
-        return None;
+    match digits {
+        [] | [b'0', _, ..] => None,
+        _ => ascii::number(digits),
     }
-    ascii::number(digits)
 }
 
 // What a word means. Those with a meaning of their own begin neither with a digit nor with `v`.
 fn meaning(word: &[u8]) -> Token
     ensures { result ≡ held (token_of word.now) }
 {
-    let Some((first, rest)) = word.split_first() else {
-        return Token::Unknown;
-    };
-    if *first == b'v' {
-        return numeral(rest).map_or(Token::Unknown, Token::Variable);
-    }
-    if first.is_ascii_digit() {
-        return match numeral(word) {
+    match word {
+        [] => Token::Unknown,
+        [b'v', rest @ ..] => numeral(rest).map_or(Token::Unknown, Token::Variable),
+        [b'0'..=b'9', ..] => match numeral(word) {
             Some(number) if number <= GREATEST => Token::Number(number),
             _ => Token::Unknown,
-        };
+        },
+        _ => fixed_token(word).unwrap_or(Token::Unknown),
     }
-    fixed_token(word).unwrap_or(Token::Unknown)
 }
 
 // How many spaces a text begins with.

@@ -24,11 +24,6 @@ or_mono true b c d f g h = rw (f refl)
 or_mono false b true d f g h = refl
 or_mono false b false d f g h = g h
 
-or_inner : (a b c d : Bool) → (a || b || (c || d)) ≡ (a || c || (b || d))
-or_inner true b c d = refl
-or_inner false true c d = sym (or-true c)
-or_inner false false c d = refl
-
 module _ {A : Type 0} where
   pub any_append : (p : A → Bool) (l m : List A) → any p (l ++ m) ≡ (any p l || any p m)
   unfolding any

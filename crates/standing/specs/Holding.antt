@@ -10,6 +10,7 @@ use Rattle.results.specs.declared.refusal.Refusal.TheVariants.{ShortValues, Shor
 use Rattle.semantics.specs.Meanings.{Meaning}
 use Rattle.standing.specs.declared.Declared.{Declared}
 use Rattle.standing.specs.Runs.{Run}
+use Rattle.tables.specs.declared.Tables.{Tables}
 use Rattle.variables.specs.declared.VariableRow.{VariableRow}
 
 -- 9 "values slice under S+F"
@@ -65,6 +66,10 @@ holds m r = holds_over m.transitions m.declarations r
 -- the variable with the ends and the first value of a row; its sort, which nothing here asks, is not in the row
 abbrev pub ends_of : VariableRow → Variable
 ends_of row = record { sort = Number; low = row.low; high = row.high; first = row.first }
+
+-- what the tables of a decoded model declare
+abbrev pub declared_by : Tables → Declared
+declared_by t = record { transitions = length t.guards.now; variables = t.variables }
 
 -- 20 as a whole, over what is declared
 abbrev pub holds_declared : Declared → Run → Bool

@@ -5,9 +5,10 @@
 ghost use Rattle.std.specs.Prelude.{◌≡◌, ◌<◌, ℕ, true, false, IfSome, IfOk, IfErr, map, length};
 ghost use Rattle.results.specs.declared.refusal.Refusal.TheVariants.{InvalidRun};
 ghost use Rattle.standing.specs.Runs.{run, run_in, moving_run};
-ghost use Rattle.standing.specs.Holding.{ends_of, first_outside, looked_at, all_below, history_holds, marks_within, holds_declared, IsEnough, IsShort};
+ghost use Rattle.standing.specs.Holding.{ends_of, first_outside, looked_at, all_below, history_holds, marks_within, holds_declared, IsEnough, IsShort, declared_by};
 
 use results::Refusal;
+use tables::Tables;
 use variables::VariableRow;
 
 // How many marks there are: 0, 1 and 2.
@@ -36,6 +37,18 @@ pub struct MovingRun<'a> {
 pub struct Declared<'a> {
     pub transitions: usize,
     pub variables: &'a [VariableRow],
+}
+
+impl<'a> From<&Tables<'a>> for Declared<'a> {
+    ghost from_gives = { λ tables declared. declared ≡ declared_by tables.now };
+
+    // What the tables of a decoded model declare.
+    fn from(tables: &Tables<'a>) -> Declared<'a> {
+        Declared {
+            transitions: tables.guards.len(),
+            variables: tables.variables,
+        }
+    }
 }
 
 // What a check of values found: the first variable outside its ends or none, and how many values it looked at.
@@ -75,7 +88,7 @@ pub fn check_ranges(variables: &[VariableRow], values: &[i32]) -> RangeCheck
     }
 }
 
-// Is each number below the bound: bytes, or numbers as wide as they come.
+// Is the number of each cell below the bound? A cell is a byte or a wider number; in the clause `number` tells each cell's.
 pub fn all_below<T: Copy + Into<usize>>(bound: usize, cells: &[T]) -> bool
     ensures { (number : T → ℕ) → ((cell : T) (n : ℕ) → T.converts cell n → n ≡ number cell)
         → result ≡ all_below bound (map number cells.now) }
@@ -84,7 +97,7 @@ pub fn all_below<T: Copy + Into<usize>>(bound: usize, cells: &[T]) -> bool
 }
 
 impl<'a> Run<'a> {
-    // The run of these slices and this count.
+    // The run of these slices and this count, one by one, as C lends them.
     pub fn new(values: &'a [i32], marks: &'a [u8], history: &'a [u8], count: usize) -> Run<'a>
         ensures { run_in result ≡ run values.now marks.now history.now count }
     {

@@ -3,24 +3,26 @@ use mathlib.Core.Path.{◌≡◌, refl, sym, ap, ◌∙◌}
 use mathlib.Core.Bool.{true, false, true≢false, ◌&&◌}
 use mathlib.Core.List.{List}
 use mathlib.Core.Option.{Option, some, none}
-use Prim.Native.Nat.{ℕ, ◌+◌}
+use Prim.Native.Nat.{ℕ, ◌+◌, ◌≤◌}
 use lib.IntN.{ℤ}
-use lib.ListN.{length, take, length-map}
-use Rattle.results.specs.Results.{Answered, answered, over}
+use native.Mathlib.Omega.{arith}
+use lib.ListN.{length, take, replicate, length-replicate}
+use lib.Seq.{length-take-le}
+use Rattle.results.specs.Results.{Answered, answered}
 use Rattle.kinds.specs.declared.Sort.{Sort}
+use Rattle.kinds.specs.declared.Sort.TheVariants.{Boolean}
 use Rattle.model.specs.declared.Model.{Model}
-use Rattle.model.specs.Trees.{Variable, Transition, System, variables, sorts_of}
+use Rattle.model.specs.declared.Sizes.{Sizes}
+use Rattle.model.specs.Trees.{Transition, System, sorts_of}
 use Rattle.model.specs.Sizes.{byte_layout}
-use Rattle.model.specs.Walk.{row_at, variable_at}
 use Rattle.model.specs.Check.{verdict, parameters_in}
 use Rattle.standing.specs.Holding.{all_below}
 use Rattle.std.proofs.Common.{Result, Err}
 use Rattle.results.specs.declared.refusal.Refusal.{Refusal}
 use Rattle.tables.specs.declared.Tables.{Tables}
 use Rattle.decoding.specs.Decoding.{Arrays, LentOf, VariablesRead, prepared_by}
-use Rattle.decoding.proofs.Decoded.{decoded_variables}
 use Rattle.decoding.proofs.Preparing.{variables_read}
-use Rattle.decoding.proofs.InUse.{InUse, take_over, refused_verdict}
+use Rattle.decoding.proofs.InUse.{InUse, refused_verdict}
 use Rattle.steps.proofs.Parts.{loaded_lent}
 use Rattle.results.specs.declared.refusal.Refusal.TheVariants.{NoSuchTransition}
 use Rattle.synchronisation.specs.Synchronisations.{members_of, together, is_empty, extended_into, joined_into, synchronised_in, synchronised_by}
@@ -96,24 +98,16 @@ module _ (m : List ℕ) (a : Arrays) (d : Model) (u : InUse m a d) where
   model_accepted ms os old h = h ∙ ap (λ v. synchronised_by v ms os old) (sym u.decoding.checked)
 
   -- the sorts of an accepted model's variables, read off its kinds
-  module _ (t : Tables) (l : LentOf m a d t) (count : ℕ) (e : count ≡ d.sizes.states + d.sizes.flows) where
+  module _ (t : Tables) (l : LentOf m a d t) {count : ℕ} (e : count ≡ d.sizes.states + d.sizes.flows) where
     abbrev declared : VariablesRead t.kinds.now (parameters_in byte_layout d.sizes.nodes m) count
-    declared =
-        let r = variables_read m d.sizes t.kinds.now _ l.kinds refl u.decoding.system u.decoding.checked in
-        record { variables = r.variables; next = r.next; row = ap (λ n. row_at (variable_at t.kinds.now (parameters_in byte_layout d.sizes.nodes m)) n 0) e ∙ r.row }
+    declared = variables_read m d.sizes t.kinds.now _ l.kinds refl e u.decoding.system u.decoding.checked
 
     pub sorts_asked : (ps : List ℤ) × VariablesRead t.kinds.now ps count
     sorts_asked = (parameters_in byte_layout d.sizes.nodes m, declared)
 
-    module _ (old sorts : List Sort) (read : (ps : List ℤ) (r : VariablesRead t.kinds.now ps count) → sorts ≡ over (sorts_of r.variables) old) where
-      abbrev vs : List Variable
-      vs = variables u.decoding.system
+    abbrev pub system_lent : (sorts : List Sort) → ((ps : List ℤ) (r : VariablesRead t.kinds.now ps count) → sorts ≡ sorts_of r.variables) → SystemIn t sorts
+    system_lent sorts read = record { rows = t.variables.now; loaded = loaded_lent m a d u t l; sorts_held = read _ declared }
 
-      sorts_count : length (sorts_of vs) ≡ count
-      sorts_count = length-map vs (λ v. v.sort) ∙ decoded_variables m d _ _ _ _ _ u.decoding ∙ sym e
-
-      pub sorts_held : take count sorts ≡ sorts_of vs
-      sorts_held = ap (take count) (read _ declared) ∙ take_over (sorts_of vs) old count sorts_count
-
-      abbrev pub system_lent : SystemIn t (take count sorts)
-      system_lent = record { rows = t.variables.now; loaded = loaded_lent m a d u t l; sorts_held = sorts_held }
+-- a cell for each variable
+pub cells_cut : (s : Sizes) {k : ℕ} → k ≡ s.states + s.flows → s.states + s.flows ≤ 510 → length (take k (replicate 510 Boolean)) ≡ s.states + s.flows
+cells_cut s {k} e h = length-take-le k (replicate 510 Boolean) (omega (arith, length-replicate 510 Boolean, e, h)) ∙ e

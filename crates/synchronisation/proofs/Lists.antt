@@ -1,8 +1,8 @@
 -- Tests on the lists of members.
-use mathlib.Core.Path.{◌≡◌, refl, sym}
+use mathlib.Core.Path.{◌≡◌, refl, sym, ◌∙◌}
 use mathlib.Core.Bool.{Bool, true, false, true≢false, ◌&&◌}
 use mathlib.Core.List.{List, [], ◌∷◌}
-use Prim.Native.Nat.{ℕ, suc, ◌+◌, ◌≤◌, ◌<◌}
+use Prim.Native.Nat.{ℕ, zero, suc, ◌+◌, ◌≤◌, ◌<◌}
 use native.Mathlib.Omega.{arith}
 use borrow.Author.Tests.{ne_eqb, ltb-true, leb-true}
 use lib.Dec.{eqb, leb, ltb}
@@ -17,6 +17,15 @@ pub is_empty_lem : (l : List ℕ) → eqb (length l) 0 ≡ is_empty l
 unfolding is_empty
 is_empty_lem [] = refl
 is_empty_lem (k ∷ l) = ne_eqb (suc (length l)) 0 (λ e. omega (arith, e))
+
+-- one of them is, or is not
+pub none_left : {n : ℕ} → eqb n 0 ≡ true → n ≡ 0
+none_left {n = zero} e = refl
+none_left {n = suc n} e = absurd (true≢false (sym e ∙ ne_eqb (suc n) 0 (λ z. omega (arith, z))))
+
+pub some_left : {n : ℕ} → eqb n 0 ≡ false → 0 < n
+some_left {n = zero} e = absurd (true≢false e)
+some_left {n = suc n} e = omega arith
 
 -- where they are not, there is a member
 pub a_member : (ms os : List ℕ) → (is_empty ms && is_empty os) ≡ false → 0 < length ms + length os

@@ -61,13 +61,6 @@ part_more {ks' = ks'} {ps' = ps'} {k = k} s e f read put whole =
     ∙ whole
 
 module _ {ks : List ℕ} {ps : List ℤ} (ns : List Node) (from past : ℕ) (b : Between ks ps ns from past) where
-  -- both parts are as long
-  pub part_long : length (between from past ks) ≡ length (between from past ps)
-  part_long =
-      ap length (between_is ks from past ∙ b.kinds)
-      ∙ length-map ns (λ n. n.kind)
-      ∙ sym (ap length (between_is ps from past ∙ b.parameters) ∙ length-map ns (λ n. n.parameter))
-
   -- none is left
   pub part_all : {ks' : List ℕ} {ps' : List ℤ} (s : Sheet) {t : Sheet} → ks' ≡ [] → ps' ≡ []
       → put_columns ks' ps' t ≡ put_columns (between from past ks) (between from past ps) s → t ≡ put_nodes ns s

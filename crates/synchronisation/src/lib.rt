@@ -65,6 +65,7 @@ fn write(
 }
 
 // The new model of members that are there: 36, or its bytes and their number.
+#[tactic(auto, unfolding(crate::specs::Members::may_fit))]
 fn extend(
     tables: &Tables<'_>,
     sorts: &[Sort],
@@ -83,6 +84,7 @@ fn extend(
     let mut kinds = [0u8; nodes::ROOM];
     let mut parameters = [0i32; nodes::ROOM];
     let tables = *tables;
+    // Tapes by literals: with `Tape::new` it is told of each, and no longer seen, that the sheet is blank.
     let mut sheet = Sheet {
         tables,
         kinds: Tape {
@@ -153,12 +155,12 @@ pub fn synchronise(
     let mut arrays = Decoding::BLANK;
     let ready = arrays.prepare(model)?;
     let tables = arrays.tables(model, ready);
-    let count = ready.sizes.variables();
     let mut sorts = [Sort::Boolean; Model::MAX_VARIABLES];
-    decoding::sorts_in(tables.kinds, count, &mut sorts);
+    let sorts = &mut sorts[..ready.sizes.variables()];
+    decoding::sorts_in(tables.kinds, sorts);
     let members = Members {
         mandatory,
         optional,
     };
-    join(&tables, &sorts[..count], &members, out)
+    join(&tables, sorts, &members, out)
 }

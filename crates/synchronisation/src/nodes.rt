@@ -33,23 +33,6 @@ pub struct Sheet<'t, 'a> {
 }
 
 impl Sheet<'_, '_> {
-    // The place of a member's guard.
-    fn guard_at(&self, member: usize) -> usize
-        requires { member < length self.now.tables.guards.now }
-        ensures { result ≡ get_or self.now.tables.guards.now member 0 }
-    {
-        usize::from(self.tables.guards[member])
-    }
-
-    // The place of its action, right after the guard.
-    fn action_at(&self, member: usize) -> usize
-        requires { (member < length self.now.tables.guards.now)
-            × (get_or self.now.tables.guards.now member 0 < length self.now.tables.nexts.now) }
-        ensures { result ≡ get_or self.now.tables.nexts.now (get_or self.now.tables.guards.now member 0) 0 }
-    {
-        usize::from(self.tables.nexts[self.guard_at(member)])
-    }
-
     // Puts a node.
     fn put(&mut self, kind: Kind, parameter: i32)
         ensures nodes { sheet_in self.new ≡ put_nodes (node (code_of kind) parameter ∷ []) (sheet_in self.old) }
@@ -100,12 +83,13 @@ impl Sheet<'_, '_> {
             → sheet_in self.new ≡ put_nodes (nodes_of_expression (nested op t ts)) (sheet_in self.old) }
         ensures same_tables { self.new.tables ≡ self.old.tables }
     {
+        let tables = self.tables;
         let last = members.len() - 1;
         for member in &members[..last] {
             self.put(operator, 0);
-            self.copy_subtree(self.guard_at(*member));
+            self.copy_subtree(tables.guard_at(*member));
         }
-        self.copy_subtree(self.guard_at(members[last]));
+        self.copy_subtree(tables.guard_at(members[last]));
     }
 
     // Puts the guard of the new transition: the mandatory ones' joined by and, or else the optional ones' joined by or.
@@ -116,10 +100,10 @@ impl Sheet<'_, '_> {
             → sheet_in self.new ≡ put_nodes (nodes_of_expression (guard_of ts os)) (sheet_in self.old) }
         ensures same_tables { self.new.tables ≡ self.old.tables }
     {
-        if 0 < members.mandatory.len() {
-            self.join_guards(Kind::Conjunction, members.mandatory);
-        } else {
+        if members.mandatory.is_empty() {
             self.join_guards(Kind::Disjunction, members.optional);
+        } else {
+            self.join_guards(Kind::Conjunction, members.mandatory);
         }
     }
 
@@ -130,8 +114,9 @@ impl Sheet<'_, '_> {
             → sheet_in self.new ≡ put_nodes (nodes_of_all (branches_of ts [])) (sheet_in self.old) }
         ensures same_tables { self.new.tables ≡ self.old.tables }
     {
+        let tables = self.tables;
         for member in members {
-            self.copy_subtree(self.action_at(*member));
+            self.copy_subtree(tables.action_at(*member));
         }
     }
 
@@ -142,10 +127,11 @@ impl Sheet<'_, '_> {
             → sheet_in self.new ≡ put_nodes (nodes_of_all (optional_branches ts)) (sheet_in self.old) }
         ensures same_tables { self.new.tables ≡ self.old.tables }
     {
+        let tables = self.tables;
         for member in members {
             self.put(Kind::IfThen, 0);
-            self.copy_subtree(self.guard_at(*member));
-            self.copy_subtree(self.action_at(*member));
+            self.copy_subtree(tables.guard_at(*member));
+            self.copy_subtree(tables.action_at(*member));
         }
     }
 

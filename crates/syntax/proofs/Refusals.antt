@@ -8,17 +8,12 @@ use borrow.Author.Tests.{eqb-false}
 use lib.Dec.{leb, eqb}
 use lib.IntN.{ℤ}
 use lib.ListN.{length}
-use Rattle.std.specs.Prelude.{◌≢◌, Result, Ok, Err, OnOk, Some, None}
+use Rattle.std.specs.Prelude.{◌≢◌, Result, Ok, Err, Some, None}
 use Rattle.results.specs.declared.refusal.Refusal.{Refusal}
 use Rattle.results.specs.declared.refusal.Refusal.TheVariants.{MissingNode, TooDeep, KindNotAllowed, ParameterNotAllowed}
 use Rattle.syntax.specs.declared.Node.{Node}
 use Rattle.syntax.specs.Nodes.{due_at, checked}
 use Rattle.syntax.specs.Readings.{kind_at, parameter_at, node_at, refusal_at, reading_at}
-
--- what holds anyway holds of an answer
-pub on_ok_always : {T E P : Type 0} (r : Result T E) → P → OnOk r P
-on_ok_always (Ok x) p = p
-on_ok_always (Err e) p = tt
 
 module _ (ks : List ℕ) (ps : List ℤ) (left at : ℕ) where
   -- how a node that is due was read

@@ -8,6 +8,7 @@ ghost use Rattle.std.specs.Int.Signed.{le_z};
 use super::{Cursor, Node, Tree};
 use kinds::{Kind, Place, Sort};
 use results::Refusal;
+use std::ops::Range;
 
 // The parameter without its sign.
 pub fn magnitude(parameter: i32) -> usize
@@ -24,6 +25,7 @@ fn stands_at(kind: u8, place: Place) -> bool
 }
 
 // May the kind stand where an expression of the wanted sort is due. A variable has its own sort, an if-then-else the wanted one.
+#[tactic(auto, unfolding(crate::specs::Readings::expression_allowed))]
 fn expression_allowed(wanted: Option<Sort>, kind: u8) -> bool
     ensures { result ≡ expression_allowed wanted kind }
 {
@@ -45,30 +47,32 @@ impl Node {
     }
 
     // Is the parameter 0 or 1.
+    #[tactic(auto, using(crate::proofs::Parameters::truth_zero, crate::proofs::Parameters::truth_one))]
     fn is_truth(self) -> bool
         ensures { result ≡ is_truth self.parameter }
     {
         self.parameter == 0 || self.parameter == 1
     }
 
-    // Is the parameter a number from `from` up to `past`.
-    fn is_between(self, from: usize, past: usize) -> bool
-        ensures { result ≡ is_target from past self.parameter }
+    // Is the parameter one of these numbers.
+    fn is_among(self, numbers: &Range<usize>) -> bool
+        ensures { result ≡ is_target numbers.now.start numbers.now.end self.parameter }
     {
-        usize::try_from(self.parameter).is_ok_and(|number| from <= number && number < past)
+        usize::try_from(self.parameter).is_ok_and(|number| numbers.contains(&number))
     }
 
     // Is the parameter the number of a variable of the wanted sort.
     fn has_sort(self, sorts: &[Sort], wanted: Option<Sort>) -> bool
         ensures { result ≡ is_of_sort sorts.now wanted self.parameter }
     {
-        if !self.is_between(0, sorts.len()) {
+        let Ok(number) = usize::try_from(self.parameter) else {
             return false;
-        }
-        Some(sorts[self.magnitude()]) == wanted
+        };
+        sorts.get(number).is_some_and(|&sort| Some(sort) == wanted)
     }
 
     // Does the parameter fit an expression: a number, a Boolean, a variable, any other.
+    #[tactic(auto, unfolding(crate::specs::Readings::expression_fits))]
     fn fits_expression(self, sorts: &[Sort], wanted: Option<Sort>) -> bool
         ensures { result ≡ expression_fits sorts.now wanted self.kind self.parameter }
     {
@@ -81,11 +85,12 @@ impl Node {
     }
 
     // Does the parameter fit an instruction: an assignment, a block, any other.
-    fn fits_instruction(self, from: usize, past: usize) -> bool
-        ensures { result ≡ instruction_fits from past self.kind self.parameter }
+    #[tactic(auto, unfolding(crate::specs::Readings::instruction_fits))]
+    fn fits_instruction(self, targets: &Range<usize>) -> bool
+        ensures { result ≡ instruction_fits targets.now.start targets.now.end self.kind self.parameter }
     {
         match Kind::try_from(self.kind) {
-            Ok(Kind::Assignment) => self.is_between(from, past),
+            Ok(Kind::Assignment) => self.is_among(targets),
             Ok(Kind::Block) => 0 <= self.parameter,
             _ => self.parameter == 0,
         }
@@ -106,6 +111,7 @@ impl Node {
     }
 
     // The node, where its kind and its parameter are allowed.
+    #[tactic(auto, unfolding(crate::specs::Nodes::checked))]
     fn checked(self, allowed: bool, fits: bool) -> Result<Node, Refusal>
         ensures { result ≡ checked allowed fits self }
     {
@@ -119,6 +125,7 @@ impl Node {
     }
 }
 
+#[tactic(auto, using(crate::proofs::Refusals::not_due, crate::proofs::Refusals::tested, crate::proofs::Refusals::depth_left), unfolding(crate::specs::Readings::expression_refusal, crate::specs::Readings::instruction_refusal, crate::specs::Readings::variable_refusal, crate::specs::Readings::end_refusal, crate::specs::Readings::transition_refusal))]
 impl Cursor {
     // At the first node (01 names this form).
     pub fn empty() -> Self
@@ -128,18 +135,19 @@ impl Cursor {
     }
 
     // Whatever node is due, with this depth left; a parameter past the end is 0.
+    #[tactic(auto, unfolding(crate::specs::Nodes::due_at, crate::specs::Readings::refusal_at, crate::specs::Readings::reading_at))]
     fn node(self, tree: &Tree, left: usize) -> Result<Node, Refusal>
         ensures { result ≡ due_at tree.now.kinds.now tree.now.parameters.now left self.at }
     {
         let at = self.at;
-        if tree.kinds.len() <= at {
+        let Some(&kind) = tree.kinds.get(at) else {
             return Err(Refusal::MissingNode);
-        }
+        };
         if left == 0 {
             return Err(Refusal::TooDeep);
         }
         Ok(Node {
-            kind: tree.kinds[at],
+            kind,
             parameter: tree.parameters.get(at).copied().unwrap_or(0),
             next: Cursor { at: at + 1 },
         })
@@ -164,20 +172,19 @@ impl Cursor {
         node.checked(allowed, fits)
     }
 
-    // An instruction node whose target is a variable from `from` up to `past`, with this depth left.
+    // An instruction node whose target is one of these variables, with this depth left.
     pub fn instruction_node(
         self,
         tree: &Tree,
-        from: usize,
-        past: usize,
+        targets: &Range<usize>,
         left: usize,
     ) -> Result<Node, Refusal>
-        ensures reading { result ≡ instruction_reading tree.now.kinds.now tree.now.parameters.now from past left self.at }
+        ensures reading { result ≡ instruction_reading tree.now.kinds.now tree.now.parameters.now targets.now.start targets.now.end left self.at }
         ensures depth { OnOk result (0 < left) }
     {
         let node = self.node(tree, left)?;
         let allowed = stands_at(node.kind, Place::Instruction);
-        let fits = node.fits_instruction(from, past);
+        let fits = node.fits_instruction(targets);
         node.checked(allowed, fits)
     }
 
@@ -207,7 +214,7 @@ impl Cursor {
     {
         let node = self.node(tree, 1)?;
         let allowed = stands_at(node.kind, Place::Transition);
-        let fits = node.is_between(0, events);
+        let fits = node.is_among(&(0..events));
         node.checked(allowed, fits)
     }
 }

@@ -3,13 +3,23 @@
 #![tactic(auto)]
 
 ghost use Rattle.std.specs.Prelude.{◌≡◌, ◌+◌, ◌≤◌, leb, length};
-ghost use Rattle.tapes.specs.Tapes.{tape_in, put, put_all};
+ghost use Rattle.tapes.specs.Tapes.{tape, tape_in, put, put_all};
 
 // Cells that are written one after another. Past the last cell nothing is written.
 #[derive(Drop)]
 pub struct Tape<'a, T> {
     pub cells: &'a mut [T],
     pub at: usize,
+}
+
+impl<'a, T> Tape<'a, T> {
+    // The cells, to be written from the first on.
+    pub fn new(cells: &'a mut [T]) -> Tape<'a, T>
+        ensures begun { tape_in result ≡ tape cells.old 0 }
+        ensures same_cells { result.cells.ghost_name ≡ cells.entry.ghost_name }
+    {
+        Tape { cells, at: 0 }
+    }
 }
 
 impl<T: Copy> Tape<'_, T> {
@@ -37,7 +47,8 @@ impl<T: Copy> Tape<'_, T> {
         }
     }
 
-    // Writes items that have room, copied in one.
+    // Writes items that have room, copied in one. A function of its own: where the caller's length is known, so is that of this copy, and a
+    // few bytes are a store; of `items[..items.len().min(room)]` each is a call, and a file takes several times as long to write.
     #[tactic(auto, using(crate::proofs::Tapes::put_part))]
     fn put_fitting(&mut self, items: &[T])
         requires { self.old.at + length items.now ≤ length self.old.cells.now }
@@ -49,7 +60,8 @@ impl<T: Copy> Tape<'_, T> {
         self.at = past;
     }
 
-    // Writes one item into the next cell, if there is one.
+    // Writes one item into the next cell, if there is one. By a test and an index: `get_mut` was tried, and of a slice that it has lent from
+    // a proof knows the length afterwards and no cell.
     #[tactic(auto, using(crate::proofs::Tapes::put_here, crate::proofs::Tapes::put_past))]
     pub fn put_one(&mut self, item: T)
         ensures put { tape_in self.new ≡ put item (tape_in self.old) }

@@ -9,7 +9,6 @@ use borrow.Author.Tests.{le-ltb}
 use lib.Dec.{T}
 use lib.IntN.{ℤ}
 use lib.ListN.{length, length-map}
-use lib.Seq.{length-take-le}
 use Rattle.results.specs.Results.{answered, over}
 use Rattle.model.specs.Trees.{depth_of_expression}
 use Rattle.model.specs.Nodes as nodes
@@ -18,10 +17,9 @@ use Rattle.model.specs.Check.{max_depth}
 use Rattle.grammar.specs.Reading.{phrase_of}
 use Rattle.grammar.proofs.Tests.{passes}
 use Rattle.grammar.proofs.Readings.{reading_exact}
-use Rattle.composition.specs.declared.list.Nodes.{Nodes}
 use Rattle.composition.specs.declared.Part.{Part}
 use Rattle.composition.specs.Typing.{sort_in, variables_below, expression_of}
-use Rattle.composition.specs.Parts.{held, written}
+use Rattle.composition.specs.Parts.{Nodes, held, written}
 use Rattle.parser.specs.Levels.{TextReadAs}
 use Rattle.kinds.specs.declared.Sort.{Sort}
 use Rattle.kinds.specs.Kinds.{code_of}
@@ -60,9 +58,8 @@ module _ (vs : List Sort) (text : List ℕ) (s : Slices) where
                 le-ltb max_depth (depth_of_expression (expression_of vs q.phrase)) (omega (arith, q.holds.depth)),
               )
 
-          counted : cells.count ≡ length own
-          counted =
-              sym (length-take-le cells.count cells.cells (omega (arith, q.room, cells.whole))) ∙ ap length q.holds.nodes ∙ length-map own held
+          counted : length (written cells) ≡ length own
+          counted = ap length q.holds.nodes ∙ length-map own held
 
           -- the kinds and the parameters of the nodes in use
           module _ (few : length vs ≤ 510) where
@@ -82,7 +79,7 @@ module _ (vs : List Sort) (text : List ℕ) (s : Slices) where
           pub text_written : length vs ≤ 510 → part.depth ≤ max_depth → {kinds : List ℕ} {parameters : List ℤ}
               → kinds ≡ over (map (λ n. code_of n.kind) (written cells)) s.kinds
               → parameters ≡ over (map (λ n. n.parameter) (written cells)) s.parameters
-              → answered (Ok cells.count) (slices kinds parameters) ≡ typed_over vs text s
+              → answered (Ok (length (written cells))) (slices kinds parameters) ≡ typed_over vs text s
           unfolding written_into
           text_written few d {kinds} {parameters} k r =
               let ks : kinds ≡ over (map (λ n. n.kind) own) s.kinds = k ∙ ap (λ (l : List ℕ). over l s.kinds) (kinds_own few) in

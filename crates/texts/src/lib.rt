@@ -8,7 +8,7 @@ ghost use Rattle.model.specs.Check.{verdict};
 ghost use Rattle.composition.specs.Parts.{SameCells};
 ghost use Rattle.texts.specs.Texts.{slices, typed_over, typed_in};
 
-use composition::{Cells, Node, Nodes};
+use composition::{Cells, Nodes};
 use kinds::Sort;
 use model::Model;
 use parser::Source;
@@ -37,10 +37,7 @@ fn write_over(text: &[u8], sorts: &[Sort], cells: &mut Cells<'_>) -> Result<usiz
     if cells.parameters.len() < MIN_NODES {
         return Err(Refusal::ShortSlice);
     }
-    let mut nodes = Nodes {
-        cells: [Node::BLANK; MIN_NODES],
-        count: 0,
-    };
+    let mut nodes = Nodes::new();
     let source = Source { text, sorts };
     let part = source.parse(&mut nodes).ok_or(Refusal::NotInGrammar)?;
     if !part.below {
@@ -52,12 +49,12 @@ fn write_over(text: &[u8], sorts: &[Sort], cells: &mut Cells<'_>) -> Result<usiz
     if Model::MAX_DEPTH < usize::from(part.depth) {
         return Err(Refusal::TooLarge);
     }
-    let count = usize::from(nodes.count);
-    cells.write(&nodes.cells[..count]);
-    Ok(count)
+    cells.write(&nodes);
+    Ok(nodes.len())
 }
 
-// The nodes of a text, of either type, at the beginning of the two slices, and how many they are.
+// The nodes of a text, of either type, at the beginning of the two slices, and how many they are. The slices are lent one by one, as C
+// lends them.
 #[tactic(auto, unfolding(crate::specs::Texts::typed_in, decoding::specs::Decoding::variables_after))]
 pub fn write_nodes(
     model: &[u8],

@@ -10,8 +10,7 @@ use native.Mathlib.Nat.{not-suc-le-zero, le_of_suc-le-suc}
 use borrow.Author.Tests.{eq-eqb, ne_eqb, eqb-true, eqb-false}
 use lib.Dec.{eqb}
 use lib.IntN.{ℤ}
-use lib.ListN.{length, get_or, set, get_elem?, drop, length-set}
-use lib.Seq.{drop-set-lt}
+use lib.ListN.{length, get_or, set, get_elem?, length-set}
 use Rattle.evaluation.specs.Numbers.{eq_z}
 use Rattle.evaluation.proofs.Laws.{eq_z_refl, eq_z_true, eq_z_comm}
 use Rattle.model.specs.Trees.{Variable}
@@ -105,14 +104,6 @@ module _ (lows highs : List ℤ) (g : Gathering) where
         by : (c : Optional ℤ) → held ≡ c → length (gather lows highs (gives x v) g).given ≡ length g.given
         by (Some w) e = ap (λ a. length a.given) (gather_held e)
         by None e = ap (λ a. length a.given) (gather_new e) ∙ length-set g.given x (Some v)
-
-    -- the cells from m on, above the variable, stay
-    rest_after : (m : ℕ) → x < m → drop m (gather lows highs (gives x v) g).given ≡ drop m g.given
-    rest_after m h = by held refl
-      where
-        by : (c : Optional ℤ) → held ≡ c → drop m (gather lows highs (gives x v) g).given ≡ drop m g.given
-        by (Some w) e = ap (λ a. drop m a.given) (gather_held e)
-        by None e = ap (λ a. drop m a.given) (gather_new e) ∙ drop-set-lt m g.given x (Some v) h
 
     failed_after : (gather lows highs (gives x v) g).found.failed ≡ g.found.failed
     failed_after = by held refl

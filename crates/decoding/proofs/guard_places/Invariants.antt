@@ -3,4 +3,4 @@ use Rattle.decoding.proofs.StoredGuards.{GuardsStored}
 use Rattle.decoding.proofs.guard_places.Given as goal
 
 abbrev pub invariant-loop-guard : goal.invariant-loop-guard
-invariant-loop-guard l = GuardsStored l.nexts l.count l.from l.guard-index l.at l.guard-items l.initial.guard-items
+invariant-loop-guard l = GuardsStored l.nexts l.from l.guard-index l.at l.guard-items l.initial.guard-items

@@ -4,5 +4,4 @@ use Rattle.decoding.proofs.StoredVariables.{VariablesStored}
 use Rattle.decoding.proofs.read_variables.Given as goal
 
 abbrev pub invariant-loop-row : goal.invariant-loop-row
-invariant-loop-row l =
-    VariablesStored variable_row l.tree.kinds.now l.tree.parameters.now l.count l.row-index l.at l.row-items l.initial.row-items
+invariant-loop-row l = VariablesStored variable_row l.tree.kinds.now l.tree.parameters.now l.row-index l.at l.variables l.initial.variables

@@ -10,4 +10,4 @@ abbrev pub sort : Variable → Sort
 sort v = v.sort
 
 abbrev pub invariant-loop-sort : goal.invariant-loop-sort
-invariant-loop-sort l = (ps : List ℤ) → VariablesStored sort l.kinds ps l.count l.sort-index l.at l.sort-items l.initial.sort-items
+invariant-loop-sort l = (ps : List ℤ) → VariablesStored sort l.kinds ps l.sort-index l.at l.sorts l.initial.sorts

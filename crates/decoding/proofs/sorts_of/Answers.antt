@@ -1,6 +1,9 @@
 -- `sorts_of` meets its contract: the check's refusal with nothing changed, or the sorts by the kinds.
 use mathlib.Core.Path.{◌≡◌, sym, ◌∙◌}
 use native.Mathlib.Omega.{arith}
+use lib.ListN.{length}
+use lib.Seq.{length-take-le}
+use Rattle.std.proofs.Common.{rules}
 use Rattle.model.specs.declared.Sizes.{Sizes}
 use Rattle.std.specs.Prelude.{Ok}
 use Rattle.model.specs.Trees.{sorts_of}
@@ -22,10 +25,9 @@ pub sorts_in-requires : goal.sorts_in-requires
 sorts_in-requires c =
     let sizes : Sizes = c.in_ok-sizes.sizes in
     let answer : answer_of (verdict c.args.model.now) ≡ Ok sizes = sym c.check.ensures ∙ c.in_ok-sizes.was in
-    let fits : Fits sizes = answer_fits _ _ c.shared_slice_known-1.given answer in (
-      rw c.variables.ensures (sorts_asked _ sizes _ c.kinds_of-kinds.ensures answer),
-      omega (arith, fits, c.variables.ensures, c.sorts_in-arg-1.given.0.1),
-    )
+    let fits : Fits sizes = answer_fits _ _ c.type_inv.model answer in
+    let long : length c.args.sorts.now ≡ 510 = search rules in
+    sorts_asked _ sizes _ c.kinds_of-kinds.ensures (length-take-le c.variables.result c.args.sorts.now (omega (arith, fits, c.variables.ensures, long)) ∙ c.variables.ensures) answer
 
 pub returns-in_err-sizes : goal.returns-in_err-sizes
 returns-in_err-sizes c =
@@ -38,6 +40,14 @@ pub returns : goal.returns
 returns c =
     let sizes : Sizes = c.in_ok-sizes.sizes in
     let answer : answer_of (verdict c.args.model.now) ≡ Ok sizes = sym c.check.ensures ∙ c.in_ok-sizes.was in
-    let given = c.args in
-    sorts_read given.model.now given.sorts.now sizes _ c.sorts_in.new.sorts
-    answer c.kinds_of-kinds.ensures (rw c.variables.ensures at c.sorts_in.ensures)
+    let fits : Fits sizes = answer_fits _ _ c.type_inv.model answer in
+    let long : length c.args.sorts.now ≡ 510 = search rules in
+    sorts_read c.args.model.now c.args.sorts.now sizes _ c.sorts_in.new.sorts c.variables.result _ answer c.kinds_of-kinds.ensures c.variables.ensures
+    (length-take-le c.variables.result c.args.sorts.now (omega (arith, fits, c.variables.ensures, long))) c.sorts_in.ensures
+
+pub slice_bounds-sorts_in-end : goal.slice_bounds-sorts_in-end
+slice_bounds-sorts_in-end c =
+    let sizes : Sizes = c.in_ok-sizes.sizes in
+    let answer : answer_of (verdict c.args.model.now) ≡ Ok sizes = sym c.check.ensures ∙ c.in_ok-sizes.was in
+    let fits : Fits sizes = answer_fits _ _ c.type_inv.model answer in
+    omega (arith, fits, c.variables.ensures)

@@ -7,12 +7,15 @@ use Rattle.decoding.proofs.Preparing.{answer_sizes, answer_fits}
 use Rattle.decoding.proofs.VariablesInUse.{kept, stored}
 use Rattle.decoding.proofs.variables_of.Goals as goal
 
+pub invariant_of-file : goal.invariant_of-file
+invariant_of-file c = record { accepted = sym c.check.ensures ∙ c.in_ok-sizes.was }
+
 pub decode_variables-requires : goal.decode_variables-requires
 decode_variables-requires c =
     let accepted = sym c.check.ensures ∙ c.in_ok-sizes.was in
     let few = (answer_sizes _ _ accepted).few in
     let f = answer_fits _ _ c.shared_slice_known-1.given accepted in
-    (accepted, few, omega (arith, c.decode_variables-arg-1.given.0.1))
+    (few, omega (arith, c.decode_variables-arg-1.given.0.1))
 
 pub returns-in_err-sizes : goal.returns-in_err-sizes
 returns-in_err-sizes c =

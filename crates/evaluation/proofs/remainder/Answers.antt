@@ -1,12 +1,10 @@
--- The remainder of two 32-bit numbers fits 64 bits, where it is checked; by 0 it failed.
-use mathlib.Core.Path.{◌∙◌}
+-- By 0 it failed; by another number it fits.
 use lib.Signed.{rem_z}
-use Rattle.evaluation.proofs.Signed.{divided_by_zero, divided_same, remainder_widens}
+use Rattle.evaluation.proofs.Signed.{divided_by_zero, remainder_given}
 use Rattle.evaluation.proofs.remainder.Goals as goal
 
 pub returns-then-y-eq0 : goal.returns-then-y-eq0
 returns-then-y-eq0 c = divided_by_zero rem_z c.args.x c.ranges.y c.if-y-eq0.true
 
 pub returns : goal.returns
-returns c =
-    c.narrowed.ensures ∙ rw (c.from.ensures, c.from-2.ensures) (divided_same remainder_widens c.ranges.x c.ranges.y c.if-y-eq0.false)
+returns c = remainder_given c.ranges.x c.ranges.y c.if-y-eq0.false c.wrapping_rem.ensures

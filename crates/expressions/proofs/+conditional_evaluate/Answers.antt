@@ -39,7 +39,7 @@ evaluate-returns-then-kind-eq-NEGATION t c =
       | evaluate-then-kinds-child-lt-NEGATION w ↦ λ e s. w.first-is ∙ w.leaf-first.ensures e s
       | evaluate-else-kinds-child-lt-NEGATION w ↦ λ e s. w.first-is ∙ w.evaluate-first.ensures e s
     ] in
-    λ e h. negation_given c.args.kinds.now c.args.parameters.now (valuation_of c.args.cells.now) c.args.cursor.at first-told e h c.if-kind-eq-NEGATION.true c.negate-evaluation.ensures
+    λ e h. negation_given c.args.kinds.now c.args.parameters.now (valuation_of c.args.cells.now) c.args.cursor.at first-told e h c.if-kind-eq-NEGATION.true c.negate.ensures
 
 -- what was told of the first child, past the return of a negation
 first_told : (t : ℕ) (c : evaluate-Else-kind-eq-NEGATION t)
@@ -86,4 +86,4 @@ evaluate-returns t c =
       | evaluate-then-kinds-place-lt-NEGATION w ↦ λ e s. w.second-is ∙ w.leaf-second.ensures e s
       | evaluate-else-kinds-place-lt-NEGATION w ↦ λ e s. w.second-is ∙ w.evaluate-second.ensures e s
     ] in
-    λ e h. binary_given c.args.kinds.now c.args.parameters.now (valuation_of c.args.cells.now) c.args.cursor.at first-told second-told e h c.if-kind-lt-NEGATION.false c.if-kind-eq-NEGATION.false c.if-kind-eq-CONDITIONAL.false c.operator_of.ensures c.operate-evaluation.ensures
+    λ e h. binary_given c.args.kinds.now c.args.parameters.now (valuation_of c.args.cells.now) c.args.cursor.at first-told second-told e h c.if-kind-lt-NEGATION.false c.if-kind-eq-NEGATION.false c.if-kind-eq-CONDITIONAL.false c.operator_of-operator.ensures c.operate.ensures

@@ -18,7 +18,7 @@ bounds-kinds-at c = (expression_within c.args.kinds.now c.args.parameters.now c.
 
 pub returns-then-kinds-at-eq-VARIABLE : goal.returns-then-kinds-at-eq-VARIABLE
 returns-then-kinds-at-eq-VARIABLE c = λ e h.
-    variable_given c.args.kinds.now c.args.parameters.now (valuation_of c.args.cells.now) c.args.at (omega arith) e h c.if-kinds-at-eq-VARIABLE.true c.magnitude.ensures c.variable-evaluation.ensures
+    variable_given c.args.kinds.now c.args.parameters.now (valuation_of c.args.cells.now) c.args.at (omega arith) e h c.if-kinds-at-eq-VARIABLE.true c.magnitude.ensures c.variable.ensures
 
 pub returns : goal.returns
 returns c = λ e h.

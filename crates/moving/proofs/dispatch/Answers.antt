@@ -1,13 +1,12 @@
 -- `dispatch` meets its contract: the tests, the move on a copy, and what is stored of it.
-use mathlib.Core.Path.{◌≡◌, refl, sym, ap, ◌∙◌}
+use mathlib.Core.Path.{◌≡◌, sym, ap, ◌∙◌}
 use mathlib.Core.Option.{none}
 use Prim.Native.Nat.{◌≤◌}
 use native.Mathlib.Omega.{arith}
 use lib.IntN.{pos}
 use Rattle.scratch.specs.Blank.{unknown_cell}
-use lib.ListN.{length, take, replicate}
+use lib.ListN.{length, take}
 use lib.Seq.{length-take-le}
-use Rattle.results.specs.Results.{over}
 use Rattle.engine.specs.Lent.{LoadedIn}
 use Rattle.engine.proofs.Counts.{meaning, rows_count, guards_count}
 use Rattle.engine.proofs.Accepted.{loaded_in}
@@ -17,7 +16,7 @@ use Rattle.replaying.proofs.Slices.{meaning_complete}
 use Rattle.steps.specs.Answers.{seen_as, told_by}
 use Rattle.steps.specs.Lent.{refused_before, tested}
 use Rattle.steps.proofs.Declarations.{loaded_declares}
-use Rattle.steps.proofs.StepTests.{step_refused, over_all, passed_enough, passed_room, passed_entries, dispatched}
+use Rattle.steps.proofs.StepTests.{step_refused, passed_enough, passed_room, passed_entries, dispatched}
 use Rattle.std.proofs.lemmas.Result.{err_from_is_err_and}
 use Rattle.moving.proofs.Parts.{part_blank, part_length}
 use Rattle.moving.proofs.dispatch.Goals as goal
@@ -29,22 +28,30 @@ returns-in_err-test-clause-moved g c =
     let p = err_from_is_err_and c.from_residual.result c.from_residual.ensures.1 in
     λ d.
     rw (p.1, p.2) (step_refused (meaning d) lent c.args.step _
-    (sym (ap tested c.in_err-test.was) ∙ c.test.ensures (meaning d) (loaded_declares d refl refl) ∙ ap (refused_before (meaning d) c.args.step) c.shared-lent.ensures))
+    (sym (ap tested c.in_err-test.was) ∙ c.test.ensures (meaning d) (loaded_declares c.args.loaded.now.decoded.tables d c.from.ensures) ∙ ap (refused_before (meaning d) c.args.step) c.shared-lent.ensures))
 
-pub slice_bounds-store-end : goal.slice_bounds-store-end
+pub slice_bounds-copy_from_slice-end : goal.slice_bounds-copy_from_slice-end
 unfolding tested
-slice_bounds-store-end g c =
+slice_bounds-copy_from_slice-end g c =
     let lent : Run = run_in c.shared-lent.result in
     let d = loaded_in c.args.loaded.now.decoded in
-    let passed : none ≡ refused_before (meaning d) c.args.step lent = sym (ap tested c.in_ok-test.was) ∙ c.test.ensures (meaning d) (loaded_declares d refl refl) in
+    let passed : none ≡ refused_before (meaning d) c.args.step lent = sym (ap tested c.in_ok-test.was) ∙ c.test.ensures (meaning d) (loaded_declares c.args.loaded.now.decoded.tables d c.from.ensures) in
     sym (length-take-le _ lent.values (omega (arith, rows_count d, passed_enough (meaning d) lent c.args.step passed)))
+
+pub copy_from_slice-requires : goal.copy_from_slice-requires
+unfolding tested
+copy_from_slice-requires g c =
+    let lent : Run = run_in c.shared-lent.result in
+    let d = loaded_in c.args.loaded.now.decoded in
+    let passed : none ≡ refused_before (meaning d) c.args.step lent = sym (ap tested c.in_ok-test.was) ∙ c.test.ensures (meaning d) (loaded_declares c.args.loaded.now.decoded.tables d c.from.ensures) in
+    part_length (pos 0) _ g.row.VARIABLES c.requires.for_variables ∙ sym (length-take-le _ lent.values (omega (arith, rows_count d, passed_enough (meaning d) lent c.args.step passed)))
 
 pub replay_within-firing-requires : goal.replay_within-firing-requires
 unfolding tested
 replay_within-firing-requires g c =
     let lent : Run = run_in c.shared-lent.result in
     let d = loaded_in c.args.loaded.now.decoded in
-    let passed : none ≡ refused_before (meaning d) c.args.step lent = sym (ap tested c.in_ok-test.was) ∙ c.test.ensures (meaning d) (loaded_declares d refl refl) in
+    let passed : none ≡ refused_before (meaning d) c.args.step lent = sym (ap tested c.in_ok-test.was) ∙ c.test.ensures (meaning d) (loaded_declares c.args.loaded.now.decoded.tables d c.from.ensures) in
     (c.requires, part_blank unknown_cell _ g.row.VARIABLES c.requires.for_variables, passed_entries (meaning d) lent c.args.step passed)
 
 pub conclude-requires : goal.conclude-requires
@@ -53,9 +60,9 @@ conclude-requires g c =
     let lent : Run = moving_run c.args.run.now in
     let d = loaded_in c.args.loaded.now.decoded in
     let passed : none ≡ refused_before (meaning d) c.args.step lent =
-    sym (ap tested c.in_ok-test.was) ∙ c.test.ensures (meaning d) (loaded_declares d refl refl) ∙ ap (refused_before (meaning d) c.args.step) c.shared-lent.ensures in
+    sym (ap tested c.in_ok-test.was) ∙ c.test.ensures (meaning d) (loaded_declares c.args.loaded.now.decoded.tables d c.from.ensures) ∙ ap (refused_before (meaning d) c.args.step) c.shared-lent.ensures in
     let moves = c.replay_within-firing in (
-      moves.auto.values ∙ c.store.auto.to ∙ part_length (pos 0) _ g.row.VARIABLES c.requires.for_variables,
+      moves.auto.values ∙ c.copy_from_slice.auto.self ∙ part_length (pos 0) _ g.row.VARIABLES c.requires.for_variables,
       omega (arith, rows_count d, passed_enough (meaning d) lent c.args.step passed),
       omega (arith, guards_count d, passed_room (meaning d) lent c.args.step passed),
       moves.ensures.blank ∙ part_blank unknown_cell _ g.row.VARIABLES c.requires.for_variables,
@@ -67,18 +74,17 @@ returns-clause-moved g c =
     let lent : Run = moving_run c.args.run.now in
     let rows = c.args.loaded.now.decoded.tables.variables.now in
     let passed : (d : LoadedIn c.args.loaded.now.decoded.tables) → none ≡ refused_before (meaning d) c.args.step lent =
-    λ d. sym (ap tested c.in_ok-test.was) ∙ c.test.ensures (meaning d) (loaded_declares d refl refl) ∙ ap (refused_before (meaning d) c.args.step) c.shared-lent.ensures in
+    λ d. sym (ap tested c.in_ok-test.was) ∙ c.test.ensures (meaning d) (loaded_declares c.args.loaded.now.decoded.tables d c.from.ensures) ∙ ap (refused_before (meaning d) c.args.step) c.shared-lent.ensures in
     let d₀ = loaded_in c.args.loaded.now.decoded in
     let enough : length rows ≤ length lent.values = omega (arith, rows_count d₀, passed_enough (meaning d₀) lent c.args.step (passed d₀)) in
     let moves = c.replay_within-firing in
-    let stored = c.store in
+    let stored = c.copy_from_slice in
     let part = part_length (pos 0) (length rows) g.row.VARIABLES c.requires.for_variables in
-    let size : length moves.new.values ≡ length rows = moves.auto.values ∙ stored.auto.to ∙ part in
-    let copied : stored.new.to ≡ take (length rows) lent.values =
-    stored.ensures ∙ ap (λ (r : Run). over (take (length rows) r.values) (take (length rows) (replicate g.row.VARIABLES (pos 0)))) c.shared-lent.ensures
-    ∙ over_all (take (length rows) lent.values) _ (part ∙ sym (length-take-le (length rows) lent.values enough)) in
+    let size : length moves.new.values ≡ length rows = moves.auto.values ∙ stored.auto.self ∙ part in
+    let copied : stored.new.self ≡ take (length rows) lent.values =
+    stored.ensures.after ∙ ap (λ (r : Run). take (length rows) r.values) c.shared-lent.ensures in
     λ d.
     dispatched (meaning d) lent c.args.step (passed d) (meaning_complete d) moves.result moves.new.values (size ∙ rows_count d)
-    (moves.ensures.moved d ∙ ap (λ (r : Run). moved (meaning d) c.args.step r.history r.count stored.new.to) c.shared-lent.ensures
+    (moves.ensures.moved d ∙ ap (λ (r : Run). moved (meaning d) c.args.step r.history r.count stored.new.self) c.shared-lent.ensures
     ∙ ap (moved (meaning d) c.args.step lent.history lent.count) (copied ∙ ap (λ k. take k lent.values) (rows_count d)))
     (seen_as (told_by c.args.step) c.answer_to.result) c.answer_to.ensures _ c.conclude.ensures.stored _ (c.conclude.ensures.marked d)

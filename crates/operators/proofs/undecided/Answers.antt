@@ -4,8 +4,8 @@ use Rattle.evaluation.specs.Meaning.{agree, is_unknown}
 use Rattle.operators.proofs.Operators.{values_agree, values_differ, failed_undecided}
 use Rattle.operators.proofs.undecided.Goals as goal
 
-pub returns-then-x-y : goal.returns-then-x-y
-returns-then-x-y c =
+pub returns-in-Value-Value : goal.returns-in-Value-Value
+returns-in-Value-Value c =
     values_agree c.args.otherwise (omega arith) (omega arith) c.in-Value-Value.is-0 c.in-Value-Value.is-1 c.if-x-y.true
 
 pub returns-in-Unknown-default : goal.returns-in-Unknown-default
@@ -20,13 +20,13 @@ pub returns-in-Unknown-default-3 : goal.returns-in-Unknown-default-3
 unfolding agree is_unknown
 returns-in-Unknown-default-3 c = rw (c.in-Unknown-default.is-0, c.in-Unknown-default.is-1)
 
-pub returns-else-x-y : goal.returns-else-x-y
-returns-else-x-y c =
+pub returns-in_default : goal.returns-in_default
+returns-in_default c =
     values_differ c.args.otherwise (omega arith) (omega arith) c.in-Value-Value.is-0 c.in-Value-Value.is-1 c.if-x-y.false
 
-pub returns-in_default : goal.returns-in_default
-unfolding agree is_unknown
-returns-in_default c = rw (c.in_default.is-0, c.in_default.is-1)
-
 pub returns-in_default-2 : goal.returns-in_default-2
-returns-in_default-2 c = failed_undecided c.args.otherwise c.args.b c.in_default.is-0 c.in_default.not-Unknown-1
+unfolding agree is_unknown
+returns-in_default-2 c = rw (c.in_default.is-0, c.in_default.is-1)
+
+pub returns-in_default-3 : goal.returns-in_default-3
+returns-in_default-3 c = failed_undecided c.args.otherwise c.args.b c.in_default.is-0 c.in_default.not-Unknown-1

@@ -10,20 +10,23 @@ use Rattle.marking.proofs.MarksWritten.{guard_held}
 use Rattle.inspection.specs.Queries.{pick}
 use Rattle.std.proofs.Common.{arith}
 use Rattle.std.proofs.lemmas.Grind.{common_steps}
-use Rattle.steps.proofs.Declarations.{holds_same}
-use Rattle.picking.proofs.Picking.{declared_by, declares, pick_done, found_here, go_on_lem, found_none, all_marks, marked_true, marked_other}
+use Rattle.steps.proofs.Declarations.{holds_same, loaded_declares}
+use Rattle.picking.proofs.Picking.{as_many, pick_done, found_here, go_on_lem, found_none, all_marks, marked_true, marked_other}
 use Rattle.picking.proofs.pick_loaded.Goals as goal
 
 pub returns-in_err-measure : goal.returns-in_err-measure
 unfolding pick number_of
-returns-in_err-measure c = λ d. grind (arith, common_steps, rows_count d, guards_count d)
+returns-in_err-measure c =
+    let many = as_many c.args.decoded.now.tables c.from-declared.ensures in
+    λ d. grind (arith, common_steps, rows_count d, guards_count d, many.0, many.1)
 
 pub returns-in_err-check : goal.returns-in_err-check
 unfolding pick number_of
 returns-in_err-check c =
+    let many = as_many c.args.decoded.now.tables c.from-declared.ensures in
     λ d.
-    let same = holds_same (declares c.args.decoded.now.tables d) (run_in c.args.run.now) in
-    grind (arith, common_steps, rows_count d, guards_count d, same)
+    let same = holds_same (loaded_declares c.args.decoded.now.tables d c.from-declared.ensures) (run_in c.args.run.now) in
+    grind (arith, common_steps, rows_count d, guards_count d, many.0, many.1, same)
 
 pub returns-then-is_true : goal.returns-then-is_true
 returns-then-is_true c =
@@ -31,23 +34,25 @@ returns-then-is_true c =
     let t = a.decoded.now.tables in
     let loop = c.loop-transition in
     let enough = c.in_ok-measure.ensures.enough in
+    let many = as_many c.args.decoded.now.tables c.from-declared.ensures in
     λ d.
-    pick_done (meaning d) (declared_by t) (declares t d) (run_in a.run.now) enough c.in_ok-check.ensures.held (Some loop.transition)
+    pick_done (meaning d) c.from-declared.result (loaded_declares t d c.from-declared.ensures) (run_in a.run.now) enough c.in_ok-check.ensures.held (Some loop.transition)
     (found_here (meaning d) (take (length a.decoded.now.tables.variables.now) a.run.now.values.now) (length a.decoded.now.tables.guards.now) loop.transition (mark_of c.guard-guard.result)
-    (guard_held d a.run.now.values.now enough.0 _ _ c.requires c.overwrite.ensures
+    (guard_held d a.run.now.values.now (omega (arith, enough.0, many.0)) _ _ c.requires c.overwrite.ensures
     loop.transition c.guard-guard.result (c.guard-guard.ensures d) (mark_of c.guard-guard.result) refl)
-    (loop.invariant d) c.loop-transition-test.true (marked_true _ (sym c.is_true.ensures ∙ c.if-is_true.true))
+    (loop.invariant d) (omega (arith, c.loop-transition-test.true, many.1)) (marked_true _ (sym c.is_true.ensures ∙ c.if-is_true.true))
     ∙ all_marks (meaning d) a.run.now.values.now (length a.decoded.now.tables.variables.now) (length a.decoded.now.tables.guards.now) (rows_count d) (guards_count d))
 
 pub loop-transition-preserved : goal.loop-transition-preserved
 loop-transition-preserved c =
     let a = c.args in
     let loop = c.loop-transition in
+    let many = as_many c.args.decoded.now.tables c.from-declared.ensures in
     λ d.
     go_on_lem (meaning d) (take (length a.decoded.now.tables.variables.now) a.run.now.values.now) (length a.decoded.now.tables.guards.now) loop.transition (mark_of c.guard-guard.result)
-    (guard_held d a.run.now.values.now c.in_ok-measure.ensures.enough.0 _ _ c.requires c.overwrite.ensures
+    (guard_held d a.run.now.values.now (omega (arith, c.in_ok-measure.ensures.enough.0, many.0)) _ _ c.requires c.overwrite.ensures
     loop.transition c.guard-guard.result (c.guard-guard.ensures d) (mark_of c.guard-guard.result) refl)
-    (loop.invariant d) c.loop-transition-test.true (marked_other _ (sym c.is_true.ensures ∙ c.if-is_true.false))
+    (loop.invariant d) (omega (arith, c.loop-transition-test.true, many.1)) (marked_other _ (sym c.is_true.ensures ∙ c.if-is_true.false))
 
 pub returns : goal.returns
 returns c =
@@ -55,7 +60,8 @@ returns c =
     let t = a.decoded.now.tables in
     let loop = c.loop-transition in
     let enough = c.in_ok-measure.ensures.enough in
+    let many = as_many c.args.decoded.now.tables c.from-declared.ensures in
     λ d.
-    pick_done (meaning d) (declared_by t) (declares t d) (run_in a.run.now) enough c.in_ok-check.ensures.held None
-    (found_none (meaning d) (take (length a.decoded.now.tables.variables.now) a.run.now.values.now) (length a.decoded.now.tables.guards.now) loop.transition c.loop-transition-test.false (loop.invariant d)
+    pick_done (meaning d) c.from-declared.result (loaded_declares t d c.from-declared.ensures) (run_in a.run.now) enough c.in_ok-check.ensures.held None
+    (found_none (meaning d) (take (length a.decoded.now.tables.variables.now) a.run.now.values.now) (length a.decoded.now.tables.guards.now) loop.transition (omega (arith, c.loop-transition-test.false, many.1)) (loop.invariant d)
     ∙ all_marks (meaning d) a.run.now.values.now (length a.decoded.now.tables.variables.now) (length a.decoded.now.tables.guards.now) (rows_count d) (guards_count d))

@@ -20,7 +20,8 @@ pub wake_all-requires : goal.wake_all-requires
 wake_all-requires c =
     let t = (when_later c.requires.0.stands c.requires.0.ready c.if-round-eq1.false).turn in
     let y = c.apply in
-    (later_wakes c.requires.0.stands c.requires.0.ready c.if-round-eq1.false y.ensures (nothing_by_default c.default-gathering.result c.default-gathering.ensures) c.requires.1.0, (c.requires.1.0, c.requires.1.1, c.requires.1.2, ap length y.ensures, c.requires.1.4, c.requires.1.5, c.requires.1.6), t.entries, t.ordered)
+    let f = c.requires.1 in
+    ((later_wakes c.requires.0.stands c.requires.0.ready c.if-round-eq1.false y.ensures (nothing_by_default c.default-gathering.result c.default-gathering.ensures) f.0, (f.0, f.1, f.2, ap length y.ensures, f.4, f.5, f.6)), t.entries, t.ordered)
 
 pub returns-clause-turn : goal.returns-clause-turn
 returns-clause-turn c =

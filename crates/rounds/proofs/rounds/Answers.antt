@@ -7,7 +7,7 @@ use native.Mathlib.Omega.{arith}
 use Rattle.interpreter.specs.Gathering.{fault_in}
 use Rattle.reading.proofs.Cells.{same_then}
 use Rattle.rounds.specs.Cells.{ending}
-use Rattle.rounds.proofs.Propagating.{finding_clear, finding_faulty}
+use Rattle.rounds.proofs.Propagating.{finding_clear, finding_faulty, no_fault}
 use Rattle.rounds.proofs.Turning.{turn_falls, turn_stops, turn_rests}
 use Rattle.rounds.proofs.rounds.Goals as goal
 
@@ -16,7 +16,7 @@ loop-fault-smaller c =
     let r = c.read_round in
     let g = r.new.gathering in
     let t = r.ensures.turn c.args.cells.now c.loop-fault.invariant.3 in
-    let clear : fault_in g.found ≡ none = finding_clear (fault_in g.found) (sym c.fault_in.ensures ∙ c.in-Ok.is) in
+    let clear : fault_in g.found ≡ none = finding_clear (fault_in g.found) (sym c.fault_in.ensures ∙ no_fault c.fault_in.result c.in_default.not-Err) in
     let fresh : g.found.fresh ≡ true = c.if-not-gathering.false in
     turn_falls c.requires.0 t clear fresh r.ensures.applied
 
@@ -28,7 +28,7 @@ loop-fault-preserved c =
     let g = r.new.gathering in
     let s = r.ensures.same in
     let t = r.ensures.turn c.args.cells.now v.3 in
-    let clear : fault_in g.found ≡ none = finding_clear (fault_in g.found) (sym c.fault_in.ensures ∙ c.in-Ok.is) in
+    let clear : fault_in g.found ≡ none = finding_clear (fault_in g.found) (sym c.fault_in.ensures ∙ no_fault c.fault_in.result c.in_default.not-Err) in
     let fresh : g.found.fresh ≡ true = c.if-not-gathering.false in (
       same_then v.0 s,
       r.auto.cells ∙ v.1,
@@ -48,7 +48,7 @@ returns-then-not-gathering-clause-reached c =
     let r = c.read_round in
     let g = r.new.gathering in
     let t = r.ensures.turn c.args.cells.now c.loop-fault.invariant.3 in
-    let clear : fault_in g.found ≡ none = finding_clear (fault_in g.found) (sym c.fault_in.ensures ∙ c.in-Ok.is) in
+    let clear : fault_in g.found ≡ none = finding_clear (fault_in g.found) (sym c.fault_in.ensures ∙ no_fault c.fault_in.result c.in_default.not-Err) in
     λ a. rw (c.from.ensures) (turn_rests t a clear c.if-not-gathering.true)
 
 pub returns-in-Err-clause-found : goal.returns-in-Err-clause-found
@@ -57,7 +57,7 @@ returns-in-Err-clause-found c = (sym c.fault_in.ensures ∙ c.in-Err.is, tt)
 
 pub returns-then-not-gathering-clause-found : goal.returns-then-not-gathering-clause-found
 unfolding ending
-returns-then-not-gathering-clause-found c = (sym c.fault_in.ensures ∙ c.in-Ok.is, c.if-not-gathering.true)
+returns-then-not-gathering-clause-found c = (sym c.fault_in.ensures ∙ no_fault c.fault_in.result c.in_default.not-Err, c.if-not-gathering.true)
 
 pub returns-in-Err-clause-counted : goal.returns-in-Err-clause-counted
 returns-in-Err-clause-counted c =

@@ -7,5 +7,5 @@ use Rattle.rounds.proofs.scan.Given as goal
 
 abbrev pub invariant-loop-at : goal.invariant-loop-at
 invariant-loop-at l =
-    SameCells l.initial.gathering l.gathering × StillWakingIn l.tables l.cells l.round l.initial.gathering l.gathering
-    × ((p : ℕ) → l.tables.model.assertion ≤ p → p < l.at → Done l.round l.gathering.waits.now p)
+    SameCells l.initial.gathering l.gathering × StillWakingIn l.reading l.initial.gathering l.gathering
+    × ((p : ℕ) → l.reading.tables.now.model.assertion ≤ p → p < l.at → Done l.reading.round l.gathering.waits.now p)

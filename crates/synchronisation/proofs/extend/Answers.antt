@@ -1,6 +1,5 @@
 -- The sizes, the nodes, then the rest.
 use mathlib.Core.Path.{sym, ◌∙◌}
-use native.Mathlib.Omega.{arith}
 use borrow.Author.Tests.{not-true, not-false}
 use lib.ListN.{length}
 use Rattle.decoding.proofs.InUse.{part_within}
@@ -29,24 +28,6 @@ returns-then-count-gt-MAX_NODES c = λ j held.
     let t = j.loaded.decoded.system in
     not_fitting t (together t.events j.members.mandatory j.members.optional) c.args.out.now
     (nodes_many j (c.put_system.ensures j) c.if-count-gt-MAX_NODES.true)
-
-pub overflow_add-sizes : goal.overflow_add-sizes
-overflow_add-sizes c =
-    let ms = c.args.members.now in
-    omega (
-      arith,
-      may_fit_lem c.args.tables.now.model.sizes (length ms.mandatory.now) (length ms.optional.now)
-          (sym c.may_fit.ensures ∙ not-false _ (not_from_true _ c.if-not-may_fit.false)),
-    )
-
-pub overflow_add-sizes-2 : goal.overflow_add-sizes-2
-overflow_add-sizes-2 c =
-    let ms = c.args.members.now in
-    omega (
-      arith,
-      may_fit_lem c.args.tables.now.model.sizes (length ms.mandatory.now) (length ms.optional.now)
-          (sym c.may_fit.ensures ∙ not-false _ (not_from_true _ c.if-not-may_fit.false)),
-    )
 
 pub slice_bounds-tree-end : goal.slice_bounds-tree-end
 slice_bounds-tree-end c = part_within _ _ (kinds_counted c.requires.0 (c.put_system.ensures c.requires.0) c.if-count-gt-MAX_NODES.false)

@@ -11,6 +11,7 @@ returns-clause-typed c =
     let lent = slices a.cells.now.kinds.now a.cells.now.parameters.now in
     let within : Within a.text.now lent =
     record { short = c.if-text-gt-MAX_TEXT.false; kinds = c.if-cells-lt-MIN_NODES.false; parameters = c.if-cells-lt-MIN_NODES-2.false } in
-    rw c.from-count.ensures (text_written a.sorts.now a.text.now lent within c.parse.new.nodes c.in_ok-part.part (rw c.in_ok-part.ensures.ok_part at c.parse.ensures) c.if-not-part.false
+    rw c.len.ensures.value
+    (text_written a.sorts.now a.text.now lent within c.parse.new.nodes c.in_ok-part.part (rw c.in_ok-part.ensures.ok_part at c.parse.ensures) c.if-not-part.false
     (search rules)
-    c.requires (omega (arith, c.from.ensures, c.if-from-gt-MAX_DEPTH.false)) (rw c.from-count.ensures at c.write.ensures.kinds) (rw c.from-count.ensures at c.write.ensures.parameters))
+    c.requires (omega (arith, c.from.ensures, c.if-from-gt-MAX_DEPTH.false)) (rw c.deref.ensures.0 at c.write.ensures.kinds) (rw c.deref.ensures.0 at c.write.ensures.parameters))

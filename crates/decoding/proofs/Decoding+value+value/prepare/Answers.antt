@@ -6,10 +6,13 @@ use Rattle.std.proofs.lemmas.Result.{err_from_is_err_and}
 use Rattle.decoding.proofs.Preparing.{answer_enough, refused_prepared, ready_prepared}
 use Rattle.decoding.proofs.Decoding+value+value.prepare.Goals as goal
 
+pub invariant_of-file : goal.invariant_of-file
+invariant_of-file c = record { accepted = sym c.check.ensures ∙ c.in_ok-sizes.was }
+
 pub decode-requires : goal.decode-requires
 decode-requires c =
     let accepted = sym c.check.ensures ∙ c.in_ok-sizes.was in
-    (omega arith, (accepted, answer_enough _ _ c.type_inv.model accepted))
+    (omega arith, answer_enough _ _ c.type_inv.model accepted)
 
 pub returns-in_err-sizes-clause-decoded : goal.returns-in_err-sizes-clause-decoded
 returns-in_err-sizes-clause-decoded c =

@@ -15,7 +15,7 @@ returns-clause-buffer_after c =
     let o : length c.args.self.now.out ≡ line_bytes = search rules in
     let v : length c.args.self.now.values ≡ max_variables = search rules in
     let t : length c.args.self.now.buffer ≡ max_transitions = search rules in
-    told s.out s.dimensions (store_of s) o v t (reply c.first.result.now c.args.command (used s)) c.unwrap_or.ensures c.respond_first-written.ensures.buffer_after
+    told s.out s.dimensions (store_of s) o v t (reply c.first.result.now c.args.command (used s)) c.unwrap_or-self.ensures c.respond_first-written.ensures.buffer_after
     ∙ ap (λ m. into s.out (reply m c.args.command (used s))) c.first.ensures
 
 pub returns-clause-length_le_line_bytes : goal.returns-clause-length_le_line_bytes
@@ -26,4 +26,4 @@ returns-clause-length_le_line_bytes c =
     let t : length c.args.self.now.buffer ≡ max_transitions = search rules in
     let r = c.respond_first-written in
     printed_fits s.out (reply c.first.result.now c.args.command (used s)) (r.auto.out ∙ o)
-    (told s.out s.dimensions (store_of s) o v t (reply c.first.result.now c.args.command (used s)) c.unwrap_or.ensures r.ensures.buffer_after)
+    (told s.out s.dimensions (store_of s) o v t (reply c.first.result.now c.args.command (used s)) c.unwrap_or-self.ensures r.ensures.buffer_after)

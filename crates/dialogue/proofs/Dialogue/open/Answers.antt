@@ -16,7 +16,7 @@ returns-clause-buffer_after c =
     let o : length c.args.self.now.out ≡ line_bytes = search rules in
     let v : length c.args.self.now.values ≡ max_variables = search rules in
     let t : length c.args.self.now.buffer ≡ max_transitions = search rules in
-    told s.out d (store_of s) o v t (opening c.first-model.result.now (in_use d (store_of s))) c.unwrap_or.ensures c.open_first-opening.ensures.buffer_after
+    told s.out d (store_of s) o v t (opening c.first-model.result.now (in_use d (store_of s))) c.unwrap_or-self.ensures c.open_first-opening.ensures.buffer_after
     ∙ ap (λ m. into s.out (opening m (in_use d (store_of s)))) c.first-model.ensures
 
 pub returns-clause-length_le_line_bytes : goal.returns-clause-length_le_line_bytes
@@ -28,4 +28,4 @@ returns-clause-length_le_line_bytes c =
     let t : length c.args.self.now.buffer ≡ max_transitions = search rules in
     let r = c.open_first-opening in
     printed_fits s.out (opening c.first-model.result.now (in_use d (store_of s))) (r.auto.out ∙ o)
-    (told s.out d (store_of s) o v t (opening c.first-model.result.now (in_use d (store_of s))) c.unwrap_or.ensures r.ensures.buffer_after)
+    (told s.out d (store_of s) o v t (opening c.first-model.result.now (in_use d (store_of s))) c.unwrap_or-self.ensures r.ensures.buffer_after)

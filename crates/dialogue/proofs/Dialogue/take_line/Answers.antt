@@ -33,5 +33,5 @@ returns-clause-buffer_after c =
     let rest = c.unwrap_or-rest.result.now in
     let left : rest ≡ drop c.args.from c.args.part.now = rest_of c.args.part.now c.args.from c.get.result _ c.get.ensures.lookup c.unwrap_or-rest.ensures refl in
     rw (← left)
-    (ended_into (model_of s) (used s) s.out (kept_of c.keep-2.new.self) c.empty-self.ensures c.answer-length.ensures.buffer_after c.command.ensures
+    (ended_into (model_of s) (used s) s.out (kept_of c.keep-2.new.self) c.empty-self.ensures c.answer.ensures.buffer_after c.command.ensures
     (line_answered (model_of s) rest (kept_of s.line) (used s) (take_all kept_bytes (kept_of s.line) c.keep-2.ensures.fitted) (feed_at rest c.line_feed.ensures c.in-Some.is) c.keep-2.ensures.kept))

@@ -12,10 +12,12 @@ variables-requires c =
     omega (arith, (few_cells c.in-Ok.sizes c.args.model.now (λ i b. (c.shared_slice_known-1.given i).fits) accepts).0)
 
 pub returns-in-Err : goal.returns-in-Err
-returns-in-Err c = record {
-  value = refused_dimensions c.args.bytes (verdict c.args.model.now) (sym c.check.ensures ∙ c.in-Err.is);
-  variables_le_max_variables = (omega arith, omega arith);
-}
+returns-in-Err c =
+    let none = c.default.ensures.1 in
+    rw (none.0, none.1) record {
+      value = refused_dimensions c.args.bytes (verdict c.args.model.now) (sym c.check.ensures ∙ c.in-Err.is);
+      variables_le_max_variables = (omega arith, omega arith);
+    }
 
 pub returns-in-Ok : goal.returns-in-Ok
 returns-in-Ok c =

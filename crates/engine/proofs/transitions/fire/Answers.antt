@@ -1,6 +1,8 @@
 -- Guard and action, then a start from the new states.
 use mathlib.Core.Path.{◌∙◌}
 use Rattle.std.proofs.lemmas.Result.{err_from_is_err_and}
+use Rattle.std.specs.Prelude.{Some, None}
+use mathlib.Core.Path.{refl}
 use Rattle.engine.proofs.Accepted.{loaded_in}
 use Rattle.engine.proofs.Firings.{nothing_known_lem, over_left, over_zeros, fire_entered}
 use Rattle.engine.proofs.transitions.fire.Goals as goal
@@ -19,7 +21,7 @@ returns-in_err-changed-clause-blank c =
       zeros = over_zeros d c.args.transition c.args.values.now c.requires s.result s.new.work.states.now s.ensures.same.states_length (s.ensures.changed d) _ c.in_err-changed.was;
       valuation =
           record {
-            nothing_known = nothing_known_lem d c.args.transition c.args.values.now c.requires s.new.work.cells.now c.forget.new.cells (s.ensures.same.cells_length ∙ c.hold.auto.cells) c.forget.ensures;
+            nothing_known = nothing_known_lem d c.args.transition c.args.values.now c.requires s.new.work.cells.now c.fill.new.self (s.ensures.same.cells_length ∙ c.hold.auto.cells) (c.fill.ensures.after (elim [ None ↦ λ e. refl | Some v ↦ λ e. absurd e ]));
             gathering = s.ensures.blank;
           };
     }

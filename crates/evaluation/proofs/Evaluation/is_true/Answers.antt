@@ -1,25 +1,20 @@
 -- A value is compared by its bits.
-use mathlib.Core.Path.{◌≡◌, refl, sym, ap, ◌∙◌}
-use mathlib.Core.Bool.{false}
-use native.Mathlib.Omega.{arith}
-use lib.IntN.{ℤ}
+use Rattle.std.proofs.Common.{◌≡◌, sym, rules, arith}
 use mir.Syntax.{w32}
-use Rattle.evaluation.specs.declared.Evaluation.{Evaluation}
-use Rattle.evaluation.specs.declared.Evaluation.TheVariants.{Unknown, Failed, Value}
+use mir.Val.{of_z, SFits}
 use Rattle.evaluation.specs.Meaning.{is_true}
-use Rattle.evaluation.proofs.Signed.{same_bits, one_fits}
+use Rattle.evaluation.proofs.Signed.{equal_bits, other_bits, one_fits}
 use Rattle.evaluation.proofs.Evaluation.is_true.Goals as goal
 
--- nothing but a value is true
-no_value : (e : Evaluation) → ((v : ℤ) → e ≡ Value v → ⊥) → false ≡ is_true e
+pub returns-in-Value-eq1 : goal.returns-in-Value-eq1
 unfolding is_true
-no_value Unknown n = refl
-no_value Failed n = refl
-no_value (Value v) n = absurd (n v refl)
-
-pub returns-in-Value : goal.returns-in-Value
-unfolding is_true
-returns-in-Value c = same_bits w32 (record { sfits = omega arith }) one_fits ∙ ap is_true (sym c.in-Value.is)
+returns-in-Value-eq1 c =
+    let b : of_z w32 c.in-Value-eq1.field-0 ≡ 1 = omega arith in
+    rw c.in-Value-eq1.is (sym (equal_bits w32 (record { sfits = omega arith }) one_fits b))
 
 pub returns-in_default : goal.returns-in_default
-returns-in_default c = no_value c.args.self c.in_default.not-Value
+unfolding is_true
+returns-in_default c =
+    let f : SFits w32 c.in_default.field-0 = search rules in
+    let b : of_z w32 c.in_default.field-0 ≡ 1 → ⊥ = search rules in
+    rw c.in_default.is (sym (other_bits w32 f one_fits b))

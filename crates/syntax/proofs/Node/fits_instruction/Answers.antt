@@ -1,22 +1,12 @@
 -- The parameter of an instruction, by its kind.
-use mathlib.Core.Path.{sym}
 use native.Mathlib.Omega.{arith}
 use Rattle.std.proofs.Common.{rules}
 use Rattle.kinds.specs.declared.kind.Kind.TheVariants as kind
 use Rattle.kinds.proofs.Bytes.{other_kind, no_kind}
 use Rattle.syntax.specs.Readings.{instruction_fits}
-use Rattle.syntax.proofs.Parameters.{is_zero, at_least_zero}
+use Rattle.syntax.proofs.Parameters.{is_zero}
 use Rattle.syntax.proofs.Node.fits_instruction.Goals as goal
 use Rattle.syntax.proofs.Node.fits_instruction.Goals.{in_default-via-in-Ok+in_default, in_default-via-in_default}
-
-pub returns-in-Ok-Assignment : goal.returns-in-Ok-Assignment
-unfolding instruction_fits
-returns-in-Ok-Assignment c = rw (sym (rw c.in-Ok-Assignment.field-0-is at c.in-Ok-Assignment.ensures)) (c.is_between.ensures)
-
-pub returns-in-Ok-Block : goal.returns-in-Ok-Block
-unfolding instruction_fits
-returns-in-Ok-Block c =
-    rw (sym (rw c.in-Ok-Block.field-0-is at c.in-Ok-Block.ensures)) (at_least_zero (record { sfits = omega arith }))
 
 pub returns-in_default : goal.returns-in_default
 unfolding instruction_fits

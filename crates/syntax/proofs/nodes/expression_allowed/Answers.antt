@@ -1,12 +1,11 @@
 -- The place of an expression, and the wanted sort.
 use mathlib.Core.Path.{◌≡◌, sym, ap, ◌∙◌}
-use mathlib.Core.Bool.{true, ◌||◌}
-use lib.Dec.{eqb}
+use mathlib.Core.Bool.{true}
 use Rattle.std.proofs.Common.{rules}
 use Rattle.std.specs.Prelude.{Option}
 use Rattle.kinds.specs.declared.kind.Kind.TheVariants as kind
 use Rattle.kinds.specs.declared.Place.TheVariants.{Expression}
-use Rattle.kinds.specs.Kinds.{row_of, code_of}
+use Rattle.kinds.specs.Kinds.{row_of}
 use Rattle.kinds.specs.Sameness.{same_sort}
 use Rattle.kinds.specs.declared.Row.{Row}
 use Rattle.kinds.specs.declared.Sort.{Sort}
@@ -15,17 +14,6 @@ use Rattle.syntax.specs.Readings.{stands_at, expression_allowed}
 use Rattle.syntax.proofs.Parameters.{sorts_equal}
 use Rattle.syntax.proofs.nodes.expression_allowed.Goals as goal
 use Rattle.syntax.proofs.nodes.expression_allowed.Goals.{in_default-via-in-Ok+in_default, in_default-via-in_default}
-
-pub returns-then-not-stands_at : goal.returns-then-not-stands_at
-unfolding expression_allowed
-returns-then-not-stands_at c = rw (sym c.stands_at.ensures ∙ c.if-not-stands_at.true)
-
-pub returns-in-Ok-Variable : goal.returns-in-Ok-Variable
-unfolding expression_allowed
-returns-in-Ok-Variable c =
-    let here : stands_at Expression c.args.kind ≡ true = sym c.stands_at.ensures ∙ c.if-not-stands_at.false in
-    let its : eqb (code_of c.in-Ok-Variable.field-0) 34 || eqb (code_of c.in-Ok-Variable.field-0) 46 ≡ true = search rules in
-    rw (here, ap (λ k. eqb k 34 || eqb k 46) (sym (c.in-Ok-Variable.ensures)) ∙ its)
 
 pub returns-in_default : goal.returns-in_default
 unfolding expression_allowed

@@ -16,5 +16,5 @@ decreases-parts l = 2 * l.left + 1
 -- the outcome of all branches is that of the branches that are left
 abbrev pub invariant-branches-loop : goal.invariant-branches-loop
 invariant-branches-loop l =
-    outcome (branches_at l.self.tree.kinds.now l.self.tree.parameters.now (instruction_at l.self.tree.kinds.now l.self.tree.parameters.now (scope_of l.self.sorts.now l.self.from l.self.past) l.left) l.count l.initial.here.at)
-    ≡ outcome (branches_at l.self.tree.kinds.now l.self.tree.parameters.now (instruction_at l.self.tree.kinds.now l.self.tree.parameters.now (scope_of l.self.sorts.now l.self.from l.self.past) l.left) (l.count - l.counter) l.here.at)
+    outcome (branches_at l.self.tree.kinds.now l.self.tree.parameters.now (instruction_at l.self.tree.kinds.now l.self.tree.parameters.now (scope_of l.self.sorts.now l.self.targets.start l.self.targets.end) l.left) l.count l.initial.here.at)
+    ≡ outcome (branches_at l.self.tree.kinds.now l.self.tree.parameters.now (instruction_at l.self.tree.kinds.now l.self.tree.parameters.now (scope_of l.self.sorts.now l.self.targets.start l.self.targets.end) l.left) (l.count - l.counter) l.here.at)

@@ -6,16 +6,15 @@ use native.Mathlib.Nat.{le_refl}
 use native.Mathlib.Omega.{arith}
 use lib.Dec.{lit≤}
 use lib.ListN.{length}
-use Rattle.grammar.specs.declared.Token.TheVariants.{Not}
 use Rattle.grammar.specs.Phrases.{is_chained}
-use Rattle.grammar.specs.Phrases.Phrase.{enclosed, prefixed, operation, call as callPhrase, conditional as conditionalPhrase}
+use Rattle.grammar.specs.Phrases.Phrase.{enclosed, operation, call as callPhrase, conditional as conditionalPhrase}
 use Rattle.grammar.specs.Reading.{and_then, is_next, after_next, arguments_by, call_by, prefix_by, related_by, whole_by}
 use Rattle.grammar.proofs.Ordinals.{held_relation}
 use Rattle.composition.specs.Parts.{written}
 use Rattle.parser.specs.Levels.{operand_level}
 use Rattle.parser.proofs.Steps.{next_word}
 use Rattle.parser.proofs.Grouping.{readings, chained_ordinal, operand_low, chain_end, chain_other}
-use Rattle.parser.proofs.Places.{further, handed_read, place_next, one_stands, two_stand, three_stand, enclosed_stands, stands_earlier}
+use Rattle.parser.proofs.Places.{further, handed_read, place_next, two_stand, three_stand, enclosed_stands, stands_earlier}
 use Rattle.parser.proofs.Loops.{grouped_ends, grouped_refused, grouped_again}
 use Rattle.parser.proofs.Forms.{reached_as, composed_read}
 use Rattle.parser.proofs.source.Source.+reading.Goals as goal
@@ -51,23 +50,7 @@ call-returns-in_ok-next-in-Open t c =
     (composed_read source (enclosed part.phrase) (grind (arith, readings)) refl
     (enclosed_stands source (stands_earlier source (omega (arith, c.in_ok-word.ensures.after)) part.stands) closing.after closing.within))
 
-pub call-returns-in-Div : goal.call-returns-in-Div
-unfolding call_by
-call-returns-in-Div t c =
-    reached_as c.args.self.now _ _ c.arguments.result (grind (arith, readings)) (omega (arith, c.in_ok-word.ensures.after)) c.arguments.ensures
-
 -- ---- operators that group from the left
-
-pub operand-returns-in_ok-factor-in-Sum : goal.operand-returns-in_ok-factor-in-Sum
-unfolding and_then
-operand-returns-in_ok-factor-in-Sum t c =
-    reached_as c.args.self.now _ _ c.product.result (grind (arith, readings)) (le_refl c.args.at) (c.product.ensures _ _ _ c.in_ok-factor-in-Sum.ensures.stands)
-
-pub operand-returns-in_ok-first-in-Disjunction : goal.operand-returns-in_ok-first-in-Disjunction
-unfolding and_then
-operand-returns-in_ok-first-in-Disjunction t c =
-    reached_as c.args.self.now _ _ c.conjunction.result (grind (arith, readings)) (le_refl c.args.at)
-    (c.conjunction.ensures _ _ _ c.in_ok-first-in-Disjunction.ensures.stands)
 
 pub chain-returns : goal.chain-returns
 chain-returns t c =
@@ -105,17 +88,6 @@ chain-loop-word-preserved t c =
     c.in_ok-right.ensures c.operated-left.ensures.composed c.operated-left.ensures.holds
 
 -- ---- signs
-
-pub signed-returns-then-is_sign : goal.signed-returns-then-is_sign
-unfolding and_then prefix_by
-signed-returns-then-is_sign t c =
-    let source = c.args.self.now in
-    let operand = c.in_ok-operand.ensures in
-    let phrase = prefixed c.in_ok-word.word.token operand.phrase in
-    let made = c.prefixed.ensures in
-    composed_read source phrase (grind (arith, readings)) made.composed.ends
-    (one_stands source phrase c.requires c.in_ok-word.ensures.after operand.stands made.composed
-    (made.holds source.sorts.now operand.phrase (written c.args.nodes.now) operand.stands.holds))
 
 -- no sign: a sum
 pub signed-returns-in_err-term : goal.signed-returns-in_err-term
@@ -156,24 +128,6 @@ relation-returns t c = λ at before p s.
     composed_read source phrase (grind (arith, readings)) made.composed.ends
     (two_stand source c.requires next.after next.within right.stands phrase (le_refl c.in_ok-right.right.next) right.stands.within s made.composed
     (made.holds source.sorts.now p right.phrase before c.args.nodes.now s.holds right.stands.holds))
-
--- ---- not
-
-pub negation-returns-in-Some : goal.negation-returns-in-Some
-unfolding and_then prefix_by
-negation-returns-in-Some t c =
-    let source = c.args.self.now in
-    let operand = c.in_ok-operand.ensures in
-    let phrase = prefixed Not operand.phrase in
-    let made = c.prefixed.ensures in
-    composed_read source phrase (grind (arith, readings)) made.composed.ends
-    (one_stands source phrase c.requires c.in-Some.ensures.after operand.stands made.composed
-    (made.holds source.sorts.now operand.phrase (written c.args.nodes.now) operand.stands.holds))
-
-pub negation-returns : goal.negation-returns
-unfolding and_then
-negation-returns t c =
-    reached_as c.args.self.now _ _ c.relation.result (grind (arith, readings)) (le_refl c.args.at) (c.relation.ensures _ _ _ c.in_ok-first.ensures.stands)
 
 -- ---- the whole
 

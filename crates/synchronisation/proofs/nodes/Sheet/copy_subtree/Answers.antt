@@ -1,5 +1,5 @@
 -- One node after another, or none where nothing has room.
-use mathlib.Core.Path.{◌≡◌, sym, ap, refl, ◌∙◌}
+use mathlib.Core.Path.{◌≡◌, sym, ap, ◌∙◌}
 use borrow.Author.Rules.{rules}
 use borrow.Author.Tests.{leb-true}
 use native.Mathlib.Omega.{arith}
@@ -10,8 +10,8 @@ use Rattle.std.specs.Iterator.Adapters.{zip_first, zip_second}
 use Rattle.std.specs.List.{between}
 use Rattle.std.specs.Slice.Iter.{iter_rest}
 use Rattle.std.proofs.lemmas.Iterator.{empty_from_Zip}
-use Rattle.synchronisation.specs.Members.{sheet_in, Between, put_columns}
-use Rattle.synchronisation.proofs.Sheets.{node_put, nodes_none, part_more, part_long, part_all}
+use Rattle.synchronisation.specs.Members.{sheet_in, put_columns}
+use Rattle.synchronisation.proofs.Sheets.{node_put, nodes_none, part_more, part_all}
 use Rattle.synchronisation.proofs.nodes.Sheet.copy_subtree.Goals as goal
 
 pub returns-then-is_full-2-clause-nodes : goal.returns-then-is_full-2-clause-nodes
@@ -19,14 +19,6 @@ returns-then-is_full-2-clause-nodes c = λ ns between.
     let s = c.args.self.now in
     nodes_none ns (sheet_in s) (leb-true (length s.kinds.cells.now) s.kinds.at (sym c.is_full.ensures ∙ c.if-is_full.true))
     (leb-true (length s.parameters.cells.now) s.parameters.at (sym c.is_full-then-is_full.ensures ∙ c.if-is_full-2.true))
-
-pub loop-kind-init : goal.loop-kind-init
-loop-kind-init c =
-    let t = c.args.self.now.tables in
-    let b : Between t.kinds.now t.parameters.now c.requires.1.0 c.args.place c.from-past.result = rw c.from-past.ensures c.requires.1.1 in
-    let ks : iter_rest (zip_first c.into_iter-kind-iterator.result) ≡ between c.args.place c.from-past.result t.kinds.now = search rules in
-    let ps : iter_rest (zip_second c.into_iter-kind-iterator.result) ≡ between c.args.place c.from-past.result t.parameters.now = search rules in
-    (ap length ks ∙ part_long c.requires.1.0 c.args.place c.from-past.result b ∙ sym (ap length ps), refl, refl)
 
 pub loop-kind-preserved : goal.loop-kind-preserved
 loop-kind-preserved c =

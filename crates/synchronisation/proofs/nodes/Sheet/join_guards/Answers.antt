@@ -17,7 +17,7 @@ guard_at-requires c =
     let i = c.loop-member.member-index in
     let below : i < length ms - 1 = omega (arith, c.loop-member-test.true, length-take (length ms - 1) ms) in
     let r = member_in c.args.self.now.tables ms c.requires.1.0 i (omega (arith, below)) c.requires.1.1 in
-    rw ((c.put.ensures.same_tables ∙ c.loop-member.invariant.0), get_or-take (length ms - 1) ms i 0 below) r.stands.below
+    rw (get_or-take (length ms - 1) ms i 0 below) r.stands.below
 
 pub copy_subtree-requires : goal.copy_subtree-requires
 copy_subtree-requires c =
@@ -47,7 +47,7 @@ pub guard_at-requires-2 : goal.guard_at-requires-2
 guard_at-requires-2 c =
     let ms = c.args.members.now in
     let below : length ms - 1 < length ms = omega (arith, c.requires.0) in
-    rw c.loop-member.invariant.0 (member_in c.args.self.now.tables ms c.requires.1.0 (length ms - 1) below c.requires.1.1).stands.below
+    (member_in c.args.self.now.tables ms c.requires.1.0 (length ms - 1) below c.requires.1.1).stands.below
 
 pub copy_subtree-requires-2 : goal.copy_subtree-requires-2
 copy_subtree-requires-2 c =

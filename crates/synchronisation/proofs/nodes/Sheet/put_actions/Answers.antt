@@ -9,7 +9,7 @@ use Rattle.synchronisation.proofs.nodes.Sheet.put_actions.Goals as goal
 pub action_at-requires : goal.action_at-requires
 action_at-requires c =
     let r = member_in c.args.self.now.tables c.args.members.now c.requires.0 c.loop-member.member-index c.loop-member-test.true c.requires.1 in
-    rw c.loop-member.invariant.0 (r.stands.below, r.stands.guard_within)
+    (r.stands.below, r.stands.guard_within)
 
 pub copy_subtree-requires : goal.copy_subtree-requires
 copy_subtree-requires c =

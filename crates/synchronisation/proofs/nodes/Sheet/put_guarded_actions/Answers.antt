@@ -7,7 +7,7 @@ use Rattle.synchronisation.proofs.Pieces.{member_in, members_long, member_put, m
 use Rattle.synchronisation.proofs.nodes.Sheet.put_guarded_actions.Goals as goal
 
 pub guard_at-requires : goal.guard_at-requires
-guard_at-requires c = rw (c.put.ensures.same_tables ∙ c.loop-member.invariant.0) (member_in c.args.self.now.tables c.args.members.now c.requires.0 c.loop-member.member-index c.loop-member-test.true c.requires.1).stands.below
+guard_at-requires c = (member_in c.args.self.now.tables c.args.members.now c.requires.0 c.loop-member.member-index c.loop-member-test.true c.requires.1).stands.below
 
 pub copy_subtree-requires : goal.copy_subtree-requires
 copy_subtree-requires c =
@@ -17,7 +17,7 @@ copy_subtree-requires c =
 pub action_at-requires : goal.action_at-requires
 action_at-requires c =
     let r = member_in c.args.self.now.tables c.args.members.now c.requires.0 c.loop-member.member-index c.loop-member-test.true c.requires.1 in
-    rw (c.copy_subtree.ensures.same_tables ∙ c.put.ensures.same_tables ∙ c.loop-member.invariant.0) (r.stands.below, r.stands.guard_within)
+    (r.stands.below, r.stands.guard_within)
 
 pub copy_subtree-requires-in-loop-member : goal.copy_subtree-requires-in-loop-member
 copy_subtree-requires-in-loop-member c =
