@@ -3,7 +3,7 @@
  * A model is a file of S states, F flows, E events, T transitions and N nodes, lent as bytes to every call. A run is
  *   values   int32_t, at least S + F of them: states, then flows; a Boolean is 0 or 1
  *   marks    uint8_t, at least T of them: for each transition 1 if its guard is true, 0 false, 2 failed
- *   history  uint8_t, a place for each recorded transition; its length is how many steps can be recorded
+ *   history  uint16_t, a place for each recorded transition; its length is how many steps can be recorded
  *   n        how many are recorded
  * A caller keeps them from one call to the next. Any content will do: a call that cannot go on from it refuses. gts_start
  * fills values and marks and sets n, so they need no initial content; nor does the history.
@@ -19,6 +19,9 @@
  *   mandatory   size_t, numbers of transitions
  *   optional    size_t, likewise
  *   out         uint8_t, for the new model; GTS_MAX_BYTES of them are enough for every model
+ *
+ * gts_rewrite takes no model but an old file, whose sizes S, F, E, T stand in one byte each (6 + 5 N bytes, N at most 4,000),
+ * and writes it as a model. No other call takes an old file.
  *
  * Each call answers 0 and its results, or one of the numbers below, and then nothing that was lent has changed, results
  * included. Cells past those in use are neither looked at nor written, but for place n of the history, which gts_fire
@@ -45,16 +48,20 @@ extern "C" {
  * one of the first T is above 2. gts_marks copies them to `buffer`. 2.1: gts_synchronise. 2.2: an if-then-else whose
  * branches have one and the same value has it whatever its condition is, and under a failed condition it waits for an
  * unknown branch: gts_start, gts_fire and gts_undo accept more, and marks, picks, round counts and the numbers of refusals
- * may be others. 3.0: a call on a run needs more stack (GTS_STACK_BYTES); no call and no answer changed. */
-#define GTS_VERSION_MAJOR 3
+ * may be others. 3.0: a call on a run needs more stack (GTS_STACK_BYTES); no call and no answer changed. 4.0: a model's
+ * sizes S, F, E, T take two bytes each, and a cell of the history is a uint16_t: gts_fire, gts_undo, gts_marks, gts_value and
+ * gts_pick are lent it so. An old file goes through gts_rewrite first. Models may be larger (the GTS_MAX_ constants, 1, 2, 3
+ * and 36), and are refused by 37 too; a call on a run and a join need more stack (GTS_STACK_BYTES, GTS_SYNCHRONISE_STACK_BYTES). */
+#define GTS_VERSION_MAJOR 4
 #define GTS_VERSION_MINOR 0
 
 /* The largest model. */
-#define GTS_MAX_NODES 4000
+#define GTS_MAX_NODES 12000
 #define GTS_MAX_DEPTH 32
-#define GTS_MAX_VARIABLES 510   /* S + F: values of this length are long enough for every model */
-#define GTS_MAX_TRANSITIONS 255 /* T: marks and a buffer of this length are long enough for every model */
-#define GTS_MAX_BYTES 20006     /* 6 + 5 N: no longer file is accepted */
+#define GTS_MAX_VARIABLES 4000   /* S + F: values of this length are long enough for every model */
+#define GTS_MAX_TRANSITIONS 3999 /* T: marks and a buffer of this length are long enough for every model */
+#define GTS_MAX_BYTES 60010      /* 10 + 5 N: no longer file is accepted */
+#define GTS_MAX_OLD_BYTES 20006  /* 6 + 5 N: no longer old file is rewritten */
 
 /* The longest text, in bytes. */
 #define GTS_MAX_TEXT 200
@@ -63,15 +70,16 @@ extern "C" {
 #define GTS_SIZES 5        /* of `sizes`; of `values` it is S + F, of `marks` and `buffer` T, of `history` none */
 #define GTS_TEXT_NODES 400 /* of `kinds` and of `parameters`: no text has more nodes */
 
-/* The stack that a call on a run needs, in bytes: the most that was measured is 90,464 (README), rounded up. Its arrays
- * have fixed sizes, and recursion goes by depth, at most GTS_MAX_DEPTH. */
-#define GTS_STACK_BYTES 98304
+/* The stack that a call on a run, gts_check or gts_rewrite needs, in bytes: the most that was measured is 318,752 (README),
+ * rounded up. A thread whose stack is smaller must not make the call. The arrays have fixed sizes, and recursion goes by
+ * depth, at most GTS_MAX_DEPTH. */
+#define GTS_STACK_BYTES 327680
 
-/* The stack that gts_synchronise needs: the most that was measured is 72,192 (README), rounded up. Recursion goes by depth,
- * at most GTS_MAX_DEPTH. */
-#define GTS_SYNCHRONISE_STACK_BYTES 81920
+/* The stack that gts_synchronise needs: the most that was measured is 196,624 (README), rounded up. Recursion goes by
+ * depth, at most GTS_MAX_DEPTH. */
+#define GTS_SYNCHRONISE_STACK_BYTES 204800
 
-/* The stack that gts_text needs: the most that was measured is 71,960 (README), with room to spare. Recursion goes by parts of a
+/* The stack that gts_text needs: the most that was measured is 75,464 (README), with room to spare. Recursion goes by parts of a
  * text that stand in one another, in at most GTS_MAX_TEXT bytes. */
 #define GTS_TEXT_STACK_BYTES 122880
 
@@ -79,9 +87,10 @@ extern "C" {
 enum gts_refusal {
     GTS_DONE = 0,
     /* the model */
-    GTS_FILE_TOO_SHORT = 1,      /* under 6 bytes */
-    GTS_TOO_MANY_NODES = 2,      /* N above 4,000 */
-    GTS_WRONG_LENGTH = 3,        /* not 6 + 5 N bytes */
+    GTS_FILE_TOO_SHORT = 1,      /* under 10 bytes (an old file: 6) */
+    GTS_TOO_MANY_NODES = 2,      /* N above 12,000 (an old file: 4,000) */
+    GTS_TOO_MANY_VARIABLES = 37, /* S + F above 4,000; tried between 2 and 3 */
+    GTS_WRONG_LENGTH = 3,        /* not 10 + 5 N bytes (an old file: 6 + 5 N) */
     GTS_NODE_MISSING = 4,        /* a node is due past the N-th */
     GTS_TOO_DEEP = 5,            /* depth 33 */
     GTS_KIND_NOT_ALLOWED = 6,    /* a kind is not allowed where it stands */
@@ -89,7 +98,8 @@ enum gts_refusal {
     GTS_NODES_LEFT_OVER = 8,
     /* what is lent */
     GTS_VALUES_TOO_SHORT = 9,    /* under S + F */
-    GTS_SLICE_TOO_SHORT = 10,    /* marks or buffer under T, sizes under GTS_SIZES, kinds or parameters under GTS_TEXT_NODES */
+    GTS_SLICE_TOO_SHORT = 10,    /* marks or buffer under T, sizes under GTS_SIZES, kinds or parameters under GTS_TEXT_NODES,
+                                    or `out` of gts_rewrite shorter than the model */
     GTS_NO_SUCH_TRANSITION = 11, /* T or above; also a member of a list */
     GTS_NO_SUCH_VARIABLE = 12,   /* S + F or above; also one in a text */
     /* the run */
@@ -113,39 +123,39 @@ enum gts_refusal {
     GTS_TEXT_TOO_LONG_OR_DEEP = 34, /* over GTS_MAX_TEXT bytes; or nodes deeper than GTS_MAX_DEPTH, which is tried last */
     /* the new model */
     GTS_NO_MEMBERS = 35,         /* mandatory and optional are both empty */
-    GTS_NEW_MODEL_TOO_LARGE = 36 /* E or T would not fit its byte, N would be above GTS_MAX_NODES, a depth above GTS_MAX_DEPTH, or
+    GTS_NEW_MODEL_TOO_LARGE = 36 /* E or T would be above 65,535, N above GTS_MAX_NODES, a depth above GTS_MAX_DEPTH, or
                                     `out` is shorter than the new model */
 };
 
-/* The sizes S F E T N into the first five cells of `sizes`. Refuses by 1 to 8, 10. */
+/* The sizes S F E T N into the first five cells of `sizes`. Refuses by 1, 2, 37, 3 to 8, 10. */
 uint8_t gts_check(const uint8_t *model, size_t len, uint32_t *sizes, size_t sizes_len);
 
 /* The states take their initial values, then the assertion gives the flows theirs; the marks become those of the guards, n
- * becomes 0. `rounds` is how many rounds the assertion took, at most F + 1. Refuses by 1 to 8, 9, 10, 28 to 30. */
+ * becomes 0. `rounds` is how many rounds the assertion took, at most F + 1. Refuses by 1, 2, 37, 3 to 8, 9, 10, 28 to 30. */
 uint8_t gts_start(const uint8_t *model, size_t len, int32_t *values, size_t values_len, uint8_t *marks, size_t marks_len, size_t *n, size_t *rounds);
 
 /* Guard, action, assertion, then the transition at place n of the history, n one higher; the marks become those of the
- * guards over the new values. Refuses by 1 to 8, 9, 10, 11, 20, 21, 23 to 30. */
-uint8_t gts_fire(const uint8_t *model, size_t len, int32_t *values, size_t values_len, uint8_t *marks, size_t marks_len, uint8_t *history, size_t history_len, size_t *n, size_t transition, size_t *rounds);
+ * guards over the new values. Refuses by 1, 2, 37, 3 to 8, 9, 10, 11, 20, 21, 23 to 30. */
+uint8_t gts_fire(const uint8_t *model, size_t len, int32_t *values, size_t values_len, uint8_t *marks, size_t marks_len, uint16_t *history, size_t history_len, size_t *n, size_t transition, size_t *rounds);
 
 /* The values become those of a start and of the first n - 1 entries of the history fired again, the marks those of the
  * guards over them; n one lower. The values and marks that were there are replaced, not compared.
- * Refuses by 1 to 8, 9, 10, 20, 22, 31. */
-uint8_t gts_undo(const uint8_t *model, size_t len, int32_t *values, size_t values_len, uint8_t *marks, size_t marks_len, const uint8_t *history, size_t history_len, size_t *n);
+ * Refuses by 1, 2, 37, 3 to 8, 9, 10, 20, 22, 31. */
+uint8_t gts_undo(const uint8_t *model, size_t len, int32_t *values, size_t values_len, uint8_t *marks, size_t marks_len, const uint16_t *history, size_t history_len, size_t *n);
 
-/* The first T of the run's marks into the first T cells of `buffer`. Refuses by 1 to 8, 9, 10 (marks or buffer), 20. */
-uint8_t gts_marks(const uint8_t *model, size_t len, const int32_t *values, size_t values_len, const uint8_t *marks, size_t marks_len, const uint8_t *history, size_t history_len, size_t n, uint8_t *buffer, size_t buffer_len);
+/* The first T of the run's marks into the first T cells of `buffer`. Refuses by 1, 2, 37, 3 to 8, 9, 10 (marks or buffer), 20. */
+uint8_t gts_marks(const uint8_t *model, size_t len, const int32_t *values, size_t values_len, const uint8_t *marks, size_t marks_len, const uint16_t *history, size_t history_len, size_t n, uint8_t *buffer, size_t buffer_len);
 
-/* The value of a variable. Refuses by 1 to 8, 9, 10, 12, 20. */
-uint8_t gts_value(const uint8_t *model, size_t len, const int32_t *values, size_t values_len, const uint8_t *marks, size_t marks_len, const uint8_t *history, size_t history_len, size_t n, size_t variable, int32_t *value);
+/* The value of a variable. Refuses by 1, 2, 37, 3 to 8, 9, 10, 12, 20. */
+uint8_t gts_value(const uint8_t *model, size_t len, const int32_t *values, size_t values_len, const uint8_t *marks, size_t marks_len, const uint16_t *history, size_t history_len, size_t n, size_t variable, int32_t *value);
 
 /* The lowest transition whose guard is true: `found` is 1. Where there is none, `found` is 0 and `transition` keeps its
- * content. Refuses by 1 to 8, 9, 10, 20. */
-uint8_t gts_pick(const uint8_t *model, size_t len, const int32_t *values, size_t values_len, const uint8_t *marks, size_t marks_len, const uint8_t *history, size_t history_len, size_t n, size_t *transition, uint8_t *found);
+ * content. Refuses by 1, 2, 37, 3 to 8, 9, 10, 20. */
+uint8_t gts_pick(const uint8_t *model, size_t len, const int32_t *values, size_t values_len, const uint8_t *marks, size_t marks_len, const uint16_t *history, size_t history_len, size_t n, size_t *transition, uint8_t *found);
 
 /* The check of the values behind 20: the first variable whose value is outside its ends, lowest first, goes to `variable`,
  * and `found` is 1. Where all are within, `found` is 0 and `variable` keeps its content. `looked` is how many values were
- * looked at: that variable's number plus one, or S + F. A value outside is the answer and not 20. Refuses by 1 to 8, 9. */
+ * looked at: that variable's number plus one, or S + F. A value outside is the answer and not 20. Refuses by 1, 2, 37, 3 to 8, 9. */
 uint8_t gts_first_outside(const uint8_t *model, size_t len, const int32_t *values, size_t values_len, size_t *variable, uint8_t *found, size_t *looked);
 
 /* The nodes of a text, which is an expression of either type: kinds and parameters as in a model, in prefix order, into
@@ -156,7 +166,7 @@ uint8_t gts_first_outside(const uint8_t *model, size_t len, const int32_t *value
  * operand needs parentheses. So -v0 + v1 is -(v0 + v1), and 1 + -2 is not in the grammar. A word is a longest run of
  * letters and digits, or a longest sign; spaces may stand around words. A minus sign gives 0 minus its operand, a plus
  * sign no node, but it wants a number; a > b and a >= b give b < a and b <= a; != gives not of equal.
- * Refuses by 1 to 8, 34 (too long), 10, 32, 12, 33, 34 (too deep). */
+ * Refuses by 1, 2, 37, 3 to 8, 34 (too long), 10, 32, 12, 33, 34 (too deep). */
 uint8_t gts_text(const uint8_t *model, size_t len, const uint8_t *text, size_t text_len, uint8_t *kinds, size_t kinds_len, int32_t *parameters, size_t parameters_len, size_t *count);
 
 /* The model with one transition more, for events that happen together: number T, under the new event E. Its guard: the
@@ -166,8 +176,12 @@ uint8_t gts_text(const uint8_t *model, size_t len, const uint8_t *text, size_t t
  * their numbers and events, and the assertion stay. The new model goes into the first `new_len` cells of `out`.
  * A run goes on under the new model if its marks have a cell for the new transition, with a mark from 0 to 2 in it. That mark
  * is the guard's once a gts_start, gts_fire or gts_undo is done.
- * Refuses by 1 to 8, 35, 11 (a member of either list), 36. */
+ * Refuses by 1, 2, 37, 3 to 8, 35, 11 (a member of either list), 36. */
 uint8_t gts_synchronise(const uint8_t *model, size_t len, const size_t *mandatory, size_t mandatory_len, const size_t *optional, size_t optional_len, uint8_t *out, size_t out_len, size_t *new_len);
+
+/* An old file as a model: 5 N + 10 bytes into the first `new_len` cells of `out`. It runs as the old file did; GTS_MAX_OLD_BYTES
+ * + 4 cells are enough for every one. Refuses by 1 to 8, by the limits of old files, then 10. */
+uint8_t gts_rewrite(const uint8_t *old, size_t len, uint8_t *out, size_t out_len, size_t *new_len);
 
 #ifdef __cplusplus
 }

@@ -1,29 +1,32 @@
 #!/usr/bin/env python3
 """cases.py: writes the stored cases of the test programs, from the files of bench/cases.
 
-check_cases: checks.txt and the edges below; call_cases: those of CALL_FILES, values.txt, the extremes, the picks, the ranges, the
-held marks and the conditionals below; program_cases: those of PROGRAM_FILES; text_cases: texts.txt; join_cases: joins.txt and the
-edges of joins below. The cases of NAME go to crates/NAME/data/cases and the expected output to crates/NAME/stdout. The byte format
-is described in crates/NAME/src/main.rt.
+check_cases: checks.txt; call_cases: calls.txt and values.txt; program_cases: programs.txt; text_cases: texts.txt; join_cases:
+joins.txt; wide_cases: gtswide.txt; each with the edges below. The models of bench/cases/old are in the old layout: all of them go to
+wide_cases, and those that the old check accepts, or refuses by 3 to 8, are rewritten and keep their answers (see `rewritten_lines`), but for
+joins at the old limits, which are left out, and `f` with 4 or 5 digits. The cases of NAME go to crates/NAME/data/cases and the expected
+output to crates/NAME/stdout. The byte format is described in crates/NAME/src/main.rt.
 """
 import os
+import re
 from collections import namedtuple
 
 ROOT = os.path.dirname(os.path.dirname(os.path.abspath(__file__)))
 BOOLEAN, NUMBER = 1, 2
-CALL_FILES = ['calls.txt', 'earlier_calls.txt', 'joined_calls.txt']
-PROGRAM_FILES = ['programs.txt', 'earlier_programs.txt']
 
 
 def little(number, width):
     return (number % 256 ** width).to_bytes(width, 'little')
 
 
-def model(states, flows, events, transitions, nodes, count=None):
-    """The bytes of a model file; `count` stands in the header in the place of the number of nodes."""
-    n = len(nodes) if count is None else count
-    header = bytes([states, flows, events, transitions]) + little(n, 2)
-    return header + bytes(k for k, _ in nodes) + b''.join(little(p, 4) for _, p in nodes)
+def sizes_of(*sizes):
+    """The bytes of the five sizes."""
+    return b''.join(little(size, 2) for size in sizes)
+
+
+def model(states, flows, events, transitions, nodes):
+    """The bytes of a model file."""
+    return sizes_of(states, flows, events, transitions, len(nodes)) + bytes(k for k, _ in nodes) + b''.join(little(p, 4) for _, p in nodes)
 
 
 def case(part, answer, numbers, body):
@@ -46,17 +49,16 @@ def numbers(words):
     return [int(w) for w in words[2:]]
 
 
-def words_of(path):
-    """The words of each line of a file."""
-    with open(path) as lines:
-        for line in lines:
-            yield line.split()
+def lines_of(name):
+    """The words of each line of a file of bench/cases."""
+    with open(os.path.join(ROOT, 'bench', 'cases', name)) as lines:
+        return [line.split() for line in lines]
 
 
-def stored_checks(path):
+def stored_checks(lines):
     """The cases of checks.txt."""
     cases, file, kinds = [], b'', None
-    for words in words_of(path):
+    for words in lines:
         if words[0] == 'model':
             file, kinds = bytes(numbers(words)), None
         elif words[0] == 'kinds':
@@ -76,6 +78,7 @@ def stored_checks(path):
 
 
 SKIP, TRUE, FLAG = (16, 0), (33, 1), (1, 0)
+OLD_SMALLEST = bytes([0, 0, 0, 0, 1, 0, 16, 0, 0, 0, 0])
 RANGE = [(2, -5), (3, 5), (4, 0)]
 
 
@@ -84,8 +87,8 @@ def accepted(states, flows, events, transitions, nodes):
     return model_case(file, 0, (states, flows, events, transitions, len(nodes)))
 
 
-def refused(answer, states, flows, events, transitions, nodes, count=None):
-    return model_case(model(states, flows, events, transitions, nodes, count), answer)
+def refused(answer, states, flows, events, transitions, nodes):
+    return model_case(model(states, flows, events, transitions, nodes), answer)
 
 
 def guarded(guard):
@@ -111,30 +114,68 @@ def full_tree(depth):
     return [(32, 1)] if depth == 1 else [(41, 0)] + 2 * full_tree(depth - 1)
 
 
+def headers():
+    """Lengths, and sizes alone or before nodes that do not matter: 2 before 37 before 3, and 37 before what the nodes offend."""
+    cases = [model_case(bytes(length), 1) for length in (0, 1, 5, 6, 9)] + [model_case(bytes(10), 4), model_case(bytes(11), 3)]
+    alone = {
+        2: [(0, 0, 0, 0, 12001), (0, 0, 0, 0, 65535), (65535, 0, 0, 0, 12001), (4000, 1, 0, 0, 12001), 5 * (65535,)],
+        37: [
+            (4001, 0, 0, 0, 0), (0, 4001, 0, 0, 0), (4000, 1, 0, 0, 0), (1, 4000, 0, 0, 0), (2001, 2000, 0, 0, 0),
+            (65535, 0, 0, 0, 0), (0, 65535, 0, 0, 0), (65535, 65535, 0, 0, 0), (65535, 1, 0, 0, 0), (32768, 32768, 0, 0, 0),
+            (4001, 0, 0, 0, 12000), (0, 4001, 65535, 65535, 1),
+        ],
+        3: [(0, 0, 0, 0, 12000), (0, 0, 0, 0, 256), (4000, 0, 0, 0, 1), (0, 4000, 0, 0, 12000)],
+        4: [(4000, 0, 0, 0, 0), (0, 4000, 0, 0, 0), (2000, 2000, 65535, 65535, 0), (9, 9, 9, 9, 0)],
+    }
+    cases += [model_case(sizes_of(*sizes), answer) for answer in alone for sizes in alone[answer]]
+    smallest, wide = model(0, 0, 0, 0, [SKIP]), model(4001, 0, 0, 0, [(99, 7)])
+    cases += [model_case(file, 3) for file in (smallest + bytes(1), smallest[:-1], smallest + bytes(5), smallest[:-5], OLD_SMALLEST)]
+    cases += [model_case(file, 37) for file in (wide, wide + bytes(1), wide[:-1], wide + bytes(5))]
+    longest = model(0, 0, 0, 0, [(19, 11999)] + 11999 * [SKIP])
+    return cases + [model_case(longest + bytes(1), 3), model_case(longest[:-1], 3), model_case(longest[:-5], 3)]
+
+
+def largest():
+    """Models at the limits of the sizes, and past them."""
+    flags, free = 4000 * [FLAG], lambda event: [(5, event), TRUE, SKIP]
+    asserted = lambda assertion: (1, 3999, 0, 0, flags + assertion)
+    return [
+        *[accepted(0, 0, events, 0, [SKIP]) for events in (0, 255, 256, 65535)],
+        accepted(255, 255, 255, 0, 510 * [FLAG] + [SKIP]),
+        *[accepted(states, 4000 - states, 0, 0, flags + [SKIP]) for states in (0, 1, 256, 2000, 3999, 4000)],
+        refused(37, 4000, 1, 0, 0, flags + [FLAG, SKIP]),
+        refused(37, 4001, 0, 0, 0, flags + [FLAG, SKIP]),
+        refused(6, 4000, 0, 0, 0, flags[1:] + [SKIP]),
+        accepted(4000, 0, 65535, 2666, flags + 2666 * free(65534) + [SKIP]),
+        accepted(255, 0, 255, 255, 255 * [FLAG] + 255 * free(254) + [SKIP]),
+        *[accepted(0, 0, 1, count, count * free(0) + [SKIP]) for count in (256, 257, 3998)],
+        accepted(0, 0, 65535, 3999, 3999 * free(65534) + [SKIP]),
+        accepted(2, 0, 65535, 3999, 2 * [FLAG] + 3999 * free(65534) + [SKIP]),
+        refused(7, 0, 0, 65535, 3999, 3998 * free(65534) + free(65535) + [SKIP]),
+        refused(7, 0, 0, 256, 1, free(256) + [SKIP]),
+        refused(4, 0, 0, 1, 4000, 4000 * free(0)),
+        *[refused(4, 0, 0, 1, 65535, count * free(0)) for count in (0, 1, 3999, 4000)],
+        refused(6, 0, 0, 1, 65535, 3999 * free(0) + [SKIP]),
+        refused(6, 0, 0, 1, 257, free(0) + [SKIP]),
+        refused(6, 0, 0, 1, 256, 257 * free(0) + [SKIP]),
+        accepted(1, 0, 0, 0, [FLAG, (19, 11998)] + 11998 * [SKIP]),
+        accepted(0, 0, 0, 0, [(19, 11999)] + 11999 * [SKIP]),
+        refused(2, 0, 0, 0, 0, [(19, 12000)] + 12000 * [SKIP]),
+        refused(8, 0, 0, 0, 0, [(19, 11998)] + 11999 * [SKIP]),
+        accepted(0, 0, 0, 0, 30 * [(19, 1)] + [(19, 11969)] + 11969 * [SKIP]),
+        refused(5, 0, 0, 0, 0, 31 * [(19, 1)] + [(19, 11968)] + 11968 * [SKIP]),
+        *[accepted(*asserted([(17, flow), (34, read)])) for flow, read in ((1, 3999), (256, 255), (3999, 0))],
+        *[refused(7, *asserted([(17, flow), (34, read)])) for flow, read in ((0, 1), (4000, 0), (1, 4000), (1, 65536), (65537, 0))],
+    ]
+
+
 def edges():
     """Cases at the edges of document 01's rules, with the answers that they demand."""
     big, negative = 2147483647, -2147483648
     cases = [
-        # sizes and lengths
-        accepted(0, 0, 0, 0, [SKIP]),
-        accepted(0, 0, 255, 0, [SKIP]),
-        accepted(255, 255, 255, 0, 510 * [FLAG] + [SKIP]),
-        accepted(255, 0, 255, 255, 255 * [FLAG] + 255 * [(5, 254), TRUE, SKIP] + [SKIP]),
-        accepted(1, 0, 0, 0, [FLAG, (19, 3998)] + 3998 * [SKIP]),
-        accepted(0, 0, 0, 0, [(19, 3999)] + 3999 * [SKIP]),
-        refused(2, 0, 0, 0, 0, [(19, 4000)] + 4000 * [SKIP]),
-        model_case(bytes([0, 0, 0, 0, 161, 15]), 2),
-        model_case(bytes([0, 0, 0, 0, 255, 255]), 2),
-        model_case(b'', 1),
-        model_case(bytes(5), 1),
-        model_case(bytes(6), 4),
-        model_case(bytes([9, 9, 9, 9, 0, 0]), 4),
-        model_case(bytes(7), 3),
-        model_case(model(0, 0, 0, 0, [SKIP]) + bytes(1), 3),
-        model_case(model(0, 0, 0, 0, [SKIP])[:-1], 3),
         # blocks
         refused(4, 0, 0, 0, 0, [(19, big)]),
-        refused(4, 0, 0, 0, 0, [(19, big)] + 3999 * [SKIP]),
+        refused(4, 0, 0, 0, 0, [(19, big)] + 11999 * [SKIP]),
         refused(4, *acting([(19, big)])),
         refused(6, 0, 0, 1, 2, 2 * [(5, 0), TRUE, (19, big)] + [SKIP]),
         refused(7, 0, 0, 0, 0, [(19, -1)]),
@@ -228,7 +269,7 @@ def edges():
         (0, NUMBER, 31 * [(42, 0), (32, 1)] + [(32, 1)]),
         (5, NUMBER, 32 * [(42, 0), (32, 1)] + [(32, 1)]),
         (4, NUMBER, 31 * [(42, 0), (32, 1)] + [(42, 0)]),
-        (0, NUMBER, full_tree(12)),
+        (0, NUMBER, [(41, 0)] + full_tree(13) + full_tree(12)),
         (8, NUMBER, full_tree(12) + [(32, 1)]),
         (6, BOOLEAN, full_tree(3)),
         (4, BOOLEAN, []),
@@ -248,12 +289,13 @@ def edges():
     cases.append(expression_case([33, 33], [1], none, BOOLEAN, 3))
     # the model's refusal comes first, whatever the expression is
     cases.append(expression_case([33], [1], b'', BOOLEAN, 1))
-    cases.append(expression_case([33], [], bytes(5), BOOLEAN, 1))
-    cases.append(expression_case([33], [], bytes([0, 0, 0, 0, 161, 15]), BOOLEAN, 2))
-    cases.append(expression_case([], [], bytes(6), BOOLEAN, 4))
+    cases.append(expression_case([33], [], bytes(9), BOOLEAN, 1))
+    cases.append(expression_case([33], [], sizes_of(4001, 0, 0, 0, 12001), BOOLEAN, 2))
+    cases.append(expression_case([33], [], sizes_of(4001, 0, 0, 0, 0), BOOLEAN, 37))
+    cases.append(expression_case([], [], bytes(10), BOOLEAN, 4))
     cases.append(expression_case([99], [0], model(1, 0, 0, 0, [(1, 2), SKIP]), BOOLEAN, 7))
     cases.append(expression_case([33], [2], model(0, 0, 0, 0, [SKIP, SKIP]), BOOLEAN, 8))
-    return cases
+    return headers() + largest() + cases
 
 
 CALLS = {'check': 0, 'start': 1, 'fire': 2, 'back': 3, 'marks': 4, 'value': 5, 'pick': 6, 'first_outside': 7}
@@ -265,14 +307,15 @@ Store = namedtuple('Store', 'values marks history n buffer')
 
 
 def store_bytes(store):
-    return b''.join(little(v, 4) for v in store.values) + bytes(store.marks) + bytes(store.history) + bytes(store.buffer)
+    history = b''.join(little(entry, 2) for entry in store.history)
+    return b''.join(little(v, 4) for v in store.values) + bytes(store.marks) + history + bytes(store.buffer)
 
 
 def call_bytes(call, wanted, store):
     """A call, as ('fire', 3), its wanted answer, as ('ok', 2), and the store afterwards."""
-    looked = wanted[-1] if wanted[0] in ('outside', 'within') else 0
+    looked = wanted[-1] if wanted[0] in ('outside', 'within', 'sizes') else 0
     if wanted[0] == 'sizes':
-        number = bytes(wanted[1:5]) + little(wanted[5], 2) + bytes(2)
+        number = sizes_of(*wanted[1:5])
     elif wanted[0] in ('done', 'none', 'within'):
         number = bytes(8)
     else:
@@ -304,10 +347,10 @@ def stored_store(part):
     return Store(part['values'], part['held'], part['record'], part['n'], part['marks'])
 
 
-def stored_calls(path):
-    """The lists of one of CALL_FILES, each with its number of calls."""
+def stored_calls(lines):
+    """The lists of calls.txt, each with its number of calls."""
     lists, part, calls = [], {}, []
-    for words in words_of(path):
+    for words in lines:
         if words[0] == 'call':
             if not calls:
                 begin = stored_store(part)
@@ -331,10 +374,10 @@ def range_check(files, store, wanted):
     return listed(files, store, kept(store, [(('first_outside',), wanted)]))
 
 
-def stored_values(path):
+def stored_values(lines):
     """The cases of values.txt, each a list of one call; nothing but the values is lent to it."""
     lists = []
-    for words in words_of(path):
+    for words in lines:
         if words[0] == 'model':
             file = bytes(numbers(words))
         elif words[0] == 'values':
@@ -383,11 +426,11 @@ def stepped(action, twin, rounds=1, assertion=[SKIP], other=[SKIP], flows=0):
     """A pick that is refused, start, marks, a step, take back twice: the action and its twin give the state 1; every flow becomes 1."""
     head, transition = (1 + flows) * [FLAG], [(5, 0), TRUE]
     files = [model(1, flows, 1, 1, head + transition + a + b) for a, b in ((action, assertion), (twin, other))]
-    store = Store(3 * [7] if flows == 0 else (1 + flows) * [7], [9, 8], [9, 9], 77, [5, 6])
+    store = Store(3 * [7] if flows == 0 else (1 + flows) * [7], [9, 8], [9, 65535], 77, [5, 6])
     rest = flows * [1] + store.values[1 + flows:]
     begun = store._replace(values=[0] + rest, marks=[1, 8], n=0)
     copied = begun._replace(buffer=[1, 6])
-    after = copied._replace(values=[1] + rest, history=[0, 9], n=1)
+    after = copied._replace(values=[1] + rest, history=[0, 65535], n=1)
     back = after._replace(values=[0] + rest, n=0)
     calls = [
         (('pick',), ('no', 20), store),
@@ -446,23 +489,22 @@ def long_history(places):
     return listed((file, file), store, calls)
 
 
-def largest_sizes():
-    """255 states, flows and transitions; each transition raises its state if the one before it is raised."""
-    states, flows = 255 * [FLAG], 255 * [FLAG]
-    actions = []
-    for t in range(255):
-        actions += [(5, 254), (34, t - 1) if t else TRUE, (17, t), TRUE]
-    assigned = [[(17, 255 + i), (34, i)] for i in range(255)]
-    files = [model(255, 255, 255, 255, states + flows + actions + block(order)) for order in (assigned, assigned[::-1])]
-    ones = lambda k: k * [1] + (255 - k) * [0]
+def largest_sizes(count, events):
+    """So many states, flows and transitions; each transition raises its state if the one before it is raised."""
+    variables, actions = 2 * count * [FLAG], []
+    for t in range(count):
+        actions += [(5, events - 1), (34, t - 1) if t else TRUE, (17, t), TRUE]
+    assigned = [[(17, count + i), (34, i)] for i in range(count)]
+    files = [model(count, count, events, count, variables + actions + block(order)) for order in (assigned, assigned[::-1])]
+    ones = lambda k: k * [1] + (count - k) * [0]
     values = lambda k: ones(k) + ones(k) + [-7, 8]
     marks = lambda k: ones(k + 1) + [3, 4]
-    store = Store(510 * [-1] + [-7, 8], 255 * [9] + [3, 4], 300 * [254], 2 ** 64 - 1, 255 * [9] + [5, 6])
+    store = Store(2 * count * [-1] + [-7, 8], count * [9] + [3, 4], 300 * [count - 1], 2 ** 64 - 1, count * [9] + [5, 6])
     left = store._replace(values=values(0), marks=marks(0), n=0)
     calls = [
         (('first_outside',), ('outside', 0, 1), store),
         (('start',), ('ok', 2), left),
-        (('first_outside',), ('within', 510), left),
+        (('first_outside',), ('within', 2 * count), left),
     ]
     left = left._replace(buffer=ones(1) + [5, 6])
     calls.append((('marks',), ('done',), left))
@@ -470,20 +512,96 @@ def largest_sizes():
         history = left.history[:k] + [k] + left.history[k + 1:]
         left = left._replace(values=values(k + 1), marks=marks(k + 1), history=history, n=k + 1)
         calls.append((('fire', k), ('ok', 2), left))
-    calls.append((('fire', 254), ('no', 23), left))
+    calls.append((('fire', count - 1), ('no', 23), left))
     left = left._replace(buffer=ones(4) + [5, 6])
     calls.append((('marks',), ('done',), left))
-    calls += kept(left, [(('pick',), ('pick', 0)), (('value', 257), ('value', 1)), (('value', 510), ('no', 12))])
+    calls += kept(left, [(('pick',), ('pick', 0)), (('value', count + 2), ('value', 1)), (('value', 2 * count), ('no', 12))])
     left = left._replace(values=values(2), marks=marks(2), n=2)
     calls.append((('back',), ('done',), left))
-    calls.append((('check',), ('sizes', 255, 255, 255, 255, 2041), left))
+    calls.append((('check',), ('sizes', count, count, events, count, 8 * count + 1), left))
+    return listed(files, store, calls)
+
+
+def chain_of(flows, nots=0):
+    """Flows from 1 on, each assigned from the next one under so many negations, the last one true."""
+    last = flows - 1
+    return [assignment(1 + i, nots * [(35, 0)] + ([(34, 2 + i)] if i < last else [TRUE])) for i in range(flows)]
+
+
+def longest_chain():
+    """A state and 3,999 flows, each assigned from the next one: 4,000 rounds; no transitions."""
+    chain = chain_of(3999)
+    files = [model(1, 3999, 0, 0, 4000 * [FLAG] + block(order)) for order in (chain, chain[::-1])]
+    store = Store(4000 * [2] + [-7, 8], [9], [65535], 77, [5])
+    begun = store._replace(values=[0] + 3999 * [1] + [-7, 8], n=0)
+    calls = kept(store, [(('check',), ('sizes', 1, 3999, 0, 0, 11999)), (('first_outside',), ('outside', 0, 1))])
+    calls.append((('start',), ('ok', 4000), begun))
+    return listed(files, store, calls + kept(begun, [
+        (('first_outside',), ('within', 4000)), (('value', 3999), ('value', 1)), (('value', 4000), ('no', 12)),
+        (('fire', 0), ('no', 11)), (('pick',), ('none',)), (('back',), ('no', 22)),
+    ]))
+
+
+def most_of_all():
+    """3,999 transitions, of which only the last is fireable: made-up marks are copied, the last one is fired and taken back."""
+    file = model(0, 0, 65535, 3999, 3998 * [(5, 65534), (33, 0), SKIP] + [(5, 0), TRUE, SKIP] + [SKIP])
+    store = Store([7], 3999 * [2] + [9], [65535, 3999, 256], 0, 3999 * [7] + [8])
+    copied = store._replace(buffer=3999 * [2] + [8])
+    fired = copied._replace(marks=3998 * [0] + [1, 9], history=[3998, 3999, 256], n=1)
+    seen = fired._replace(buffer=3998 * [0] + [1, 8])
+    back = seen._replace(n=0)
+    calls = [
+        (('check',), ('sizes', 0, 0, 65535, 3999, 11998), store),
+        (('marks',), ('done',), copied),
+        (('pick',), ('pick', 3998), copied),
+        *kept(copied, [(('fire', t), ('no', 23)) for t in (0, 256, 3997)] + [(('fire', t), ('no', 11)) for t in (3999, 65535, 69534)]),
+        (('fire', 3998), ('ok', 1), fired),
+        (('marks',), ('done',), seen),
+        (('back',), ('done',), back),
+        (('back',), ('no', 22), back),
+    ]
+    return listed((file, file), store, calls)
+
+
+def wide_entries(transitions):
+    """So many transitions, of which the last alone toggles the state; entries at this number and above are no transitions."""
+    free = [(5, 0), TRUE, SKIP]
+    file = model(1, 0, 1, transitions, [FLAG] + (transitions - 1) * free + [(5, 0), TRUE] + TOGGLE + [SKIP])
+    last, ones = transitions - 1, transitions * [1]
+    store = Store([1], ones, [last, 0, 65535], 2, [])
+    once, none = store._replace(n=1), store._replace(values=[0], n=0)
+    again = none._replace(values=[1], n=1)
+    calls = [(('back',), ('done',), once), (('back',), ('done',), none), (('fire', last), ('ok', 1), again)]
+    fired = again._replace(history=[last, 0, 65535], n=2)
+    calls += [(('fire', 0), ('ok', 1), fired), (('fire', transitions), ('no', 11), fired)]
+    lists = [listed((file, file), store, calls)]
+    for history, n, answer in [
+        ([transitions], 1, ('no', 20)), ([65535], 1, ('no', 20)), ([0, transitions], 2, ('no', 20)), ([last, 65535], 1, ('value', 0)),
+        ([last, last, transitions], 2, ('value', 0)), ([last], 2, ('no', 20)),
+    ]:
+        store = Store([0], ones, history, n, [])
+        lists.append(listed((file, file), store, kept(store, [(('value', 0), answer)])))
+    return lists
+
+
+def counted_history():
+    """1,499 transitions, each fireable where x is its number: 300 steps are taken back and fired again."""
+    files, marks = both_ways(lambda join: counting(1499, join)), lambda x: [int(t == x) for t in range(1499)]
+    store = Store([300], 1499 * [0], list(range(300)) + [1498, 1499], 300, [])
+    back = store._replace(values=[299], marks=marks(299), n=299)
+    twice = back._replace(values=[298], marks=marks(298), n=298)
+    calls = [
+        (('back',), ('done',), back), (('back',), ('done',), twice), (('fire', 298), ('ok', 1), back),
+        (('fire', 299), ('ok', 1), store._replace(marks=marks(300))),
+        (('pick',), ('pick', 300), store._replace(marks=marks(300))),
+    ]
     return listed(files, store, calls)
 
 
 def extremes():
-    """Lists on models at the limits: one block of nearly 4,000 branches, nestings of depth 32, 256 rounds, the largest sizes."""
-    skips = [[SKIP]]
-    chain = [[(17, 1 + i)] + 10 * [(35, 0)] + ([(34, 2 + i)] if i < 254 else [TRUE]) for i in range(255)]
+    """Lists on models at the limits: one block of nearly 12,000 branches, nestings of depth 32, 4,000 rounds, the largest sizes."""
+    skips, nested_skips = [[SKIP]], lambda order: 29 * [(19, 1)] + block(order)
+    few, many = chain_of(255, 10), chain_of(3990)
     blocks, conditions = 30 * [(19, 1)], 30 * [(18, 0), TRUE]
     minus = 30 * [(42, 0), (32, 1)] + [(32, 1)]
     choice = 30 * [(46, 0), (34, 0), TRUE] + [(34, 0)]
@@ -491,14 +609,17 @@ def extremes():
     crossed = 30 * [(36, 0)] + [TRUE] + 30 * [(34, 0)]
     failed = [(38, 0), (32, 0)] + ONE_OVER_ZERO
     return [
-        stepped(block(3989 * skips + [ASSIGN]), block([ASSIGN] + 3989 * skips)),
-        stepped(block(1990 * [ASSIGN]), block(1990 * [ASSIGN])),
+        stepped(block(11993 * skips + [ASSIGN]), block([ASSIGN] + 11993 * skips)),
+        stepped(nested_skips(11964 * skips + [ASSIGN]), nested_skips([ASSIGN] + 11964 * skips)),
+        stepped(block(5990 * [ASSIGN]), block(5990 * [ASSIGN])),
         stepped(block(700 * [ASSIGN] + 800 * [[(19, 1)] + ASSIGN]), block(800 * [[(19, 1)] + ASSIGN] + 700 * [ASSIGN])),
-        stepped(ASSIGN, ASSIGN, 2, block(3985 * skips + [[(17, 1), TRUE]]), block([[(17, 1), TRUE]] + 3985 * skips), 1),
-        stepped(ASSIGN, ASSIGN, 2, block(1985 * [[(17, 1), TRUE]]), block(1985 * [[(17, 1), TRUE]]), 1),
-        refused_step(27, block(1989 * [ASSIGN] + [[(17, 0), (33, 0)]]), block([[(17, 0), (33, 0)]] + 1989 * [ASSIGN])),
+        stepped(ASSIGN, ASSIGN, 2, block(11991 * skips + [[(17, 1), TRUE]]), block([[(17, 1), TRUE]] + 11991 * skips), 1),
+        stepped(ASSIGN, ASSIGN, 2, block(5990 * [[(17, 1), TRUE]]), block(5990 * [[(17, 1), TRUE]]), 1),
+        refused_step(27, block(5989 * [ASSIGN] + [[(17, 0), (33, 0)]]), block([[(17, 0), (33, 0)]] + 5989 * [ASSIGN])),
         refused_start(30, block(1989 * [ASSIGN] + [[(17, 0), (33, 0)]]), block([[(17, 0), (33, 0)]] + 1989 * [ASSIGN])),
-        stepped(ASSIGN, ASSIGN, 256, block(chain), block(chain[::-1]), 255),
+        stepped(ASSIGN, ASSIGN, 256, block(few), block(few[::-1]), 255),
+        stepped(ASSIGN, ASSIGN, 3991, block(many), block(many[::-1]), 3990),
+        longest_chain(),
         stepped(blocks + ASSIGN, blocks + ASSIGN),
         stepped(conditions + ASSIGN, conditions + ASSIGN),
         stepped(ASSIGN, ASSIGN, 2, blocks + [(17, 1), TRUE], blocks + [(17, 1), TRUE], 1),
@@ -510,7 +631,11 @@ def extremes():
         guard_nest(both, crossed, 1, 0),
         guard_nest(29 * [(37, 0), (33, 0)] + failed, 29 * [(37, 0)] + failed + 29 * [(33, 0)], 2),
         long_history(512),
-        largest_sizes(),
+        largest_sizes(255, 255),
+        largest_sizes(1499, 65535),
+        most_of_all(),
+        *wide_entries(256) + wide_entries(257) + wide_entries(3998)[:1],
+        counted_history(),
     ]
 
 
@@ -544,11 +669,11 @@ def lowest():
     return listed(files, stores[0], calls)
 
 
-def last_of_all(values, history, n, wanted, marks=255 * [0]):
-    """Pick alone, on a model of 255 transitions of which only the last can be fireable."""
+def last_of_all(values, history, n, wanted, marks=None, count=255):
+    """Pick alone, on a model of so many transitions of which only the last can be fireable."""
     both = [[(36, 0), (34, 0), TRUE], [(36, 0), TRUE, (34, 0)]]
-    files = [guarded_by([FLAG], 254 * [[(33, 0)]] + [last], [SKIP]) for last in both]
-    store = Store(values, marks, history, n, [])
+    files = [guarded_by([FLAG], (count - 1) * [[(33, 0)]] + [last], [SKIP]) for last in both]
+    store = Store(values, count * [0] if marks is None else marks, history, n, [])
     return listed(files, store, kept(store, [(('pick',), wanted)]))
 
 
@@ -562,6 +687,9 @@ def picks():
         last_of_all([2], [], 0, ('no', 20)),
         last_of_all([1], [254, 255], 2, ('no', 20)),
         last_of_all([1], [254], 2, ('no', 20)),
+        last_of_all([1], [3997, 3998], 1, ('pick', 3997), count=3998),
+        last_of_all([0], [], 0, ('none',), count=3998),
+        last_of_all([1], [3997, 3998], 2, ('no', 20), count=3998),
     ]
 
 
@@ -601,7 +729,14 @@ def ranges():
         ([0, 1, -7], within), ([0], ('no', 9)), ([], ('no', 9)),
     ]
     lists = [range_check(range_models(), Store(values, [], [], 0, []), wanted) for values, wanted in answers]
-    return [checked_along()] + lists + [range_check(range_models(), Store([0, 1], [3], [9], 2 ** 64 - 1, []), within)]
+    lists.append(range_check(range_models(), Store([0, 1], [3], [9], 2 ** 64 - 1, []), within))
+    flags = model(2000, 2000, 0, 0, 4000 * [FLAG] + [SKIP])
+    for values, wanted in [
+        (4000 * [1], ('within', 4000)), (3999 * [1] + [2], ('outside', 3999, 4000)), (256 * [0] + [-1] + 3743 * [2], ('outside', 256, 257)),
+        (3999 * [2], ('no', 9)), (4000 * [0] + [2], ('within', 4000)),
+    ]:
+        lists.append(range_check((flags, flags), Store(values, [], [], 0, []), wanted))
+    return [checked_along()] + lists
 
 
 def both_ways(write):
@@ -768,35 +903,35 @@ def no_transitions(cells):
     return listed((file, file), store, kept(store, answers))
 
 
-def counting(join):
-    """A number x from 0 to 255, at first 0, and 255 transitions: each is fireable where x is its number, and raises x by 1."""
+def counting(count, join):
+    """A number x from 0 to a count, at first 0, and so many transitions: each is fireable where x is its number, and raises x by 1."""
     x, transitions = [(34, 0)], []
-    for t in range(255):
+    for t in range(count):
         transitions += [(5, 0), (38, 0)] + join(x, [(32, t)]) + [(17, 0), (41, 0)] + join(x, [(32, 1)])
-    return model(1, 0, 1, 255, [(2, 0), (3, 255), (4, 0)] + transitions + [SKIP])
+    return model(1, 0, 1, count, [(2, 0), (3, count), (4, 0)] + transitions + [SKIP])
 
 
-def most_transitions():
-    """Made-up marks of 255 transitions are copied and set right, at the first of them and at the last."""
-    files, only = both_ways(counting), lambda t: [int(i == t) for i in range(255)]
-    store = Store([0], 255 * [2] + [3, 255, 9], [9, 9], 0, 258 * [7])
-    copied = store._replace(buffer=255 * [2] + [7, 7, 7])
+def most_transitions(count):
+    """Made-up marks of so many transitions are copied and set right, at the first of them and at the last."""
+    files, only = both_ways(lambda join: counting(count, join)), lambda t: [int(i == t) for i in range(count)]
+    store = Store([0], count * [2] + [3, 255, 9], [9, 9], 0, (count + 3) * [7])
+    copied = store._replace(buffer=count * [2] + [7, 7, 7])
     fired = copied._replace(values=[1], marks=only(1) + [3, 255, 9], history=[0, 9], n=1)
     seen = fired._replace(buffer=only(1) + [7, 7, 7])
     back = seen._replace(values=[0], marks=only(0) + [3, 255, 9], n=0)
     calls = [
         (('marks',), ('done',), copied),
-        *kept(copied, [(('pick',), ('pick', 0)), (('fire', 254), ('no', 23))]),
+        *kept(copied, [(('pick',), ('pick', 0)), (('fire', count - 1), ('no', 23))]),
         (('fire', 0), ('ok', 1), fired),
         (('marks',), ('done',), seen),
         (('back',), ('done',), back),
     ]
-    last = Store([254], 255 * [1], [9], 0, 255 * [7])
-    ended = last._replace(values=[255], marks=255 * [0], history=[254], n=1)
-    shown = ended._replace(buffer=255 * [0])
+    last = Store([count - 1], count * [1], [9], 0, count * [7])
+    ended = last._replace(values=[count], marks=count * [0], history=[count - 1], n=1)
+    shown = ended._replace(buffer=count * [0])
     more = [
-        *kept(last, [(('pick',), ('pick', 254)), (('fire', 0), ('no', 23))]),
-        (('fire', 254), ('ok', 1), ended),
+        *kept(last, [(('pick',), ('pick', count - 1)), (('fire', 0), ('no', 23))]),
+        (('fire', count - 1), ('ok', 1), ended),
         (('marks',), ('done',), shown),
         (('pick',), ('none',), shown),
     ]
@@ -816,10 +951,12 @@ def held_marks():
         *refused_on_made_up(),
         no_transitions([]),
         no_transitions([9, 255]),
-        *most_transitions(),
+        *most_transitions(255),
+        *most_transitions(1499),
         last_of_all([1], [], 0, ('no', 10), 254 * [0]),
         last_of_all([1], [], 0, ('no', 20), 254 * [0] + [3]),
         last_of_all([1], [], 0, ('pick', 254), 255 * [2] + [3]),
+        last_of_all([1], [], 0, ('no', 20), 3997 * [0] + [3], 3998),
     ]
 
 
@@ -1108,8 +1245,8 @@ def guards_and_actions():
 
 
 def deep_conditionals():
-    """Conditionals 29 deep under a condition that waits for them, in each part of one another, and under one that fails; a chain of 255
-    flows whose condition is known last."""
+    """Conditionals 29 deep under a condition that waits for them, in each part of one another, and under one that fails; chains of 255
+    and of 1,990 flows whose condition is known last."""
     waits, lists = [(34, 2)], []
     for nodes in [29 * ([(46, 0)] + waits + [TRUE]) + [TRUE], 29 * ([(46, 0)] + waits) + 30 * [TRUE], 29 * [(46, 0)] + waits + 58 * [TRUE]]:
         branches = [assignment(1, nodes), assignment(2, [(34, 1)])]
@@ -1117,8 +1254,10 @@ def deep_conditionals():
     nest = lambda join: 29 * ([(46, 0)] + failed_condition(join) + [TRUE]) + [TRUE]
     lists.append(guard_nest(*both_ways(nest), 1, 1))
     either = lambda nodes: conditional([(34, 1)], nodes, nodes)
-    chain = [assignment(1 + i, either([(34, 2 + i)]) if i < 254 else [TRUE]) for i in range(255)]
-    return lists + [stepped(ASSIGN, ASSIGN, 256, block(chain), block(chain[::-1]), 255)]
+    for flows in (255, 1990):
+        chain = [assignment(1 + i, either([(34, 2 + i)])) for i in range(flows - 1)] + [assignment(flows, [TRUE])]
+        lists.append(stepped(ASSIGN, ASSIGN, flows + 1, block(chain), block(chain[::-1]), flows))
+    return lists
 
 
 def conditionals():
@@ -1135,13 +1274,18 @@ def conditionals():
     ]
 
 
-def stored_programs(path):
-    """The cases of one of PROGRAM_FILES: three lengths of four bytes, the model file, the input, the output."""
+def parts_case(*parts):
+    """The lengths of some parts, four bytes each, and the parts."""
+    return b''.join(little(len(part), 4) for part in parts) + b''.join(parts)
+
+
+def stored_programs(lines):
+    """The cases of programs.txt: the model file, the input, the output; and of gtswide.txt: the input, the output."""
     parts, cases = [], []
-    for words in words_of(path):
+    for words in lines:
         parts.append(bytes(numbers(words)))
-        if len(parts) == 3:
-            cases.append(b''.join(little(len(part), 4) for part in parts) + b''.join(parts))
+        if words[0] == 'output':
+            cases.append(parts_case(*parts))
             parts = []
     return cases
 
@@ -1153,10 +1297,10 @@ def text_case(file, text, kinds, parameters, answer, nodes):
     return header + file + text + bytes(nodes[0]) + b''.join(little(p, 4) for p in nodes[1])
 
 
-def stored_texts(path):
+def stored_texts(lines):
     """The cases of texts.txt."""
     cases = []
-    for words in words_of(path):
+    for words in lines:
         if words[0] == 'model':
             file = bytes(numbers(words))
         elif words[0] == 'text':
@@ -1184,10 +1328,10 @@ def join_case(file, mandatory, optional, out, answer, new):
     return header + file + b''.join(little(k, 8) for k in mandatory + optional) + new
 
 
-def stored_joins(path):
+def stored_joins(lines):
     """The cases of joins.txt."""
     cases = []
-    for words in words_of(path):
+    for words in lines:
         if words[0] == 'model':
             file = bytes(numbers(words))
         elif words[0] == 'mandatory':
@@ -1231,7 +1375,7 @@ def joined(parts, mandatory, optional):
 
 
 # More cells than any model needs, so that the slice is not the reason of a refusal.
-ENOUGH = 20480
+ENOUGH = 60416
 
 
 def join_answer(parts, mandatory, optional, answer, cells=ENOUGH, fill=7):
@@ -1304,20 +1448,24 @@ def join_depths():
 
 
 def join_sizes():
-    """E and T of 254 and 255; new models of 3,999 to 4,001 nodes, with slices up to the longest."""
+    """E of 254 to 65,535, T of 1 to 3,995; new models of 11,999 to 12,001 nodes, with slices up to the longest."""
     cases = []
-    for events, count in [(254, 1), (255, 1), (254, 254), (255, 254), (254, 255), (1, 255)]:
+    for events, count in [(254, 1), (255, 1), (256, 1), (65534, 1), (65535, 1), (255, 255), (256, 256), (65534, 257), (65535, 257)]:
         parts = SHOP._replace(events=events, transitions=count * [(0, [TRUE], [SKIP])])
-        answer = 36 if 255 in (events, count) else 0
+        answer = 36 if events == 65535 else 0
         cases += [join_answer(parts, [count - 1], [], answer), join_answer(parts, [], [0], answer)]
         cases += [join_answer(parts, [], [], 35, 0), join_answer(parts, [0], [count], 11, 0)]
+    # 12,000 nodes with one mandatory member, 12,002 with an optional one.
+    most = SHOP._replace(events=3995, transitions=[(t, [TRUE], [SKIP]) for t in range(3995)])
+    cases += [join_answer(most, [3994], [], 0), join_answer(most, [], [0], 36), join_answer(most, [3995], [], 11)]
     filled = lambda skips: SHOP._replace(assertion=block(skips * [[SKIP]]))
+    nodes = lambda parts: (len(file_of(parts)) - 10) // 5
     for mandatory, optional in [([0], []), ([], [3, 1]), ([1], [3, 0])]:
-        # So many skips give the new model exactly 4,000 nodes.
-        skips = 4000 - (len(file_of(joined(filled(0), mandatory, optional))) - 6) // 5
-        for more, answer, cells in [(-1, 0, 20006), (0, 0, 20006), (0, 36, 20005), (1, 36, 20006), (1, 36, ENOUGH)]:
+        # So many skips give the new model exactly 12,000 nodes.
+        skips = 12000 - nodes(joined(filled(0), mandatory, optional))
+        for more, answer, cells in [(-1, 0, 60010), (0, 0, 60010), (0, 36, 60009), (1, 36, 60010), (1, 36, ENOUGH)]:
             cases.append(join_answer(filled(skips + more), mandatory, optional, answer, cells))
-    full = filled(4000 - (len(file_of(filled(0))) - 6) // 5)
+    full = filled(12000 - nodes(filled(0)))
     return cases + [join_answer(full, [0], [], 36), join_answer(full, [], [5], 11), join_answer(full, [], [], 35)]
 
 
@@ -1327,7 +1475,7 @@ def join_slices():
     for mandatory, optional in [([0], []), ([], [1]), ([3, 2], [0, 0]), ([1, 1, 1], [1])]:
         length = len(file_of(joined(SHOP, mandatory, optional)))
         for fill in (0, 19, 255):
-            for cells in (0, 5, 6, len(file_of(SHOP)), length - 5, length - 1):
+            for cells in (0, 9, 10, len(file_of(SHOP)), length - 5, length - 1):
                 cases.append(join_answer(SHOP, mandatory, optional, 36, cells, fill))
             for cells in (length, length + 1, length + 5, ENOUGH):
                 cases.append(join_answer(SHOP, mandatory, optional, 0, cells, fill))
@@ -1335,9 +1483,9 @@ def join_slices():
 
 
 def join_orders():
-    """1 to 8 before 35, 35 before 11, 11 before 36, in either list and at any place of it."""
+    """1 to 8 and 37 before 35, 35 before 11, 11 before 36, in either list and at any place of it."""
     bad = [
-        (1, bytes(5)), (2, bytes([0, 0, 0, 0, 161, 15])), (3, file_of(SHOP)[:-1]), (4, bytes(6)),
+        (1, bytes(9)), (2, sizes_of(4001, 0, 0, 0, 12001)), (37, sizes_of(4001, 0, 0, 0, 0)), (3, file_of(SHOP)[:-1]), (4, bytes(10)),
         (5, file_of(with_first(32 * [(35, 0)] + [TRUE], [SKIP]))), (6, file_of(with_first([SKIP], [SKIP]))),
         (7, file_of(with_first([(34, 9)], [SKIP]))), (8, model(0, 0, 0, 0, [SKIP, SKIP])),
     ]
@@ -1375,6 +1523,205 @@ def join_edges():
     return join_lengths() + join_depths() + join_sizes() + join_slices() + join_orders() + join_contents()
 
 
+def text_edges():
+    """Variables of a model that has 4,000 of them, the first 256 numbers."""
+    file = model(256, 3744, 0, 0, 256 * RANGE + 3744 * [FLAG] + [SKIP])
+    cells = lambda text, answer, kinds=[], parameters=[]: text_case(file, text, (400, 7), (400, -7), answer, (kinds, parameters))
+    return [
+        *[cells(b'v%d' % variable, 0, [34], [variable]) for variable in (0, 255, 256, 257, 510, 511, 3999)],
+        *[cells(b'v%d' % variable, 12) for variable in (4000, 4001, 65535, 65536, 69535, 2 ** 32, 2 ** 64)],
+        cells(b'v3999 and not v256', 0, [36, 34, 35, 34], [0, 3999, 0, 256]),
+        cells(b'v3999 or v4000', 12),
+        cells(b'v255 == v3999', 33),
+        cells(b'v255 + v256', 33),
+        cells(b'v255 + 4000', 0, [41, 34, 32], [0, 255, 4000]),
+    ]
+
+
+# The model of document 01's example, which it gives all answers of.
+EXAMPLE = model(1, 2, 2, 2, [
+    (1, 1), (1, 0), (1, 0), (5, 0), (34, 0), (17, 0), (33, 0), (5, 1), (35, 0), (34, 0), (17, 0), (33, 1),
+    (19, 2), (17, 2), (46, 0), (34, 0), (34, 1), (33, 0), (17, 1), (33, 1),
+])
+
+
+def digits():
+    """f with no digit to six of them, and what stands after them, on the example; the last line has no line feed."""
+    start, stop, low, high, none, bad = b'ok 3 1 1 1', b'ok 2 0 1 0', b'back 1 1 1', b'back 0 1 0', b'no 11', b'no 13'
+    turns = [
+        (b'f', bad), (b'f ', bad), (b'f 1', b'no 23'), (b'f 01', b'no 23'), (b'f 001', b'no 23'), (b'f 0001', b'no 23'),
+        (b'f 00001', b'no 23'), (b'f 000001', bad), (b'f 2', none), (b'f 99', none), (b'f 256', none), (b'f 999', none), (b'f 1000', none),
+        (b'f 0002', none), (b'f 9999', none), (b'f 10000', none), (b'f 00002', none), (b'f 65535', none), (b'f 65536', none),
+        (b'f 65537', none), (b'f 99999', none), (b'f 100000', bad), (b'f 000000', bad), (b'f 0000000', bad), (b'f 99999999', bad),
+        (b'f 00000 ', bad), (b'f 0000 0', bad), (b'f 0000x', bad), (b'f 00000x', bad), (b'f 00000\r', bad), (b'f -0001', bad),
+        (b'f  0000', bad), (b'f0000', bad), (b'f 00000', stop), (b'f 00000', b'no 23'), (b'f 00001', start), (b'f 0000', stop),
+        (b'u', low), (b'f 000', stop), (b'f 0001', start), (b'u', high), (b'm', b'm 0 1'), (b'u', low), (b'f 00000', stop),
+    ]
+    inputs, outputs = zip(*turns)
+    return EXAMPLE, b'\n'.join(inputs), b'\n'.join((start,) + outputs) + b'\n'
+
+
+def full_lines():
+    """4,000 variables in a line: 3,998 numbers of a sign and ten digits, and two Booleans; one transition."""
+    least = [(2, -2147483648), (3, 2147483647), (4, -2147483648)]
+    file = model(4000, 0, 1, 1, 3998 * least + 2 * [FLAG] + [(5, 0), TRUE, SKIP] + [SKIP])
+    values = 3998 * b' -2147483648' + b' 0 0'
+    return file, b'm\nf 00000\nu\nu\n', b'ok 1%b\nm 1\nok 1%b\nback%b\nno 22\n' % (values, values, values)
+
+
+def chained_lines():
+    """4,000 rounds; 4,000 variables and no transition."""
+    file = model(1, 3999, 0, 0, 4000 * [FLAG] + block(chain_of(3999)))
+    return file, b'm\nf 0\nu\n\n', b'ok 4000 0%b\nm\nno 11\nno 22\nno 13\n' % (3999 * b' 1')
+
+
+def marked_lines():
+    """3,999 transitions, of which the last two are fireable: 200 steps and one more."""
+    file = model(0, 0, 1, 3999, 3997 * [(5, 0), (33, 0), SKIP] + 2 * [(5, 0), TRUE, SKIP] + [SKIP])
+    marks, steps = b'm%b 1 1\n' % (3997 * b' 0'), 199 * b'f 03998\n'
+    inputs = b'm\nf 3996\nf 3997\n' + steps + b'f 3998\nf 3999\nf 03999\nf 4000\nu\nm'
+    return file, inputs, b'ok 1\n' + marks + b'no 23\n' + 200 * b'ok 1\n' + b'no 21\n' + 3 * b'no 11\n' + b'back\n' + marks
+
+
+def program_edges():
+    """Runs at the limits, and starts that are refused by the number of the model."""
+    longest = model(0, 0, 0, 0, [(19, 11999)] + 11999 * [SKIP])
+    refusals = [
+        (1, bytes(9)), (2, sizes_of(4001, 0, 0, 0, 12001)), (2, model(0, 0, 0, 0, [(19, 12000)] + 12000 * [SKIP])),
+        (37, sizes_of(4000, 1, 0, 0, 0)), (3, longest + bytes(1)), (3, longest + bytes(5000)), (3, OLD_SMALLEST), (4, bytes(10)),
+    ]
+    cases = [parts_case(file, b'm\nf 0\n', b'no %d\n' % number) for number, file in refusals]
+    cases.append(parts_case(longest, b'm\nf 12000\n', b'ok 1\nm\nno 11\n'))
+    return cases + [parts_case(*run) for run in (digits(), full_lines(), chained_lines(), marked_lines())]
+
+
+def old_groups(name):
+    """The lines of a file of bench/cases/old in groups, one for each model."""
+    groups = []
+    for words in lines_of(os.path.join('old', name)):
+        if words[0] == 'model':
+            groups.append([])
+        groups[-1].append(words)
+    return groups
+
+
+def old_refusal(group):
+    """What the old check says of a group's model: the number of its refusal, or 0. Every call and every program begins with that check."""
+    for words in group:
+        if words[0] == 'want':
+            number = int(words[2]) if words[1] == 'no' else 0
+            break
+        if words[0] == 'output':
+            number = int((re.match(rb'no (\d+)\n', bytes(numbers(words))) or [0, 0])[1])
+            break
+    return number if number <= 8 else 0
+
+
+def rewritten(file):
+    """An old file in the new layout."""
+    return sizes_of(*file[:4]) + file[4:]
+
+
+def rewritten_line(words):
+    """A line about a model of the old layout, about the same model in the new one. A join's slice and its new model grow as the model."""
+    if words[0] in ('model', 'twin', 'cells'):
+        file = rewritten(bytes(numbers(words)))
+        return [words[0], str(len(file)), *map(str, file)]
+    if words[0] == 'out':
+        return ['out', str(int(words[1]) + 4), words[2]]
+    return ['want', 'length', str(int(words[2]) + 4)] if words[:2] == ['want', 'length'] else words
+
+
+def rewritten_lines(name, numbers=(0,)):
+    """The lines of the old groups whose model the old check answers by one of these numbers, with the model rewritten."""
+    return [rewritten_line(words) for group in old_groups(name) if old_refusal(group) in numbers for words in group]
+
+
+def turned_long_fires(file, inputs, output):
+    """A run on an old model, rewritten. Where f has 4 or 5 digits that name no transition, 11 is now the answer; where they name one, the
+    line loses them, so that its answer stays 13."""
+    answers = output.split(b'\n')
+    lines = inputs.split(b'\n')
+    for place, line in enumerate(lines[:len(answers) - 2]):
+        if re.fullmatch(rb'f [0-9]{4,5}', line):
+            assert answers[1 + place] == b'no 13'
+            if int(line[2:]) < file[3]:
+                lines[place] = b'f '
+            else:
+                answers[1 + place] = b'no 11'
+    return rewritten(file), b'\n'.join(lines), b'\n'.join(answers)
+
+
+def rewritten_programs(name):
+    """The old runs on accepted models, rewritten."""
+    groups = [group for group in old_groups(name) if old_refusal(group) == 0]
+    return [parts_case(*turned_long_fires(*[bytes(numbers(words)) for words in group])) for group in groups]
+
+
+def is_join_kept(file, words):
+    """Do the limits of the new layout leave the answer to a join as it was? Not where E, T or the nodes may have been in the way."""
+    members = len(words['mandatory']) + len(words['optional']) - 4
+    return words['want'][1:] != ['no', '36'] or 255 not in file[2:4] and (1 + members) * (file[4] + 256 * file[5] + 3) <= 4000
+
+
+def rewritten_joins(name):
+    """The old joins in accepted models, rewritten."""
+    lines = []
+    for group in old_groups(name):
+        file, join = bytes(numbers(group[0])), {}
+        for words in group if old_refusal(group) == 0 else []:
+            join[words[0]] = words
+            if words[0] == 'want' and is_join_kept(file, join):
+                lines += [rewritten_line(join[word]) for word in ('model', 'mandatory', 'optional', 'out', 'want')]
+            elif words[0] == 'cells':
+                lines.append(rewritten_line(words))
+    return stored_joins(lines)
+
+
+OLD_FILES = [
+    'checks.txt', 'calls.txt', 'earlier_calls.txt', 'joined_calls.txt', 'values.txt', 'texts.txt', 'joins.txt', 'programs.txt',
+    'earlier_programs.txt',
+]
+
+
+def wide_text(file, number):
+    """What gtswide prints of an old file that the old check answers by this number."""
+    return b'no %d\n' % number if number else rewritten(file)
+
+
+def wide_edges():
+    """Old files at the edges of the old layout's rules: lengths, N of 4,000 and 4,001, and files that are longer than any accepted one."""
+    old = lambda states, flows, events, transitions, nodes: bytes([states, flows, events, transitions]) + model(0, 0, 0, 0, nodes)[8:]
+    skips, flags = lambda count: [(19, count)] + count * [SKIP], 510 * [FLAG]
+    longest = old(0, 0, 0, 0, skips(3999))
+    forms = 255 * [(5, 254), TRUE, SKIP]
+    answers = [
+        (1, b''), (1, bytes(5)), (4, bytes(6)), (3, bytes(7)), (4, bytes([9, 9, 9, 9, 0, 0])), (0, OLD_SMALLEST), (3, OLD_SMALLEST[:-1]),
+        (3, OLD_SMALLEST + bytes(1)), (2, bytes([0, 0, 0, 0, 161, 15])), (2, 6 * b'\xff'), (3, bytes([255, 255, 255, 255, 160, 15])),
+        (0, longest), (0, old(1, 0, 0, 0, [FLAG] + skips(3998))), (2, old(0, 0, 0, 0, skips(4000))), (3, longest[:-1]),
+        (3, longest + bytes(1)), (3, longest + bytes(9994)), (2, old(0, 0, 0, 0, skips(5998))), (2, old(0, 0, 0, 0, skips(11999))),
+        (3, model(0, 0, 0, 0, skips(3999))), (0, old(255, 255, 255, 255, flags + forms + [SKIP])),
+        (0, old(255, 255, 0, 0, flags + [SKIP])), (0, old(0, 0, 255, 255, forms + [SKIP])),
+        (4, old(255, 255, 0, 0, flags)), (8, old(0, 0, 0, 0, 2 * [SKIP])), (7, old(0, 0, 255, 1, [(5, 255), TRUE, SKIP, SKIP])),
+        (5, old(0, 0, 0, 0, 32 * [(19, 1)] + [SKIP])), (6, old(0, 0, 0, 0, [FLAG])),
+    ]
+    return [parts_case(file, wide_text(file, number)) for number, file in answers]
+
+
+def wide_cases():
+    """Runs of gtswide: the stored ones, the edges, and the models of all old files."""
+    cases = stored_programs(lines_of('gtswide.txt')) + wide_edges()
+    for name in OLD_FILES:
+        for group in old_groups(name):
+            file, number = bytes(numbers(group[0])), old_refusal(group)
+            cases.append(parts_case(file, wide_text(file, number)))
+    return cases
+
+
+def distinct(cases):
+    return list(dict.fromkeys(cases))
+
+
 def write(crate, cases, output):
     folder = os.path.join(ROOT, 'crates', crate)
     os.makedirs(os.path.join(folder, 'data'), exist_ok=True)
@@ -1386,19 +1733,24 @@ def write(crate, cases, output):
 
 
 def main():
-    vectors = lambda name: os.path.join(ROOT, 'bench', 'cases', name)
-    checks = stored_checks(vectors('checks.txt')) + edges()
-    write('check_cases', checks, f'{len(checks)} cases, 0 differ')
-    lists = [each for name in CALL_FILES for each in stored_calls(vectors(name))] + stored_values(vectors('values.txt'))
-    lists += extremes() + picks() + ranges() + held_marks() + conditionals()
+    old = lambda read, *names: [each for name in names for each in read(rewritten_lines(name))]
+    # Numbers 3 to 8 are the same in both layouts.
+    checks = stored_checks(lines_of('checks.txt')) + stored_checks(rewritten_lines('checks.txt', (0, 3, 4, 5, 6, 7, 8))) + edges()
+    lists = stored_calls(lines_of('calls.txt')) + old(stored_calls, 'calls.txt', 'earlier_calls.txt', 'joined_calls.txt')
+    lists += stored_values(lines_of('values.txt')) + old(stored_values, 'values.txt')
+    lists = distinct(lists + extremes() + picks() + ranges() + held_marks() + conditionals())
+    programs = stored_programs(lines_of('programs.txt')) + program_edges()
+    programs += rewritten_programs('programs.txt') + rewritten_programs('earlier_programs.txt')
+    texts = stored_texts(lines_of('texts.txt')) + old(stored_texts, 'texts.txt') + text_edges()
+    joins = stored_joins(lines_of('joins.txt')) + rewritten_joins('joins.txt') + join_edges()
     calls = sum(number for _, number in lists)
     write('call_cases', [each for each, _ in lists], f'{len(lists)} lists, {2 * calls} calls, 0 differ')
-    programs = [each for name in PROGRAM_FILES for each in stored_programs(vectors(name))]
-    write('program_cases', programs, f'{len(programs)} programs, 0 differ')
-    texts = stored_texts(vectors('texts.txt'))
-    write('text_cases', texts, f'{len(texts)} texts, 0 differ')
-    joins = stored_joins(vectors('joins.txt')) + join_edges()
-    write('join_cases', joins, f'{len(joins)} joins, 0 differ')
+    for crate, word, cases in [
+        ('check_cases', 'cases', checks), ('program_cases', 'programs', programs), ('text_cases', 'texts', texts),
+        ('join_cases', 'joins', joins), ('wide_cases', 'files', wide_cases()),
+    ]:
+        cases = distinct(cases)
+        write(crate, cases, f'{len(cases)} {word}, 0 differ')
 
 
 if __name__ == '__main__':

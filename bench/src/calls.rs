@@ -1,10 +1,11 @@
-//! The calls on a run as one table, over one set of all that is lent; and the calls on a text and on two lists of members.
+//! The calls on a run as one table, over one set of all that is lent; and the calls on a text, on two lists of members
+//! and on an old file.
 
 use std::fmt::Debug;
 
 use crate::guarded::{Cell, Guarded};
 
-/// An implementation: the ten C calls with slices for pointers and lengths. Each answers 0 and its results, or
+/// An implementation: the eleven C calls with slices for pointers and lengths. Each answers 0 and its results, or
 /// a refusal number and leaves everything lent as it was.
 pub struct Engine {
     pub name: &'static str,
@@ -18,6 +19,7 @@ pub struct Engine {
     pub first_outside: FirstOutside,
     pub text: Text,
     pub synchronise: Synchronise,
+    pub rewrite: Rewrite,
 }
 
 pub type Start =
@@ -27,20 +29,20 @@ pub type Fire = fn(
     model: &[u8],
     values: &mut [i32],
     marks: &mut [u8],
-    history: &mut [u8],
+    history: &mut [u16],
     n: &mut usize,
     transition: usize,
     rounds: &mut usize,
 ) -> u8;
 
 pub type Undo =
-    fn(model: &[u8], values: &mut [i32], marks: &mut [u8], history: &[u8], n: &mut usize) -> u8;
+    fn(model: &[u8], values: &mut [i32], marks: &mut [u8], history: &[u16], n: &mut usize) -> u8;
 
 pub type Marks = fn(
     model: &[u8],
     values: &[i32],
     marks: &[u8],
-    history: &[u8],
+    history: &[u16],
     n: usize,
     buffer: &mut [u8],
 ) -> u8;
@@ -49,7 +51,7 @@ pub type Value = fn(
     model: &[u8],
     values: &[i32],
     marks: &[u8],
-    history: &[u8],
+    history: &[u16],
     n: usize,
     variable: usize,
     value: &mut i32,
@@ -59,7 +61,7 @@ pub type Pick = fn(
     model: &[u8],
     values: &[i32],
     marks: &[u8],
-    history: &[u8],
+    history: &[u16],
     n: usize,
     transition: &mut usize,
     found: &mut u8,
@@ -89,13 +91,15 @@ pub type Synchronise = fn(
     length: &mut usize,
 ) -> u8;
 
+pub type Rewrite = fn(old: &[u8], out: &mut [u8], length: &mut usize) -> u8;
+
 /// All that is lent to the calls on a run beside the model, results included, each between guard cells.
 #[derive(Clone, PartialEq)]
 pub struct Store {
     pub values: Guarded<i32>,
     /// Those that the run holds.
     pub marks: Guarded<u8>,
-    pub history: Guarded<u8>,
+    pub history: Guarded<u16>,
     pub n: Guarded<usize>,
     /// What the marks call copies them to.
     pub buffer: Guarded<u8>,
@@ -111,7 +115,7 @@ pub struct Store {
 
 impl Store {
     /// A store whose results are still as given here.
-    pub fn new(values: &[i32], marks: &[u8], history: &[u8], n: usize, buffer: &[u8]) -> Self {
+    pub fn new(values: &[i32], marks: &[u8], history: &[u16], n: usize, buffer: &[u8]) -> Self {
         Store {
             values: Guarded::new(values),
             marks: Guarded::new(marks),
@@ -272,6 +276,48 @@ impl Join {
         [
             first_cell("mandatory", &self.mandatory, &other.mandatory),
             first_cell("optional", &self.optional, &other.optional),
+            first_cell("out", &self.out, &other.out),
+            part("length", &self.length, &other.length),
+        ]
+        .into_iter()
+        .flatten()
+        .collect()
+    }
+}
+
+/// All that is lent to a rewriting beside the old file, each between guard cells.
+#[derive(Clone, PartialEq)]
+pub struct Rewriting {
+    /// What the file is written to in the new layout.
+    pub out: Guarded<u8>,
+    pub length: Guarded<usize>,
+}
+
+impl Rewriting {
+    pub fn new(out: &[u8], length: usize) -> Self {
+        Rewriting {
+            out: Guarded::new(out),
+            length: Guarded::new(&[length]),
+        }
+    }
+
+    pub fn perform(&mut self, engine: &Engine, old: &[u8]) -> u8 {
+        (engine.rewrite)(old, self.out.cells_mut(), self.length.get_mut())
+    }
+
+    /// The rewritten file, after a rewriting that was accepted.
+    pub fn written(&self) -> &[u8] {
+        let cells = self.out.cells();
+        &cells[..self.length.get().min(cells.len())]
+    }
+
+    pub fn intact(&self) -> bool {
+        self.out.intact() && self.length.intact()
+    }
+
+    /// The parts in which two of them differ, in words.
+    pub fn differences(&self, other: &Rewriting) -> Vec<String> {
+        [
             first_cell("out", &self.out, &other.out),
             part("length", &self.length, &other.length),
         ]

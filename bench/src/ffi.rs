@@ -21,7 +21,7 @@ extern "C" {
         values_len: usize,
         marks: *mut u8,
         marks_len: usize,
-        history: *mut u8,
+        history: *mut u16,
         history_len: usize,
         n: *mut usize,
         transition: usize,
@@ -34,7 +34,7 @@ extern "C" {
         values_len: usize,
         marks: *mut u8,
         marks_len: usize,
-        history: *const u8,
+        history: *const u16,
         history_len: usize,
         n: *mut usize,
     ) -> u8;
@@ -45,7 +45,7 @@ extern "C" {
         values_len: usize,
         marks: *const u8,
         marks_len: usize,
-        history: *const u8,
+        history: *const u16,
         history_len: usize,
         n: usize,
         buffer: *mut u8,
@@ -58,7 +58,7 @@ extern "C" {
         values_len: usize,
         marks: *const u8,
         marks_len: usize,
-        history: *const u8,
+        history: *const u16,
         history_len: usize,
         n: usize,
         variable: usize,
@@ -71,7 +71,7 @@ extern "C" {
         values_len: usize,
         marks: *const u8,
         marks_len: usize,
-        history: *const u8,
+        history: *const u16,
         history_len: usize,
         n: usize,
         transition: *mut usize,
@@ -108,6 +108,13 @@ extern "C" {
         out_len: usize,
         length: *mut usize,
     ) -> u8;
+    fn gts_rewrite(
+        old: *const u8,
+        len: usize,
+        out: *mut u8,
+        out_len: usize,
+        length: *mut usize,
+    ) -> u8;
 }
 
 /// The library in the form of the calls' table.
@@ -123,6 +130,7 @@ pub const LIBRARY: Engine = Engine {
     first_outside,
     text,
     synchronise,
+    rewrite,
 };
 
 // In each wrapper the pointers and lengths are those of slices and references that are lent for the call alone.
@@ -156,7 +164,7 @@ pub fn fire(
     model: &[u8],
     values: &mut [i32],
     marks: &mut [u8],
-    history: &mut [u8],
+    history: &mut [u16],
     n: &mut usize,
     transition: usize,
     rounds: &mut usize,
@@ -182,7 +190,7 @@ pub fn undo(
     model: &[u8],
     values: &mut [i32],
     marks: &mut [u8],
-    history: &[u8],
+    history: &[u16],
     n: &mut usize,
 ) -> u8 {
     unsafe {
@@ -204,7 +212,7 @@ pub fn marks(
     model: &[u8],
     values: &[i32],
     marks: &[u8],
-    history: &[u8],
+    history: &[u16],
     n: usize,
     buffer: &mut [u8],
 ) -> u8 {
@@ -229,7 +237,7 @@ pub fn value(
     model: &[u8],
     values: &[i32],
     marks: &[u8],
-    history: &[u8],
+    history: &[u16],
     n: usize,
     variable: usize,
     value: &mut i32,
@@ -255,7 +263,7 @@ pub fn pick(
     model: &[u8],
     values: &[i32],
     marks: &[u8],
-    history: &[u8],
+    history: &[u16],
     n: usize,
     transition: &mut usize,
     found: &mut u8,
@@ -339,4 +347,8 @@ pub fn synchronise(
             length,
         )
     }
+}
+
+pub fn rewrite(old: &[u8], out: &mut [u8], length: &mut usize) -> u8 {
+    unsafe { gts_rewrite(old.as_ptr(), old.len(), out.as_mut_ptr(), out.len(), length) }
 }

@@ -12,6 +12,10 @@ impl Cell for u8 {
     const GUARD: u8 = 0xA7;
 }
 
+impl Cell for u16 {
+    const GUARD: u16 = 0xA7B6;
+}
+
 impl Cell for u32 {
     const GUARD: u32 = 0xA7B6_C5D4;
 }

@@ -4,6 +4,7 @@
 pub mod calls;
 pub mod guarded;
 pub mod joined;
+pub mod limits;
 pub mod model_gen;
 pub mod program;
 pub mod random;

@@ -1,9 +1,12 @@
-//! Random models, damaged files, and all that is lent to lists of calls, to texts and to joins.
+//! Random models, damaged files, old files, and all that is lent to lists of calls, to texts, to joins and to rewritings.
 
+mod crowds;
 mod damage;
 mod joins;
 mod lists;
+mod old_files;
 mod shapes;
+mod shops;
 mod texts;
 mod undecided;
 mod writer;
@@ -11,12 +14,14 @@ mod writer;
 pub use damage::damaged;
 pub use joins::{join, joined};
 pub use lists::{calls, store};
+pub use old_files::{old_file, rewriting, OldFile};
 pub use texts::typed;
 
 use crate::random::Random;
 use crate::tree::Model;
 
-pub const MAX_NODES: usize = 4_000;
+pub const MAX_NODES: usize = 12_000;
+pub const MAX_VARIABLES: usize = 4_000;
 pub const MAX_DEPTH: usize = 32;
 
 /// What a random model looks like.
@@ -28,14 +33,18 @@ pub enum Shape {
     Ordered,
     /// Flows that may depend on each other in a cycle.
     Cyclic,
-    /// A chain of up to 255 flows in any order.
+    /// A chain of up to 600 flows in any order.
     Chain,
     /// Nested down to depth 32.
     Deep,
-    /// Up to 4,000 nodes.
+    /// Up to 12,000 nodes.
     Wide,
-    /// 255 states, flows, events and transitions.
+    /// As many states, flows, events and transitions, from 127 to 1,190 of each.
     Full,
+    /// Small models side by side: up to 12,000 nodes.
+    Shop,
+    /// Up to 4,000 variables or 3,999 transitions, each of a few nodes.
+    Crowded,
     /// Numbers at the 32-bit ends.
     Ends,
     /// Several faults in one action and in one round.
@@ -44,7 +53,7 @@ pub enum Shape {
     Undecided,
 }
 
-pub const SHAPES: [Shape; 10] = [
+pub const SHAPES: [Shape; 12] = [
     Shape::Small,
     Shape::Ordered,
     Shape::Cyclic,
@@ -52,6 +61,8 @@ pub const SHAPES: [Shape; 10] = [
     Shape::Deep,
     Shape::Wide,
     Shape::Full,
+    Shape::Shop,
+    Shape::Crowded,
     Shape::Ends,
     Shape::Faulty,
     Shape::Undecided,
@@ -60,9 +71,11 @@ pub const SHAPES: [Shape; 10] = [
 /// A random shape; large models are rarer.
 pub fn shape(random: &mut Random) -> Shape {
     match random.below(40) {
-        0 => Shape::Wide,
-        1 => Shape::Full,
-        2 | 3 => Shape::Chain,
+        0 if random.chance(1, 3) => Shape::Wide,
+        0 if random.coin() => Shape::Shop,
+        0 => Shape::Crowded,
+        1 if random.coin() => Shape::Full,
+        1..=3 => Shape::Chain,
         4..=7 => Shape::Deep,
         8..=13 => Shape::Ends,
         14..=18 => Shape::Undecided,
@@ -80,12 +93,18 @@ pub fn model(random: &mut Random, shape: Shape) -> Model {
             Shape::Chain => shapes::chain(random),
             Shape::Deep => shapes::deep(random),
             Shape::Full => shapes::full(random),
+            Shape::Shop => shops::shop(random),
+            Shape::Crowded => crowds::crowded(random),
             Shape::Wide => shapes::wide(random),
             Shape::Faulty => shapes::faulty(random),
             Shape::Undecided => undecided::undecided(random),
             _ => shapes::plain(random, shape),
         };
-        if model.nodes().len() <= MAX_NODES && model.depth() <= MAX_DEPTH {
+        let variables = model.variables().count();
+        if variables <= MAX_VARIABLES
+            && model.nodes().len() <= MAX_NODES
+            && model.depth() <= MAX_DEPTH
+        {
             return model;
         }
     }

@@ -1,16 +1,18 @@
 //! Guarded transition systems: a model file is parsed into a tree, and the calls work on that tree; texts read as
-//! expressions; and models with a transition for events that happen together.
+//! expressions; models with a transition for events that happen together; and old files rewritten.
 
 mod evaluation;
 mod instructions;
 mod model;
 mod refusal;
+mod rewriting;
 mod run;
 mod synchronisation;
 mod texts;
 
-pub use model::{Limits, Model, Sizes, Type};
+pub use model::{Layout, Limits, Model, Sizes, Type};
 pub use refusal::Refusal;
+pub use rewriting::rewrite;
 pub use run::{check, check_expression, fire, first_outside, marks, pick, start, undo, value};
 pub use synchronisation::synchronise;
 pub use texts::write_nodes;
@@ -78,6 +80,12 @@ pub const ENGINE: Engine = Engine {
     },
     synchronise: |model, mandatory, optional, out, length| {
         answer(synchronise(model, mandatory, optional, out), |written| {
+            *length = written;
+            Ok(())
+        })
+    },
+    rewrite: |old, out, length| {
+        answer(rewrite(old, out), |written| {
             *length = written;
             Ok(())
         })

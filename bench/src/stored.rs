@@ -1,5 +1,7 @@
-//! The stored cases under cases/: checks.txt, CALL_FILES, PROGRAM_FILES, texts.txt, values.txt, joins.txt.
-//! Each line is a word and decimal numbers.
+//! The stored cases under cases/: checks.txt, calls.txt, programs.txt, gtswide.txt, texts.txt, values.txt, joins.txt; and
+//! those with old files, under cases/old/. Each line is a word and decimal numbers.
+
+pub mod old;
 
 use std::iter::Peekable;
 use std::path::Path;
@@ -8,12 +10,6 @@ use std::str::Lines;
 use crate::calls::{Call, Join, Store, Typed, TABLE};
 use crate::guarded::Guarded;
 use crate::reference::Type;
-
-/// Lists of calls.
-pub const CALL_FILES: [&str; 3] = ["calls.txt", "earlier_calls.txt", "joined_calls.txt"];
-
-/// Runs of gtsrun.
-pub const PROGRAM_FILES: [&str; 2] = ["programs.txt", "earlier_programs.txt"];
 
 /// A model, and what its check must answer; and expressions handed beside it.
 pub struct CheckCase {
@@ -42,7 +38,7 @@ pub struct ListCase {
 pub struct Lent {
     pub values: Vec<i32>,
     pub marks: Vec<u8>,
-    pub history: Vec<u8>,
+    pub history: Vec<u16>,
     pub n: usize,
     pub buffer: Vec<u8>,
 }
@@ -104,6 +100,12 @@ impl Want {
 
 pub struct ProgramCase {
     pub model: Vec<u8>,
+    pub input: Vec<u8>,
+    pub output: Vec<u8>,
+}
+
+/// A run of gtswide.
+pub struct WideCase {
     pub input: Vec<u8>,
     pub output: Vec<u8>,
 }
@@ -328,6 +330,18 @@ pub fn programs(text: &str) -> Vec<ProgramCase> {
     while !source.ended() {
         cases.push(ProgramCase {
             model: source.list("model"),
+            input: source.list("input"),
+            output: source.list("output"),
+        });
+    }
+    cases
+}
+
+pub fn wide_runs(text: &str) -> Vec<WideCase> {
+    let mut source = Source::new(text);
+    let mut cases = Vec::new();
+    while !source.ended() {
+        cases.push(WideCase {
             input: source.list("input"),
             output: source.list("output"),
         });

@@ -65,7 +65,7 @@ impl Variable {
 
 #[derive(Clone, Debug, PartialEq)]
 pub struct Transition {
-    pub event: u8,
+    pub event: u16,
     pub guard: Expr,
     pub action: Instr,
 }
@@ -74,7 +74,7 @@ pub struct Transition {
 pub struct Model {
     pub states: Vec<Variable>,
     pub flows: Vec<Variable>,
-    pub events: u8,
+    pub events: u16,
     pub transitions: Vec<Transition>,
     pub assertion: Instr,
 }
@@ -267,15 +267,26 @@ impl Model {
             .fold(self.assertion.depth(), usize::max)
     }
 
+    /// S, F, E, T.
+    pub fn sizes(&self) -> [u16; 4] {
+        [
+            self.states.len() as u16,
+            self.flows.len() as u16,
+            self.events,
+            self.transitions.len() as u16,
+        ]
+    }
+
     /// The model file.
     pub fn encode(&self) -> Vec<u8> {
-        let sizes = [
-            self.states.len() as u8,
-            self.flows.len() as u8,
-            self.events,
-            self.transitions.len() as u8,
-        ];
-        encode(sizes, &self.nodes())
+        encode(self.sizes(), &self.nodes())
+    }
+
+    /// The old model file, where the model has one.
+    pub fn encode_old(&self) -> Option<Vec<u8>> {
+        let nodes = self.nodes();
+        let has_one = Layout::Byte.holds(self.sizes(), nodes.len());
+        has_one.then(|| Layout::Byte.encode(self.sizes(), &nodes))
     }
 
     /// Exchanges branches of any block and operands of any symmetric operator.
@@ -293,39 +304,94 @@ impl Model {
 /// A kind and a parameter.
 pub type Node = (u8, i32);
 
-/// A file of these sizes and nodes, N being their number.
-pub fn encode(sizes: [u8; 4], nodes: &[Node]) -> Vec<u8> {
-    let mut file = sizes.to_vec();
-    file.extend((nodes.len() as u16).to_le_bytes());
-    file.extend(nodes.iter().map(|&(kind, _)| kind));
-    file.extend(
-        nodes
+/// How the sizes stand at the head of a file.
+#[derive(Clone, Copy, Debug, PartialEq, Eq)]
+pub enum Layout {
+    /// S, F, E, T have one byte each: old files.
+    Byte,
+    /// They have two bytes each, low byte first.
+    Wide,
+}
+
+impl Layout {
+    pub fn width(self) -> usize {
+        match self {
+            Layout::Byte => 1,
+            Layout::Wide => 2,
+        }
+    }
+
+    /// Bytes of the sizes; N has two.
+    pub fn header(self) -> usize {
+        4 * self.width() + 2
+    }
+
+    /// The largest N.
+    pub fn max_nodes(self) -> usize {
+        match self {
+            Layout::Byte => 4_000,
+            Layout::Wide => 12_000,
+        }
+    }
+
+    /// Whether these sizes can be written and so many nodes are not too many.
+    pub fn holds(self, sizes: [u16; 4], nodes: usize) -> bool {
+        let is_short = |&size: &u16| self == Layout::Wide || size <= 255;
+        sizes.iter().all(is_short) && nodes <= self.max_nodes()
+    }
+
+    /// A file of these sizes, of which it takes the low bytes, and these nodes, N being their number.
+    pub fn encode(self, sizes: [u16; 4], nodes: &[Node]) -> Vec<u8> {
+        let sizes = sizes.map(u16::to_le_bytes);
+        let mut file: Vec<u8> = sizes
             .iter()
-            .flat_map(|&(_, parameter)| parameter.to_le_bytes()),
-    );
-    file
+            .flat_map(|bytes| &bytes[..self.width()])
+            .copied()
+            .collect();
+        file.extend((nodes.len() as u16).to_le_bytes());
+        file.extend(nodes.iter().map(|&(kind, _)| kind));
+        file.extend(
+            nodes
+                .iter()
+                .flat_map(|&(_, parameter)| parameter.to_le_bytes()),
+        );
+        file
+    }
+
+    /// The sizes and the nodes of a file whose length fits its N.
+    pub fn decode(self, file: &[u8]) -> Option<([u16; 4], Vec<Node>)> {
+        let (header, body) = file.split_at_checked(self.header())?;
+        let (sizes, count) = header.split_at(4 * self.width());
+        let size = |place: usize| match self {
+            Layout::Byte => u16::from(sizes[place]),
+            Layout::Wide => u16::from_le_bytes([sizes[2 * place], sizes[2 * place + 1]]),
+        };
+        let count = usize::from(u16::from_le_bytes([count[0], count[1]]));
+        if body.len() != 5 * count {
+            return None;
+        }
+        let (kinds, parameters) = body.split_at(count);
+        let parameters = parameters
+            .chunks_exact(4)
+            .map(|bytes| i32::from_le_bytes(bytes.try_into().expect("four bytes")));
+        let nodes = kinds.iter().copied().zip(parameters).collect();
+        Some(([0, 1, 2, 3].map(size), nodes))
+    }
+}
+
+/// A file of these sizes and nodes, N being their number.
+pub fn encode(sizes: [u16; 4], nodes: &[Node]) -> Vec<u8> {
+    Layout::Wide.encode(sizes, nodes)
 }
 
 /// The sizes and the nodes of a file whose length fits its N.
-pub fn decode(file: &[u8]) -> Option<([u8; 4], Vec<Node>)> {
-    let &[states, flows, events, transitions, low, high, ref body @ ..] = file else {
-        return None;
-    };
-    let count = usize::from(u16::from_le_bytes([low, high]));
-    if body.len() != 5 * count {
-        return None;
-    }
-    let (kinds, parameters) = body.split_at(count);
-    let parameters = parameters
-        .chunks_exact(4)
-        .map(|bytes| i32::from_le_bytes(bytes.try_into().expect("four bytes")));
-    let nodes = kinds.iter().copied().zip(parameters).collect();
-    Some(([states, flows, events, transitions], nodes))
+pub fn decode(file: &[u8]) -> Option<([u16; 4], Vec<Node>)> {
+    Layout::Wide.decode(file)
 }
 
 /// A file as its sizes and as text, the branches of blocks and the operands of symmetric operators sorted: two accepted
 /// files are shuffles of each other exactly if this is the same for both.
-pub fn sorted(file: &[u8]) -> Option<([u8; 4], Vec<String>)> {
+pub fn sorted(file: &[u8]) -> Option<([u16; 4], Vec<String>)> {
     let (sizes, nodes) = decode(file)?;
     let mut place = 0;
     let mut parts = Vec::new();
@@ -352,4 +418,35 @@ fn sorted_subtree(nodes: &[Node], place: &mut usize) -> Option<String> {
         children.sort();
     }
     Some(format!("{kind},{parameter}({})", children.join(" ")))
+}
+
+/// The depth of each node; 0 for variables and transitions.
+pub fn depths(nodes: &[Node]) -> Vec<usize> {
+    // For each node above, how many of its children are still due.
+    let mut due: Vec<usize> = Vec::new();
+    let mut base = 0;
+    nodes
+        .iter()
+        .map(|&(kind, parameter)| {
+            if due.is_empty() && matches!(kind, 16..=19) {
+                // The assertion stands below no transition.
+                base = 1;
+            }
+            let depth = base + due.len();
+            if let Some(children) = due.last_mut() {
+                *children -= 1;
+            }
+            due.push(match kind {
+                17 | 35 => 1,
+                5 | 18 | 36..=45 | 47 => 2,
+                46 => 3,
+                19 => usize::try_from(parameter).unwrap_or(0),
+                _ => 0,
+            });
+            while due.last() == Some(&0) {
+                due.pop();
+            }
+            depth
+        })
+        .collect()
 }

@@ -4,9 +4,9 @@ mod chains;
 mod joins;
 mod nests;
 
-pub use chains::{chain, chain_in_order, known_at_once, one_condition, undecided};
+pub use chains::{chain, chain_in_order, flows_alone, known_at_once, one_condition, undecided};
 pub use joins::deep_joins;
-pub use nests::deep_runs;
+pub use nests::{deep_runs, sized_readings, Size};
 
 use crate::calls::Engine;
 use crate::reference;
@@ -46,6 +46,8 @@ pub enum Work {
     /// Take back the last step of a run of so many steps.
     Undo(Vec<usize>, usize),
     Marks,
+    /// The value of this variable.
+    Value(usize),
     Pick,
     /// All values are within their ends, or that of this variable alone is not.
     FirstOutside(Option<usize>),
@@ -53,6 +55,8 @@ pub enum Work {
     Text(Vec<String>),
     /// The model with these mandatory and these optional transitions joined.
     Synchronise(Vec<usize>, Vec<usize>),
+    /// The model's old file in the new layout.
+    Rewrite(Vec<u8>),
 }
 
 /// A workload with its buffers, to be carried out many times.
@@ -63,7 +67,7 @@ pub struct Prepared<'w> {
     /// What a text's nodes are written to.
     kinds: Vec<u8>,
     parameters: Vec<i32>,
-    /// What a new model is written to.
+    /// What a new model, or a rewritten one, is written to.
     out: Vec<u8>,
 }
 
@@ -71,7 +75,7 @@ pub struct Prepared<'w> {
 struct Run {
     values: Vec<i32>,
     marks: Vec<u8>,
-    history: Vec<u8>,
+    history: Vec<u16>,
     n: usize,
     /// What the marks call copies the marks to.
     buffer: Vec<u8>,
@@ -137,6 +141,22 @@ impl Run {
         buffer.iter().map(|&mark| u64::from(mark)).sum()
     }
 
+    /// The value of this variable.
+    fn value(&self, engine: &Engine, model: &[u8], variable: usize) -> u64 {
+        let mut value = 0;
+        let answer = (engine.value)(
+            model,
+            &self.values,
+            &self.marks,
+            &self.history,
+            self.n,
+            variable,
+            &mut value,
+        );
+        assert_eq!(answer, 0);
+        value as u64
+    }
+
     /// The transition picked.
     fn pick(&self, engine: &Engine, model: &[u8]) -> u64 {
         let (mut transition, mut found) = (0, 0);
@@ -196,7 +216,7 @@ impl Workload {
             run,
             kinds: vec![0; 400],
             parameters: vec![0; 400],
-            out: vec![0; 20_006],
+            out: vec![0; 60_010],
         }
     }
 }
@@ -215,12 +235,14 @@ impl Prepared<'_> {
             }
             Work::Undo(..) => run.undo(engine, model),
             Work::Marks => run.marks(engine, model),
+            Work::Value(variable) => run.value(engine, model, *variable),
             Work::Pick => run.pick(engine, model),
             Work::FirstOutside(outside) => run.first_outside(engine, model, *outside),
             Work::Text(texts) => self.write_nodes(engine, model, texts),
             Work::Synchronise(mandatory, optional) => {
                 self.synchronise(engine, model, mandatory, optional)
             }
+            Work::Rewrite(old) => self.rewrite(engine, old),
         }
     }
 
@@ -235,8 +257,19 @@ impl Prepared<'_> {
         let mut length = 0;
         let answer = (engine.synchronise)(model, mandatory, optional, &mut self.out, &mut length);
         assert_eq!(answer, 0, "{} refuses a join", engine.name);
-        let sizes = self.out[..6].iter().map(|&size| u64::from(size));
-        length as u64 + sizes.sum::<u64>()
+        length as u64 + self.written_sizes()
+    }
+
+    /// The same of the rewritten file.
+    fn rewrite(&mut self, engine: &Engine, old: &[u8]) -> u64 {
+        let mut length = 0;
+        let answer = (engine.rewrite)(old, &mut self.out, &mut length);
+        assert_eq!(answer, 0, "{} refuses an old file", engine.name);
+        length as u64 + self.written_sizes()
+    }
+
+    fn written_sizes(&self) -> u64 {
+        self.out[..10].iter().map(|&size| u64::from(size)).sum()
     }
 
     /// Each text's answer and nodes, summed.
@@ -269,7 +302,6 @@ fn sum(values: &[i32]) -> u64 {
 
 /// The workloads of the ratio table.
 pub fn all() -> Vec<Workload> {
-    let check = Workload::new("check, 4,000 nodes", large(4_000).encode(), Work::Check);
     let deep = Workload::new(
         "deep inactive branches, 4,000 nodes, start and 200 fires",
         inactive(4_000).encode(),
@@ -282,27 +314,42 @@ pub fn all() -> Vec<Workload> {
     );
     let others = vec![deep, text];
     [
-        vec![check],
+        checks(),
         runs(),
         chains::timed(),
         undos(),
         readings(),
         others,
         joins::timed(),
+        vec![rewrite("rewrite, 4,000 nodes", &large(4_000))],
     ]
     .into_iter()
     .flatten()
     .collect()
 }
 
-/// Transitions of the model of 4,000 nodes that can be fired again and again.
+fn checks() -> Vec<Workload> {
+    let check = |name, nodes| Workload::new(name, large(nodes).encode(), Work::Check);
+    vec![
+        check("check, 4,000 nodes", 4_000),
+        check("check, 12,000 nodes", 12_000),
+    ]
+}
+
+/// The model's old file in the new layout.
+fn rewrite(name: impl Into<String>, model: &Model) -> Workload {
+    let old = model.encode_old().expect("a model that has an old file");
+    Workload::new(name, model.encode(), Work::Rewrite(old))
+}
+
+/// Transitions of the models of 4,000 and of 12,000 nodes that can be fired again and again.
 fn large_steps() -> Vec<usize> {
     (0..20).collect()
 }
 
 /// Starts and fires.
 fn runs() -> Vec<Workload> {
-    let counter_nodes = COUNTER.len() / 5 - 1;
+    let counter_nodes = COUNTER.len() / 5 - 2;
     vec![
         Workload::new(
             format!("counter of {counter_nodes} nodes, start and 200 fires"),
@@ -312,6 +359,11 @@ fn runs() -> Vec<Workload> {
         Workload::new(
             "4,000 nodes, 4 rounds, start and 200 fires",
             large(4_000).encode(),
+            Work::Run(large_steps(), STEPS),
+        ),
+        Workload::new(
+            "12,000 nodes, 4 rounds, start and 200 fires",
+            large(12_000).encode(),
             Work::Run(large_steps(), STEPS),
         ),
     ]
@@ -355,12 +407,13 @@ fn readings() -> Vec<Workload> {
     ]
 }
 
-/// Texts of at most 200 bytes that nest as deep as they can, for the stack.
-pub fn nested_texts() -> Vec<Workload> {
+/// Texts of at most 200 bytes that nest as deep as they can, beside a model of this size, for the stack.
+pub fn nested_texts(size: Size) -> Vec<Workload> {
+    let model = nests::plain_model(size).encode();
     let nested = |name: &str, beginning: &str, middle: &str, end: &str, times: usize| {
         let text = [&beginning.repeat(times), middle, &end.repeat(times)].concat();
         let name = format!("text, {times} {name}");
-        Workload::new(name, COUNTER.to_vec(), Work::Text(vec![text]))
+        Workload::new(name, model.clone(), Work::Text(vec![text]))
     };
     vec![
         nested("`(`, a digit, as many `)`", "(", "1", ")", 99),
@@ -390,38 +443,34 @@ pub fn nested_texts() -> Vec<Workload> {
 
 /// A list of workloads of growing size, by what grows.
 pub fn growing() -> Vec<(&'static str, Vec<Workload>)> {
-    let sizes = [500, 1_000, 2_000, 4_000];
+    let sizes = [500, 1_000, 2_000, 4_000, 12_000];
     let check = sizes.map(|nodes| {
-        Workload::new(
-            format!("check, {nodes} nodes"),
-            large(nodes).encode(),
-            Work::Check,
-        )
+        let name = format!("check, {nodes} nodes");
+        Workload::new(name, large(nodes).encode(), Work::Check)
     });
     let start = sizes.map(|nodes| {
-        Workload::new(
-            format!("start, {nodes} nodes"),
-            large(nodes).encode(),
-            Work::Start,
-        )
+        let name = format!("start, {nodes} nodes");
+        Workload::new(name, large(nodes).encode(), Work::Start)
     });
     let steps = [25, 50, 100, 200].map(|n| {
-        Workload::new(
-            format!("counter, undo at n = {n}"),
-            COUNTER.to_vec(),
-            Work::Undo(COUNTER_STEPS.to_vec(), n),
-        )
+        let name = format!("counter, undo at n = {n}");
+        let work = Work::Undo(COUNTER_STEPS.to_vec(), n);
+        Workload::new(name, COUNTER.to_vec(), work)
     });
+    let rewrites = [500, 1_000, 2_000, 4_000]
+        .map(|nodes| rewrite(format!("rewrite, {nodes} nodes"), &large(nodes)));
     vec![
         ("nodes", check.into()),
         ("nodes", start.into()),
         ("nodes", chains::of_growing_models()),
         ("rounds", chains::of_growing_rounds()),
+        ("rounds", chains::of_many_rounds()),
         ("rounds", chains::of_growing_conditions()),
         ("flows", chains::of_growing_flows()),
         ("steps", steps.into()),
         ("nodes", joins::of_growing_models()),
         ("members", joins::of_growing_lists()),
+        ("nodes", rewrites.into()),
     ]
 }
 
@@ -459,7 +508,7 @@ pub fn large(nodes: usize) -> Model {
     let model = Model {
         states: vec![variable(7); states],
         flows: vec![variable(0); flows],
-        events: transitions as u8,
+        events: transitions as u16,
         transitions: (0..transitions)
             .map(|place| counting_transition(place, states))
             .collect(),
@@ -494,7 +543,7 @@ fn counting_transition(place: usize, states: usize) -> Transition {
         Expr::binary(Operator::Mod, sum, number(1_000))
     };
     Transition {
-        event: place as u8,
+        event: place as u16,
         guard: Expr::binary(
             Operator::Or,
             Expr::binary(Operator::Less, number(-1_000), Expr::Variable(one)),
@@ -543,7 +592,7 @@ pub fn guards() -> Model {
             let either = Expr::binary(Operator::Or, relation, boolean.negated());
             let equal = Expr::binary(Operator::EqualNumbers, counted(2), number(9));
             Transition {
-                event: place as u8,
+                event: place as u16,
                 guard: Expr::binary(Operator::And, either, equal.negated()),
                 action: Instr::Skip,
             }

@@ -7,20 +7,20 @@ use bench::reference::{self, Refusal, ENGINE};
 use bench::tree;
 
 /// A file of these sizes S F E T and these nodes.
-fn file(sizes: [u8; 4], nodes: &[(u8, i32)]) -> Vec<u8> {
+fn file(sizes: [u16; 4], nodes: &[(u8, i32)]) -> Vec<u8> {
     tree::encode(sizes, nodes)
 }
 
-fn check(sizes: [u8; 4], nodes: &[(u8, i32)]) -> u8 {
+fn check(sizes: [u16; 4], nodes: &[(u8, i32)]) -> u8 {
     reference::check(&file(sizes, nodes)).map_or_else(Refusal::number, |_| 0)
 }
 
 /// The first line that gtsrun prints.
-fn start(sizes: [u8; 4], nodes: &[(u8, i32)]) -> String {
+fn start(sizes: [u16; 4], nodes: &[(u8, i32)]) -> String {
     gtsrun(&ENGINE, &file(sizes, nodes), b"")
 }
 
-fn run(sizes: [u8; 4], nodes: &[(u8, i32)], input: &str) -> String {
+fn run(sizes: [u16; 4], nodes: &[(u8, i32)], input: &str) -> String {
     gtsrun(&ENGINE, &file(sizes, nodes), input.as_bytes())
 }
 
@@ -212,29 +212,21 @@ fn resets_come_after_propagation() {
 
 #[test]
 fn refusals_of_files() {
-    assert_eq!(reference::check(&[0; 5]), Err(Refusal::ShortFile));
-    assert_eq!(
-        reference::check(&[0, 0, 0, 0, 0xA1, 0x0F]),
-        Err(Refusal::TooManyNodes)
-    );
-    assert_eq!(
-        reference::check(&[0, 0, 0, 0, 0xA0, 0x0F]),
-        Err(Refusal::LengthDiffers)
-    );
     let mut long = file([0, 0, 0, 0], &[(16, 0)]);
     long.push(0);
     assert_eq!(reference::check(&long), Err(Refusal::LengthDiffers));
     long.resize(60_000, 0);
     assert_eq!(reference::check(&long), Err(Refusal::LengthDiffers));
-    let mut full = vec![0, 0, 0, 0, 0xFF, 0xFF];
-    full.resize(6 + 5 * 65_535, 0);
-    assert_eq!(reference::check(&full), Err(Refusal::TooManyNodes));
     assert_eq!(check([0, 0, 0, 0], &[]), 4);
     assert_eq!(check([0, 0, 7, 0], &[(16, 0)]), 0);
     assert_eq!(check([0, 0, 0, 0], &[(16, 0), (16, 0)]), 8);
     assert_eq!(check([0, 0, 0, 0], &[(16, 1)]), 7);
     assert_eq!(check([0, 0, 0, 0], &[(19, -1)]), 7);
     assert_eq!(check([0, 0, 0, 0], &[(19, i32::MAX), (16, 0)]), 4);
+}
+
+#[test]
+fn refusals_of_nodes() {
     // Variables of three nodes.
     assert_eq!(check([1, 0, 0, 0], &[(2, 5), (3, 4)]), 7);
     assert_eq!(check([1, 0, 0, 0], &[(2, 5), (3, 5)]), 4);
@@ -297,7 +289,7 @@ fn expressions_outside() {
     assert_eq!(expression(&[], &[], Type::Boolean), 4);
     assert_eq!(expression(&[32, 32], &[2, 2], Type::Number), 8);
     assert_eq!(expression(&[16], &[0], Type::Boolean), 6);
-    // More than 4,000 nodes are no reason to refuse: a full tree 12 deep.
+    // More than 12,000 nodes are no reason to refuse: a full tree 14 deep.
     let mut kinds = vec![];
     fn full(kinds: &mut Vec<u8>, depth: usize) {
         kinds.push(if depth == 1 { 32 } else { 41 });
@@ -305,8 +297,8 @@ fn expressions_outside() {
             full(kinds, depth - 1);
         }
     }
-    full(&mut kinds, 13);
-    assert!(kinds.len() > 8_000);
+    full(&mut kinds, 14);
+    assert!(kinds.len() > 12_000);
     let parameters = vec![0; kinds.len()];
     assert_eq!(expression(&kinds, &parameters, Type::Number), 0);
     kinds.push(32);
@@ -318,7 +310,7 @@ fn orders_of_refusal() {
     let model = example();
     let mut n = 0;
     // fire: 9, 11, 20, 21, 23; 10 is in held_marks.rs.
-    let fire = |values: &mut [i32], history: &mut [u8], n: &mut usize, transition| {
+    let fire = |values: &mut [i32], history: &mut [u16], n: &mut usize, transition| {
         reference::fire(&model, values, &mut [0; 2], history, n, transition)
             .map_err(Refusal::number)
     };
@@ -332,7 +324,7 @@ fn orders_of_refusal() {
     assert_eq!(fire(&mut [1, 1, 1], &mut [2], &mut 0, 1), Err(23));
     assert_eq!(fire(&mut [1, 1, 1], &mut [2], &mut 0, 256), Err(11));
     // undo: 20, 22, 31; entries from n on are not looked at.
-    let undo = |values: &mut [i32], history: &[u8], n: &mut usize| {
+    let undo = |values: &mut [i32], history: &[u16], n: &mut usize| {
         reference::undo(&model, values, &mut [0; 2], history, n).map_err(Refusal::number)
     };
     assert_eq!(undo(&mut [2, 1, 1], &[], &mut n), Err(20));
@@ -372,7 +364,7 @@ fn guarded(guards: &[&[(u8, i32)]]) -> Vec<u8> {
         nodes.push((16, 0));
     }
     nodes.push((16, 0));
-    file([1, 0, 1, guards.len() as u8], &nodes)
+    file([1, 0, 1, guards.len() as u16], &nodes)
 }
 
 #[test]
@@ -396,7 +388,7 @@ fn pick_answers_the_lowest() {
 #[test]
 fn refusals_and_results_of_pick() {
     let file = guarded(&[&[(34, 0)], &[(34, 0)]]);
-    let pick = |values: &[i32], history: &[u8], n| {
+    let pick = |values: &[i32], history: &[u16], n| {
         let (mut transition, mut found) = (77, 9);
         let answer = (ENGINE.pick)(
             &file,
@@ -426,7 +418,7 @@ const NUMBER: &[(u8, i32)] = &[(2, -3), (3, 5), (4, 0)];
 /// A model of these states and flows.
 fn variables(states: &[&[(u8, i32)]], flows: &[&[(u8, i32)]]) -> Vec<u8> {
     let nodes = [&states.concat()[..], &flows.concat(), &[(16, 0)]].concat();
-    file([states.len() as u8, flows.len() as u8, 0, 0], &nodes)
+    file([states.len() as u16, flows.len() as u16, 0, 0], &nodes)
 }
 
 #[test]
@@ -478,8 +470,8 @@ fn refusals_and_results_of_first_outside() {
         (answer, variable, found, looked)
     };
     // The model's refusal, then 9: a value outside does not come before it.
-    assert_eq!(first(&file[..5], &[]), (1, 77, 9, 88));
-    assert_eq!(first(&file[..9], &[2]), (3, 77, 9, 88));
+    assert_eq!(first(&file[..9], &[]), (1, 77, 9, 88));
+    assert_eq!(first(&file[..10], &[2]), (3, 77, 9, 88));
     assert_eq!(
         first(&variables(&[BOOLEAN, &[(99, 0)]], &[]), &[2]),
         (6, 77, 9, 88)
@@ -524,11 +516,11 @@ fn program_lines() {
     assert_eq!(after_start("f 000"), "ok 2 0 1 0\n");
     assert_eq!(after_start("f 0\nu\n"), "ok 2 0 1 0\nback 1 1 1\n");
     for refused in [
-        "f", "f ", "f  0", "f 0 ", " f 0", "f 0000", "f +1", "m\r", "u\0", "F 0", "mm", "f 0a",
+        "f", "f ", "f  0", "f 0 ", " f 0", "f 000000", "f +1", "m\r", "u\0", "F 0", "mm", "f 0a",
     ] {
         assert_eq!(after_start(refused), "no 13\n", "{refused:?}");
     }
-    assert_eq!(after_start("f 256\nf 999\n"), "no 11\nno 11\n");
+    assert_eq!(after_start("f 256\nf 65536\n"), "no 11\nno 11\n");
     let long = "f".repeat(200_000);
     assert_eq!(after_start(&format!("{long}\nm")), "no 13\nm 1 0\n");
     assert_eq!(after_start(&"\n".repeat(70_000)), "no 13\n".repeat(70_000));

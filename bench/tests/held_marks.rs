@@ -296,7 +296,7 @@ fn orders_of_refusal() {
 #[test]
 fn refused_calls_keep_made_up_marks() {
     let marks = [2, 1, 0, 1, 2, 0, 0, 2, 0, 77];
-    let store = |places: &[u8], n| Store::new(&[0, 0], &marks, places, n, &[]);
+    let store = |places: &[u16], n| Store::new(&[0, 0], &marks, places, n, &[]);
     let mut run = Run::new(refusing(0), store(&[0, 8, 8], 2));
     for transition in 0..8 {
         assert_eq!(run.call(FIRE, transition), 23 + transition as u8);

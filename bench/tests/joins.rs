@@ -5,10 +5,10 @@ use bench::reference::{self, ENGINE};
 use bench::tree::{self, Expr, Instr, Model, Node, Operator, Transition, Variable};
 
 /// Bytes of the largest model.
-const MAX_BYTES: usize = 20_006;
+const MAX_BYTES: usize = 60_010;
 
 /// Cells of a slice that is longer than any model, so that it is never the reason of a refusal.
-const CELLS: usize = 30_000;
+const CELLS: usize = 70_000;
 
 fn number(value: i32) -> Expr {
     Expr::Number(value)
@@ -18,7 +18,7 @@ fn always() -> Expr {
     Expr::Boolean(true)
 }
 
-fn transition(event: u8, guard: Expr, action: Instr) -> Transition {
+fn transition(event: u16, guard: Expr, action: Instr) -> Transition {
     Transition {
         event,
         guard,
@@ -225,33 +225,40 @@ fn places_of_a_deeper_guard() {
     }
 }
 
-/// E and T of 254 and 255.
+/// E up to 65,535, and T around 255 and up to 3,990: 36 for E alone, since the nodes end before T does.
 #[test]
 fn sizes() {
     let idle = |event| transition(event, always(), Instr::Skip);
-    for events in [253, 254, 255] {
-        for transitions in [1, 253, 254, 255] {
+    for events in [254, 255, 256, 65_534, 65_535] {
+        for transitions in [1, 254, 255, 256, 3_990] {
             let model = Model {
                 events,
                 transitions: vec![idle(events - 1); transitions],
                 ..shop()
             };
-            let wanted = if events == 255 || transitions == 255 {
-                36
-            } else {
-                0
-            };
+            let wanted = if events == 65_535 { 36 } else { 0 };
             for (mandatory, optional) in [(&[0][..], &[][..]), (&[], &[0]), (&[0], &[0])] {
                 assert_eq!(answer(&model, mandatory, optional), wanted);
             }
             assert_eq!(answer(&model, &[], &[]), 35);
             assert_eq!(answer(&model, &[transitions], &[]), 11);
             if wanted == 0 {
-                let written = join(&model.encode(), &[0], &[], CELLS).expect("accepted");
-                assert_eq!(written[2..4], [events + 1, transitions as u8 + 1]);
+                let last = [transitions - 1];
+                let written = join(&model.encode(), &last, &[], CELLS).expect("accepted");
+                let sizes = reference::check(&written).expect("accepted");
+                let found = (sizes.events, sizes.transitions);
+                assert_eq!(found, (usize::from(events) + 1, transitions + 1));
             }
         }
     }
+}
+
+/// An old file is refused by the new check.
+#[test]
+fn old_files() {
+    let old = shop().encode_old().expect("an old file");
+    let answer = reference::check(&old).expect_err("refused").number();
+    assert_eq!(join(&old, &[0], &[], CELLS), Err(answer));
 }
 
 /// The shop with branches of one node, so that it has so many nodes.
@@ -281,7 +288,7 @@ fn new_nodes(mandatory: &[usize], optional: &[usize]) -> usize {
     2 + guard + sum(&ACTIONS, mandatory) + conditional
 }
 
-/// New models of 4,000 and 4,001 nodes.
+/// New models of 12,000 and 12,001 nodes, and of so many as an old file had.
 #[test]
 fn nodes() {
     for (mandatory, optional) in [
@@ -292,15 +299,15 @@ fn nodes() {
         (&[1, 2], &[3, 0]),
     ] {
         let more = new_nodes(mandatory, optional);
-        for (nodes, wanted) in [(3_999, 0), (4_000, 0), (4_001, 36)] {
+        for (nodes, wanted) in [(4_001, 0), (11_999, 0), (12_000, 0), (12_001, 36)] {
             let found = answer(&filled(nodes - more), mandatory, optional);
             assert_eq!(found, wanted, "{mandatory:?} {optional:?}, {nodes} nodes");
         }
-        let file = filled(4_000 - more).encode();
+        let file = filled(12_000 - more).encode();
         let written = join(&file, mandatory, optional, MAX_BYTES).expect("accepted");
         assert_eq!(written.len(), MAX_BYTES);
         assert_eq!(join(&file, mandatory, optional, MAX_BYTES - 1), Err(36));
-        assert_eq!(answer(&filled(4_000), mandatory, optional), 36);
+        assert_eq!(answer(&filled(12_000), mandatory, optional), 36);
     }
 }
 
@@ -389,7 +396,7 @@ fn slices() {
     for (mandatory, optional) in [(&[0][..], &[][..]), (&[], &[1]), (&[3, 2], &[0, 0])] {
         let long = join(&file, mandatory, optional, CELLS).expect("accepted");
         let length = long.len();
-        for cells in [0, 5, 6, file.len(), length - 5, length - 1] {
+        for cells in [0, 9, 10, file.len(), length - 5, length - 1] {
             assert_eq!(join(&file, mandatory, optional, cells), Err(36), "{cells}");
         }
         for cells in [length, length + 1, 2 * length, 100_000] {
@@ -404,7 +411,7 @@ fn slices() {
 fn orders_of_refusal() {
     let file = shop().encode();
     let full = Model {
-        events: 255,
+        events: 65_535,
         ..shop()
     };
     for (mandatory, optional, number) in [
@@ -414,6 +421,7 @@ fn orders_of_refusal() {
         (&[0, 5], &[0], 11),
         (&[0], &[0, 0, 5], 11),
         (&[256], &[], 11),
+        (&[65_536], &[], 11),
         (&[0], &[1 << 32], 11),
         (&[usize::MAX], &[], 11),
         (&[0; 40], &[5], 11),
@@ -421,7 +429,7 @@ fn orders_of_refusal() {
         (&[4], &[4], 36),
     ] {
         // The file is cut short, or has a node too many; or there is no cell to write to.
-        assert_eq!(join(&file[..10], mandatory, optional, 0), Err(3));
+        assert_eq!(join(&file[..11], mandatory, optional, 0), Err(3));
         let refused = tree::encode([0, 0, 0, 0], &[(16, 0), (16, 0)]);
         assert_eq!(join(&refused, mandatory, optional, 0), Err(8));
         assert_eq!(join(&file, mandatory, optional, 0), Err(number));
@@ -435,11 +443,11 @@ fn orders_of_refusal() {
     assert_eq!(join(&empty, &[], &[0], CELLS), Err(11));
 }
 
-/// 100,000 members of which the last is none of the model's are 11; 5,000 that are there are 36.
+/// 100,000 members of which the last is none of the model's are 11; 15,000 that are there are 36.
 #[test]
 fn long_lists() {
     let model = shop();
-    let (mut last, many) = (vec![0; 100_000], vec![4; 5_000]);
+    let (mut last, many) = (vec![0; 100_000], vec![4; 15_000]);
     assert_eq!(answer(&model, &last, &[]), 36);
     assert_eq!(answer(&model, &[], &last), 36);
     last[99_999] = 5;
@@ -544,7 +552,7 @@ fn a_run_of_the_new_model() {
 fn a_run_that_goes_on() {
     let old = shop().encode();
     let new = join(&old, &[0], &[1], CELLS).expect("accepted");
-    let fire = |model: &[u8], marks: &[u8], history: &[u8], transition| {
+    let fire = |model: &[u8], marks: &[u8], history: &[u16], transition| {
         let mut store = Store::new(&[1, 2, 2], marks, history, 1, &[]);
         let call = Call {
             row: FIRE,

@@ -43,24 +43,23 @@ fn wanted(model: &Model, join: &Join) -> Result<Vec<u8>, u8> {
 fn reasons(model: &Model, join: &Join) -> Vec<&'static str> {
     let (mandatory, optional) = (join.mandatory.cells(), join.optional.cells());
     let small = Model {
-        events: model.events.min(254),
+        events: model.events.min(65_534),
         ..model.clone()
     };
     let Ok(new) = joined(&small, mandatory, optional) else {
-        let is_full = model.transitions.len() == 255;
         let is_long = mandatory.len() + optional.len() > 500;
-        let met = [(is_full, "T"), (is_long, "many members")];
-        let met = met.into_iter().filter(|&(met, _)| met);
-        return met.map(|(_, reason)| reason).collect();
+        return Vec::from_iter(is_long.then_some("many members"));
     };
     let (length, cells) = (new.encode().len(), join.out.cells().len());
     let met = [
-        (model.events == 255, "E"),
+        (model.events == 65_535, "E"),
+        (new.events == 256, "256 events"),
+        (new.transitions.len() == 256, "256 transitions"),
         (cells + 1 == length, "one cell short"),
         (cells + 1 < length, "shorter"),
         (cells == length, "exact"),
         (cells > length, "longer"),
-        (length == 20_006, "4,000 nodes"),
+        (length == 60_010, "12,000 nodes"),
         (new.depth() == 32, "depth 32"),
     ];
     let met = met.into_iter().filter(|&(met, _)| met);
@@ -91,7 +90,7 @@ fn joins_are_those_of_trees() {
     println!("{answers:?} {met:?}");
     assert_eq!(answers.keys().copied().collect::<Vec<_>>(), [0, 11, 35, 36]);
     assert!(answers.values().all(|&times| times > 300), "{answers:?}");
-    assert_eq!(met.len(), 9, "{met:?}");
+    assert_eq!(met.len(), 10, "{met:?}");
     assert!(met.values().all(|&times| times > 50), "{met:?}");
 }
 

@@ -1,8 +1,9 @@
 //! The stored cases through the reference implementation.
 
 use bench::calls::{Call, FIRST_OUTSIDE};
-use bench::program::gtsrun;
+use bench::program::{gtsrun, gtswide};
 use bench::reference::{self, ENGINE};
+use bench::stored::old::widened;
 use bench::stored::{self, Lent};
 
 #[test]
@@ -27,19 +28,12 @@ fn checks() {
             expressions += 1;
         }
     }
-    assert_eq!((models, expressions), (800, 368));
+    assert_eq!((models, expressions), (300, 212));
 }
 
 #[test]
 fn lists_of_calls() {
-    assert_eq!(lists_as_stored("calls.txt"), (220, 2 * 3216));
-    assert_eq!(lists_as_stored("earlier_calls.txt"), (246, 2 * 3586));
-}
-
-/// On models that a join wrote.
-#[test]
-fn lists_of_calls_after_joins() {
-    assert_eq!(lists_as_stored("joined_calls.txt"), (60, 2 * 817));
+    assert_eq!(lists_as_stored("calls.txt"), (200, 2 * 2908));
 }
 
 /// Every list of a file, with its model and with its twin; gives how many lists and calls there are.
@@ -75,8 +69,7 @@ fn lists_as_stored(name: &str) -> (usize, usize) {
 
 #[test]
 fn programs() {
-    assert_eq!(programs_as_stored("programs.txt"), 150);
-    assert_eq!(programs_as_stored("earlier_programs.txt"), 500);
+    assert_eq!(programs_as_stored("programs.txt"), 200);
 }
 
 /// Every run of a file; gives how many there are.
@@ -94,6 +87,21 @@ fn programs_as_stored(name: &str) -> usize {
 }
 
 #[test]
+fn wide_runs() {
+    let cases = stored::wide_runs(&stored::text("gtswide.txt"));
+    let mut accepted = 0;
+    for (place, case) in cases.iter().enumerate() {
+        let output = gtswide(&ENGINE, &case.input);
+        assert!(output == case.output, "run {place} of gtswide");
+        if reference::check(&output).is_ok() {
+            assert_eq!(output, widened(&case.input), "run {place} of gtswide");
+            accepted += 1;
+        }
+    }
+    assert_eq!((cases.len(), accepted), (150, 102));
+}
+
+#[test]
 fn texts() {
     let cases = stored::texts(&stored::text("texts.txt"));
     for (place, case) in cases.iter().enumerate() {
@@ -106,7 +114,7 @@ fn texts() {
         assert!(typed.intact(), "text {place}: {text}");
     }
     let accepted = cases.iter().filter(|case| case.want == 0).count();
-    assert_eq!((cases.len(), accepted), (767, 230));
+    assert_eq!((cases.len(), accepted), (447, 149));
 }
 
 #[test]
@@ -127,7 +135,7 @@ fn values() {
     let accepted = cases.iter().filter(|case| case.want == 0).count();
     let outside = |case: &&stored::ValuesCase| case.after.found.get() == 1;
     let outside = cases.iter().filter(outside).count();
-    assert_eq!((cases.len(), accepted, outside), (406, 347, 190));
+    assert_eq!((cases.len(), accepted, outside), (126, 117, 72));
 }
 
 #[test]
@@ -142,5 +150,5 @@ fn joins() {
         assert!(join.intact(), "join {place}");
     }
     let accepted = cases.iter().filter(|case| case.want == 0).count();
-    assert_eq!((cases.len(), accepted), (308, 179));
+    assert_eq!((cases.len(), accepted), (121, 66));
 }

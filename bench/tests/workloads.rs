@@ -3,19 +3,25 @@
 use std::collections::BTreeSet;
 use std::path::Path;
 
-use bench::program::gtsrun;
+use bench::program::{gtsrun, gtswide, rewritten};
 use bench::reference::{self, ENGINE};
-use bench::tree::Instr;
-use bench::workloads::{self, Work, Workload};
+use bench::tree::{self, Instr};
+use bench::workloads::{self, Size, Work, Workload};
 
 fn rounds(model: &[u8]) -> usize {
-    let (mut values, mut marks, mut n) = ([0; 510], [0; 255], 0);
+    let (mut values, mut marks, mut n) = ([0; 4_000], [0; 3_999], 0);
     reference::start(model, &mut values, &mut marks, &mut n).expect("accepted")
+}
+
+/// How deep the deepest node below a transition or the assertion stands.
+fn depth(model: &[u8]) -> usize {
+    let (_, nodes) = tree::decode(model).expect("a file");
+    tree::depths(&nodes).into_iter().max().unwrap_or(0)
 }
 
 #[test]
 fn sizes_and_rounds() {
-    for nodes in [500, 1_000, 2_000, 4_000] {
+    for nodes in [500, 1_000, 2_000, 4_000, 12_000] {
         let model = workloads::large(nodes).encode();
         assert_eq!(reference::check(&model).expect("accepted").nodes, nodes);
         assert_eq!(rounds(&model), 4);
@@ -46,6 +52,11 @@ fn chains() {
         let model = workloads::known_at_once(flows, 4_000);
         assert_eq!((model.nodes().len(), rounds(&model.encode())), (4_000, 2));
     }
+    for (flows, nodes) in [(3_999, 0), (499, 11_998)] {
+        let model = workloads::flows_alone(flows, nodes);
+        assert_eq!(model.nodes().len(), 11_998);
+        assert_eq!(rounds(&model.encode()), flows + 1);
+    }
     let undecided = workloads::undecided(44, 4_000);
     assert_eq!((undecided.nodes().len(), undecided.depth()), (4_000, 32));
     assert_eq!(rounds(&undecided.encode()), 46);
@@ -68,15 +79,44 @@ fn the_condition_mentions_each_flow() {
     assert!(mentioned.into_iter().eq(1..=255));
 }
 
+/// All workloads of this size for the stack.
+fn for_the_stack(size: Size) -> Vec<Workload> {
+    let mut workloads = workloads::deep_runs(size);
+    workloads.extend(workloads::sized_readings(size));
+    workloads.extend(workloads::nested_texts(size));
+    workloads.extend(workloads::deep_joins(size));
+    workloads
+}
+
+/// Each of them is as large as it may be; a join becomes so, and a rewriting is as large as an old file may be.
+#[test]
+fn sizes_for_the_stack() {
+    for size in Size::ALL {
+        for workload in for_the_stack(size) {
+            let sizes = match &workload.work {
+                Work::Synchronise(..) => sizes_after(&workload),
+                _ => reference::check(&workload.model)
+                    .expect("accepted")
+                    .to_array(),
+            };
+            let [states, flows, .., nodes] = sizes.map(|size| size as usize);
+            let wanted = match (&workload.work, size) {
+                (Work::Rewrite(_), Size::Large) => (510, 4_000),
+                _ => (size.variables(), size.nodes()),
+            };
+            assert_eq!((states + flows, nodes), wanted, "{}", workload.name);
+        }
+        let deep = workloads::deep_runs(size);
+        let is_deep = |each: &Workload| depth(&each.model) == 32;
+        assert!(deep.iter().all(is_deep));
+    }
+}
+
 #[test]
 fn workloads_repeat() {
     let growing = workloads::growing();
     let growing = growing.iter().flat_map(|(_, workloads)| workloads);
-    let nested = [
-        workloads::nested_texts(),
-        workloads::deep_joins(),
-        workloads::deep_runs(),
-    ];
+    let nested = Size::ALL.map(for_the_stack);
     let workloads = workloads::all();
     let workloads = workloads
         .iter()
@@ -113,7 +153,7 @@ fn texts() {
         assert!(nodes.is_ok(), "{text}: {nodes:?}");
         assert!((20..=120).contains(&text.len()), "{text}");
     }
-    for workload in workloads::nested_texts() {
+    for workload in Size::ALL.into_iter().flat_map(workloads::nested_texts) {
         let Work::Text(texts) = &workload.work else {
             panic!("{} is no text", workload.name);
         };
@@ -130,20 +170,16 @@ fn sizes_after(workload: &Workload) -> [u32; 5] {
     let Work::Synchronise(mandatory, optional) = &workload.work else {
         panic!("{} is no join", workload.name);
     };
-    let mut out = [0; 20_006];
+    let mut out = [0; 60_010];
     let length = reference::synchronise(&workload.model, mandatory, optional, &mut out);
     let length = length.unwrap_or_else(|refusal| panic!("{}: {refusal:?}", workload.name));
     let sizes = reference::check(&out[..length]).expect("accepted");
     sizes.to_array()
 }
 
-/// The joins for the stack have new models of 4,000 nodes; the timed ones have the sizes of their names.
+/// The timed joins have the sizes of their names.
 #[test]
 fn joins() {
-    for workload in workloads::deep_joins() {
-        let sizes = sizes_after(&workload);
-        assert_eq!(sizes, [1, 1, 2, 2, 4_000], "{}", workload.name);
-    }
     let all = workloads::all();
     let joins = all.iter().filter(|each| each.name.contains("synchronise"));
     let sizes: Vec<[u32; 5]> = joins.map(sizes_after).collect();
@@ -153,6 +189,23 @@ fn joins() {
     assert_eq!(sizes[0][3], transitions);
     assert_eq!(sizes[1][4], 4_000);
     assert_eq!(sizes[2], [1, 1, 2, 2, 3_911]);
+}
+
+/// A rewritten file is the model's own.
+#[test]
+fn rewritings() {
+    let growing = workloads::growing();
+    let growing = growing.iter().flat_map(|(_, workloads)| workloads);
+    let all = workloads::all();
+    let sized = Size::ALL.map(workloads::sized_readings);
+    let mut count = 0;
+    for workload in all.iter().chain(growing).chain(sized.iter().flatten()) {
+        if let Work::Rewrite(old) = &workload.work {
+            assert_eq!(rewritten(&ENGINE, old).as_ref(), Ok(&workload.model));
+            count += 1;
+        }
+    }
+    assert_eq!(count, 7);
 }
 
 #[test]
@@ -165,6 +218,7 @@ fn counter_gives_its_transcript() {
     for model in ["model.gts", "reordered/model.gts"] {
         assert_eq!(gtsrun(&ENGINE, &read(model), &log), transcript, "{model}");
     }
+    assert_eq!(gtswide(&ENGINE, &read("old.gts")), read("model.gts"));
 }
 
 /// The second writing of the counter is a shuffle of the first: sorted, both are the same.
@@ -173,7 +227,7 @@ fn counter_is_reordered_by_exchanges_alone() {
     let folder = Path::new(env!("CARGO_MANIFEST_DIR")).join("../examples/counter");
     let sorted = |name: &str| {
         let file = std::fs::read(folder.join(name)).expect(name);
-        bench::tree::sorted(&file).expect("a model file")
+        tree::sorted(&file).expect("a model file")
     };
     assert_eq!(sorted("model.gts"), sorted("reordered/model.gts"));
 }

@@ -92,7 +92,7 @@ class Reader:
         nodes = sum([*variables, *(nodes for _, nodes in self.transitions), assertion], [])
         sizes = len(self.states), len(self.flows), len(self.events), len(self.transitions), len(nodes)
         kinds, parameters = zip(*nodes)
-        return sizes, struct.pack(f"<4BH{len(nodes)}B{len(nodes)}i", *sizes, *kinds, *parameters)
+        return sizes, struct.pack(f"<5H{len(nodes)}B{len(nodes)}i", *sizes, *kinds, *parameters)
 
     def attributes(self):
         def attribute():

@@ -12,7 +12,7 @@ use bench::clock::thread_time;
 use bench::ffi::LIBRARY;
 use bench::reference::ENGINE;
 use bench::stack;
-use bench::workloads::{self, Workload};
+use bench::workloads::{self, Size, Workload};
 
 /// A sample repeats its workload until it takes about this long.
 const SAMPLE: Duration = Duration::from_millis(1);
@@ -88,9 +88,16 @@ fn main() {
     };
 
     print_ratios(&chosen(workloads::all()), samples);
-    print_stacks("runs that nest", &chosen(workloads::deep_runs()));
-    print_stacks("texts that nest", &chosen(workloads::nested_texts()));
-    print_stacks("joins that nest", &chosen(workloads::deep_joins()));
+    for size in Size::ALL {
+        let print = |what: &str, workloads| {
+            let what = format!("{what}, {} models", size.name());
+            print_stacks(&what, &chosen(workloads));
+        };
+        print("runs that nest", workloads::deep_runs(size));
+        print("calls that change no run", workloads::sized_readings(size));
+        print("texts that nest", workloads::nested_texts(size));
+        print("joins that nest", workloads::deep_joins(size));
+    }
     let growing = workloads::growing().into_iter();
     let growing: Vec<(&str, Vec<Workload>)> = growing
         .map(|(grows, workloads)| (grows, chosen(workloads)))

@@ -2,7 +2,7 @@
 
 use super::MAX_DEPTH;
 use crate::random::Random;
-use crate::tree::{self, Node};
+use crate::tree::{depths, Layout, Node};
 
 /// All kinds that mean something.
 const KINDS: [u8; 25] = [
@@ -11,43 +11,46 @@ const KINDS: [u8; 25] = [
 
 /// The file with one to three kinds of damage.
 pub fn damaged(random: &mut Random, file: &[u8]) -> Vec<u8> {
+    damaged_in(random, Layout::Wide, file)
+}
+
+/// A file of this layout with one to three kinds of damage.
+pub(super) fn damaged_in(random: &mut Random, layout: Layout, file: &[u8]) -> Vec<u8> {
     let mut file = file.to_vec();
     for _ in 0..random.between(1, 3) {
         if random.chance(3, 4) {
-            damage_nodes(random, &mut file);
+            damage_nodes(random, layout, &mut file);
         } else {
-            damage_bytes(random, &mut file);
+            damage_bytes(random, layout, &mut file);
         }
     }
     file
 }
 
 /// Damage to bytes anywhere, lengths included.
-fn damage_bytes(random: &mut Random, file: &mut Vec<u8>) {
+fn damage_bytes(random: &mut Random, layout: Layout, file: &mut Vec<u8>) {
     match random.below(9) {
         0 => {
-            let length = random.between(0, file.len());
-            file.truncate(length);
+            let any = random.between(0, file.len());
+            let short = layout.header() - random.below(2);
+            file.truncate(*random.one(&[any, any, short]));
         }
         1 => {
-            let more = random.between(1, 40);
+            // At times more bytes than any file has.
+            let more = match random.chance(1, 8) {
+                true => random.between(60_000, 70_000),
+                false => random.between(1, 40),
+            };
             file.extend((0..more).map(|_| random.byte()));
         }
         2 if random.chance(1, 3) => {
             let length = random.below(200);
             *file = (0..length).map(|_| random.byte()).collect();
         }
-        3 if random.chance(1, 6) && file.len() >= 6 => {
-            // More than 4,000 nodes, with the right length or not.
-            let nodes = *random.one(&[4_001_u16, 4_096, 65_535]);
-            file[4..6].copy_from_slice(&nodes.to_le_bytes());
-            if random.coin() {
-                file.resize(6 + 5 * usize::from(nodes), 0);
-            }
-        }
+        3 if file.len() >= layout.header() => damage_header(random, layout, file),
         _ if file.is_empty() => file.push(random.byte()),
         4..=6 => {
-            let sizes = random.below(file.len().min(6));
+            let sizes = random.below(file.len().min(layout.header()));
             file[sizes] = match random.below(4) {
                 0 => random.byte(),
                 1 => 0,
@@ -66,13 +69,53 @@ fn damage_bytes(random: &mut Random, file: &mut Vec<u8>) {
     }
 }
 
+/// Puts N or S + F above its limit, or both, and lets the length fit N or not.
+fn damage_header(random: &mut Random, layout: Layout, file: &mut Vec<u8>) {
+    let which = random.below(4);
+    if which < 2 {
+        let most = layout.max_nodes() as u16;
+        let nodes = *random.one(&[most + 1, most + 96, 65_535]);
+        let place = layout.header() - 2;
+        file[place..place + 2].copy_from_slice(&nodes.to_le_bytes());
+        if random.chance(1, 6) {
+            file.resize(layout.header() + 5 * usize::from(nodes), 0);
+        }
+    }
+    if which > 0 && layout == Layout::Wide {
+        damage_variables(random, file);
+    }
+    match random.below(4) {
+        0 => file.truncate(layout.header()),
+        1 => file.push(random.byte()),
+        _ => {}
+    }
+}
+
+/// Puts S + F above its limit or at it; at times so far above that 16 bits of it are as before.
+fn damage_variables(random: &mut Random, file: &mut [u8]) {
+    let size = |place| u16::from_le_bytes([file[place], file[place + 1]]);
+    let before = size(0).wrapping_add(size(2));
+    let (states, flows) = *random.one(&[
+        (4_000, 0),
+        (0, 4_000),
+        (4_001, 0),
+        (0, 4_001),
+        (2_001, 2_000),
+        (65_535, 65_535),
+        (65_535, before.wrapping_add(1)),
+        (before.wrapping_add(1), 65_535),
+    ]);
+    file[..2].copy_from_slice(&u16::to_le_bytes(states));
+    file[2..4].copy_from_slice(&u16::to_le_bytes(flows));
+}
+
 /// Damage to nodes; the length stays in step with N.
-fn damage_nodes(random: &mut Random, file: &mut Vec<u8>) {
-    let Some((sizes, mut nodes)) = tree::decode(file) else {
-        return damage_bytes(random, file);
+fn damage_nodes(random: &mut Random, layout: Layout, file: &mut Vec<u8>) {
+    let Some((sizes, mut nodes)) = layout.decode(file) else {
+        return damage_bytes(random, layout, file);
     };
     if nodes.is_empty() {
-        return damage_bytes(random, file);
+        return damage_bytes(random, layout, file);
     }
     let place = random.below(nodes.len());
     match random.below(12) {
@@ -95,11 +138,11 @@ fn damage_nodes(random: &mut Random, file: &mut Vec<u8>) {
         7 => nodes[place].1 = random.number(),
         _ => nodes[place].1 = nodes[place].1.wrapping_add(random.within(-1, 1)),
     }
-    *file = tree::encode(sizes, &nodes);
+    *file = layout.encode(sizes, &nodes);
 }
 
 /// Lets an assignment or a variable's node name any variable, or one past the last.
-fn retarget(random: &mut Random, [states, flows, ..]: [u8; 4], nodes: &mut [Node]) {
+fn retarget(random: &mut Random, [states, flows, ..]: [u16; 4], nodes: &mut [Node]) {
     let named: Vec<usize> = (0..nodes.len())
         .filter(|&place| matches!(nodes[place].0, 17 | 34))
         .collect();
@@ -131,35 +174,4 @@ fn deepen(random: &mut Random, nodes: &mut Vec<Node>) {
         2 => nodes.truncate(place + count),
         _ => {}
     }
-}
-
-/// The depth of each node; 0 for variables and transitions.
-fn depths(nodes: &[Node]) -> Vec<usize> {
-    // For each node above, how many of its children are still due.
-    let mut due: Vec<usize> = Vec::new();
-    let mut base = 0;
-    nodes
-        .iter()
-        .map(|&(kind, parameter)| {
-            if due.is_empty() && matches!(kind, 16..=19) {
-                // The assertion stands below no transition.
-                base = 1;
-            }
-            let depth = base + due.len();
-            if let Some(children) = due.last_mut() {
-                *children -= 1;
-            }
-            due.push(match kind {
-                17 | 35 => 1,
-                5 | 18 | 36..=45 | 47 => 2,
-                46 => 3,
-                19 => usize::try_from(parameter).unwrap_or(0),
-                _ => 0,
-            });
-            while due.last() == Some(&0) {
-                due.pop();
-            }
-            depth
-        })
-        .collect()
 }

@@ -6,11 +6,12 @@ use crate::calls::Join;
 use crate::random::Random;
 use crate::tree::{Expr, Instr, Model, Operator, Transition};
 
-/// The largest E and T.
-const MAX_SIZE: usize = 255;
+/// The largest E and T; the nodes allow no such T.
+const MAX_SIZE: usize = 65_535;
 
-/// Bytes of the largest model.
-const MAX_BYTES: usize = 6 + 5 * MAX_NODES;
+/// Bytes of the sizes, and of the largest model.
+const HEADER: usize = 10;
+const MAX_BYTES: usize = HEADER + 5 * MAX_NODES;
 
 /// The model with one transition more, under a new event, that joins the mandatory transitions and the optional ones;
 /// or the number of the refusal where no slice is too short.
@@ -76,22 +77,29 @@ pub fn join(random: &mut Random, model: &Model) -> (Model, Join) {
     }
     let needed = joined(&model, &mandatory, &optional)
         .ok()
-        .map(|new| 6 + 5 * new.nodes().len());
+        .map(|new| HEADER + 5 * new.nodes().len());
     let length = slice_length(random, needed);
     let out: Vec<u8> = (0..length).map(|_| random.byte()).collect();
     let join = Join::new(&mandatory, &optional, &out, random.bits() as usize);
     (model, join)
 }
 
-/// Brings E, or T, to its limit or near it.
+/// Brings E to its limit or near it, or E or T near that of a byte; at times T as near to the largest as the nodes allow.
 fn enlarge(random: &mut Random, model: &mut Model) {
-    let goal = random.between(MAX_SIZE - 2, MAX_SIZE);
+    let near_byte = random.between(254, 257);
     if random.coin() {
-        model.events = model.events.max(goal as u8);
+        let near_limit = random.between(MAX_SIZE - 2, MAX_SIZE);
+        let goal = *random.one(&[near_byte, near_limit, near_limit]);
+        model.events = model.events.max(goal as u16);
         return;
     }
+    let free = (MAX_NODES - model.nodes().len()) / 3;
+    let goal = match random.chance(1, 8) {
+        true => model.transitions.len() + free,
+        false => near_byte,
+    };
     let missing = goal.saturating_sub(model.transitions.len());
-    if model.events == 0 || model.nodes().len() + 3 * missing > MAX_NODES {
+    if model.events == 0 || missing > free {
         return;
     }
     let idle = Transition {
@@ -110,7 +118,8 @@ fn fill_up(random: &mut Random, model: &mut Model, mandatory: &[usize], optional
     let Ok(new) = joined(model, mandatory, optional) else {
         return;
     };
-    let goal = random.between(MAX_NODES - 1, MAX_NODES + 1);
+    let limit = *random.one(&[4_000, MAX_NODES, MAX_NODES]);
+    let goal = random.between(limit - 1, limit + 1);
     let used = new.nodes().len();
     if used < goal && model.assertion.depth() < MAX_DEPTH {
         let mut branches = vec![Instr::Skip; goal - used - 1];

@@ -110,18 +110,18 @@ fn marks(random: &mut Random, transitions: usize) -> Vec<u8> {
 }
 
 /// Entries mostly of the model's transitions, and how many of them count.
-fn history(random: &mut Random, transitions: usize) -> (Vec<u8>, usize) {
+fn history(random: &mut Random, transitions: usize) -> (Vec<u16>, usize) {
     let places = match random.below(12) {
         0 => 0,
         1 => random.between(256, 300),
         _ => random.between(1, 12),
     };
-    let mut history: Vec<u8> = (0..places)
-        .map(|_| random.below(transitions.max(1)) as u8)
+    let mut history: Vec<u16> = (0..places)
+        .map(|_| random.below(transitions.max(1)) as u16)
         .collect();
     if random.chance(1, 8) && places > 0 {
         let place = random.below(places);
-        history[place] = random.byte();
+        history[place] = entry(random, transitions);
     }
     let n = match random.below(12) {
         0 => places,
@@ -131,6 +131,17 @@ fn history(random: &mut Random, transitions: usize) -> (Vec<u8>, usize) {
         _ => random.between(0, places.min(6)),
     };
     (history, n)
+}
+
+/// Any entry of a history: a byte, T, one that is below T when cut to 8 bits, the largest.
+fn entry(random: &mut Random, transitions: usize) -> u16 {
+    match random.below(5) {
+        0 => random.byte().into(),
+        1 => transitions as u16,
+        2 => (random.below(transitions.max(1)) % 256 + 256) as u16,
+        3 => u16::MAX,
+        _ => random.bits() as u16,
+    }
 }
 
 /// What cutting a number to 8, 16 or 32 bits takes away; and nearly the largest number.

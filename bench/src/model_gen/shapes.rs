@@ -50,7 +50,7 @@ fn build(
         ends,
     };
     let spare = writer.random.below(3);
-    let events = (transitions.max(1) + spare).min(255) as u8;
+    let events = (transitions.max(1) + spare) as u16;
     let transitions = (0..transitions)
         .map(|_| transition(&mut writer, events))
         .collect();
@@ -72,12 +72,12 @@ fn build(
 }
 
 /// A transition with one of so many events.
-fn transition(writer: &mut Writer, events: u8) -> Transition {
+fn transition(writer: &mut Writer, events: u16) -> Transition {
     let all: Vec<usize> = (0..writer.variables.len()).collect();
     let guard_depth = writer.random.between(1, 5);
     let action_depth = writer.random.between(2, 7);
     Transition {
-        event: writer.random.below(events.into()) as u8,
+        event: writer.random.below(events.into()) as u16,
         guard: if writer.random.chance(1, 3) {
             Expr::Boolean(true)
         } else {
@@ -99,7 +99,10 @@ pub fn plain(random: &mut Random, shape: Shape) -> Model {
 
 /// Each flow takes the value of another, the first that of a state.
 pub fn chain(random: &mut Random) -> Model {
-    let flows = *random.one(&[1, 2, 16, 100, 254, 255]);
+    let flows = match random.chance(1, 20) {
+        true => *random.one(&[256, 257, 600]),
+        false => *random.one(&[1, 2, 16, 100, 254, 255]),
+    };
     let state = variable(random, false);
     let (low, high) = state.ends();
     let [action, last] = if state.is_boolean() {
@@ -214,7 +217,8 @@ fn wrap_instruction(random: &mut Random, inner: Instr, condition: &Expr) -> Inst
 
 /// Each flow takes a state's value, and each transition assigns its own state.
 pub fn full(random: &mut Random) -> Model {
-    let states = variables(random, 255, false);
+    let count = *random.one(&[127, 128, 129, 254, 255, 255, 256, 257, 500, 1_190]);
+    let states = variables(random, count, false);
     let flows: Vec<Variable> = states
         .iter()
         .map(|state| match *state {
@@ -230,35 +234,36 @@ pub fn full(random: &mut Random) -> Model {
         Variable::Boolean { .. } => Expr::Boolean(random.coin()),
         Variable::Number { low, high, .. } => Expr::Number(random.within(low, high)),
     };
-    let transitions = (0..255)
+    let transitions = (0..count)
         .map(|place: usize| Transition {
-            event: place as u8,
+            event: place as u16,
             guard: Expr::Boolean(random.chance(2, 3)),
             action: Instr::Assign(place, constant(&states[place], random)),
         })
         .collect();
-    let branches = (0..255)
-        .map(|place| Instr::Assign(255 + place, Expr::Variable(place)))
+    let branches = (0..count)
+        .map(|place| Instr::Assign(count + place, Expr::Variable(place)))
         .collect();
     Model {
         states,
         flows,
-        events: 255,
+        events: count as u16,
         transitions,
         assertion: Instr::Block(branches),
     }
 }
 
-/// A large ordered model, filled up to 4,000 nodes or nearly so.
+/// A large ordered model, filled up to 12,000 nodes or nearly so; at times to 4,000, or to 1,023 to 1,026.
 pub fn wide(random: &mut Random) -> Model {
-    let sizes = [
-        random.between(10, 60),
-        random.between(10, 60),
-        random.between(10, 60),
-    ];
+    let goal = match random.below(4) {
+        0 => random.between(1_023, 1_026),
+        1 => 4_000,
+        _ => MAX_NODES - random.below(2) * random.below(300),
+    };
+    let most = if goal < 4_000 { 10 } else { 60 };
+    let sizes = [0; 3].map(|_| random.between(most / 6, most));
     let mut model = build(random, Shape::Ordered, sizes, 1);
     let used = model.nodes().len();
-    let goal = MAX_NODES - random.below(2) * random.below(300);
     if used + 2 <= goal {
         // Branches of one node each, some of them blocks without branches.
         let mut branches: Vec<Instr> = (0..goal - used - 1)

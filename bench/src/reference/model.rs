@@ -1,4 +1,4 @@
-//! The model file parsed into a tree: the checks 1 to 8.
+//! The model file parsed into a tree: the checks 1, 2, 37, 3, 4 to 8.
 
 use super::Refusal;
 
@@ -6,7 +6,6 @@ use super::Refusal;
 pub struct Limits;
 
 impl Limits {
-    pub const NODES: usize = 4_000;
     pub const DEPTH: usize = 32;
     /// Bytes of a text.
     pub const TEXT: usize = 200;
@@ -14,8 +13,87 @@ impl Limits {
     pub const TEXT_NODES: usize = 400;
 }
 
-/// Length of the sizes at the head of a file.
-pub(super) const HEADER: usize = 6;
+/// How the sizes stand at the head of a file, and their limits.
+#[derive(Clone, Copy, Debug)]
+pub struct Layout {
+    /// Bytes of each of S, F, E, T, low byte first; N has two.
+    width: usize,
+    /// The largest N.
+    pub nodes: usize,
+    /// The largest S + F, where it has a limit of its own.
+    variables: Option<usize>,
+}
+
+impl Layout {
+    /// That of old files, which can only be rewritten.
+    pub const BYTE: Layout = Layout {
+        width: 1,
+        nodes: 4_000,
+        variables: None,
+    };
+    /// That of all other files.
+    pub const WIDE: Layout = Layout {
+        width: 2,
+        nodes: 12_000,
+        variables: Some(4_000),
+    };
+
+    /// Bytes of the five sizes.
+    pub const fn header(&self) -> usize {
+        4 * self.width + 2
+    }
+
+    /// The largest S, F, E or T that can be written.
+    pub const fn largest_size(&self) -> usize {
+        (1 << (8 * self.width)) - 1
+    }
+
+    /// Bytes of a file of so many nodes.
+    pub const fn length(&self, nodes: usize) -> usize {
+        self.header() + 5 * nodes
+    }
+
+    /// The sizes that stand at the head of a file: refusals 1, 2, 37, 3.
+    fn sizes(&self, file: &[u8]) -> Result<Sizes, Refusal> {
+        let header = file.get(..self.header()).ok_or(Refusal::ShortFile)?;
+        let (counts, nodes) = header.split_at(4 * self.width);
+        let mut counts = counts.chunks_exact(self.width).map(little);
+        let mut count = || counts.next().expect("four sizes");
+        let sizes = Sizes {
+            states: count(),
+            flows: count(),
+            events: count(),
+            transitions: count(),
+            nodes: little(nodes),
+        };
+        if sizes.nodes > self.nodes {
+            return Err(Refusal::TooManyNodes);
+        }
+        if self.variables.is_some_and(|most| sizes.variables() > most) {
+            return Err(Refusal::TooManyVariables);
+        }
+        if file.len() != self.length(sizes.nodes) {
+            return Err(Refusal::LengthDiffers);
+        }
+        Ok(sizes)
+    }
+
+    /// Writes the sizes into a header of this layout, whose limits they keep.
+    pub(super) fn write_sizes(&self, sizes: Sizes, header: &mut [u8]) {
+        let (counts, nodes) = header.split_at_mut(4 * self.width);
+        let values = [sizes.states, sizes.flows, sizes.events, sizes.transitions];
+        for (cells, value) in counts.chunks_exact_mut(self.width).zip(values) {
+            cells.copy_from_slice(&value.to_le_bytes()[..self.width]);
+        }
+        nodes.copy_from_slice(&sizes.nodes.to_le_bytes()[..2]);
+    }
+}
+
+/// The number that these bytes are, low byte first.
+fn little(bytes: &[u8]) -> usize {
+    let number = |number, &byte: &u8| 256 * number + usize::from(byte);
+    bytes.iter().rev().fold(0, number)
+}
 
 #[derive(Clone, Copy, Debug, PartialEq, Eq)]
 pub enum Type {
@@ -152,7 +230,16 @@ struct Tree {
 
 impl Model {
     pub fn parse(file: &[u8]) -> Result<Model, Refusal> {
-        let (sizes, kinds, parameters) = split(file)?;
+        Model::parse_in(&Layout::WIDE, file)
+    }
+
+    pub fn parse_in(layout: &Layout, file: &[u8]) -> Result<Model, Refusal> {
+        let sizes = layout.sizes(file)?;
+        let (kinds, parameters) = file[layout.header()..].split_at(sizes.nodes);
+        let parameters: Vec<i32> = parameters
+            .chunks_exact(4)
+            .map(|bytes| i32::from_le_bytes([bytes[0], bytes[1], bytes[2], bytes[3]]))
+            .collect();
         let mut walk = Walk::new(kinds, &parameters);
         walk.variables.reserve_exact(sizes.variables());
         for _ in 0..sizes.variables() {
@@ -160,7 +247,8 @@ impl Model {
             walk.variables.push(variable);
         }
         walk.states = sizes.states;
-        let mut transitions = Vec::with_capacity(sizes.transitions);
+        // T may be larger than the nodes allow.
+        let mut transitions = Vec::with_capacity(sizes.transitions.min(sizes.nodes / 3));
         for _ in 0..sizes.transitions {
             transitions.push(walk.transition(sizes.events)?);
         }
@@ -204,33 +292,6 @@ impl Model {
     pub fn branches(&self, first: u32, end: u32) -> &[InstrId] {
         &self.tree.branches[first as usize..end as usize]
     }
-}
-
-/// The sizes, the kinds and the parameters: refusals 1, 2, 3.
-fn split(file: &[u8]) -> Result<(Sizes, &[u8], Vec<i32>), Refusal> {
-    let &[states, flows, events, transitions, low, high, ref body @ ..] = file else {
-        return Err(Refusal::ShortFile);
-    };
-    let nodes = usize::from(u16::from_le_bytes([low, high]));
-    if nodes > Limits::NODES {
-        return Err(Refusal::TooManyNodes);
-    }
-    if file.len() != HEADER + 5 * nodes {
-        return Err(Refusal::LengthDiffers);
-    }
-    let (kinds, parameters) = body.split_at(nodes);
-    let parameters = parameters
-        .chunks_exact(4)
-        .map(|bytes| i32::from_le_bytes([bytes[0], bytes[1], bytes[2], bytes[3]]))
-        .collect();
-    let sizes = Sizes {
-        states: states.into(),
-        flows: flows.into(),
-        events: events.into(),
-        transitions: transitions.into(),
-        nodes,
-    };
-    Ok((sizes, kinds, parameters))
 }
 
 /// Where an instruction stands: actions assign states, the assertion flows.

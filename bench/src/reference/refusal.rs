@@ -36,6 +36,8 @@ pub enum Refusal {
     NoMembers = 35,
     /// A limit of sizes, nodes or depth, or the slice that is lent for it.
     NewModelTooLarge = 36,
+    /// S + F above 4,000.
+    TooManyVariables = 37,
 }
 
 impl Refusal {

@@ -41,7 +41,7 @@ pub fn fire(
     file: &[u8],
     values: &mut [i32],
     marks: &mut [u8],
-    history: &mut [u8],
+    history: &mut [u16],
     n: &mut usize,
     transition: usize,
 ) -> Result<usize, Refusal> {
@@ -55,7 +55,7 @@ pub fn fire(
     let place = history.get_mut(*n).ok_or(Refusal::HistoryFull)?;
     let rounds = model.step(cells, transition)?;
     model.mark(cells, held);
-    *place = transition as u8;
+    *place = transition as u16;
     *n += 1;
     Ok(rounds)
 }
@@ -65,7 +65,7 @@ pub fn undo(
     file: &[u8],
     values: &mut [i32],
     marks: &mut [u8],
-    history: &[u8],
+    history: &[u16],
     n: &mut usize,
 ) -> Result<(), Refusal> {
     let model = Model::parse(file)?;
@@ -85,7 +85,7 @@ pub fn marks(
     file: &[u8],
     values: &[i32],
     marks: &[u8],
-    history: &[u8],
+    history: &[u16],
     n: usize,
     buffer: &mut [u8],
 ) -> Result<(), Refusal> {
@@ -103,7 +103,7 @@ pub fn value(
     file: &[u8],
     values: &[i32],
     marks: &[u8],
-    history: &[u8],
+    history: &[u16],
     n: usize,
     variable: usize,
 ) -> Result<i32, Refusal> {
@@ -121,7 +121,7 @@ pub fn pick(
     file: &[u8],
     values: &[i32],
     marks: &[u8],
-    history: &[u8],
+    history: &[u16],
     n: usize,
 ) -> Result<Option<usize>, Refusal> {
     let model = Model::parse(file)?;
@@ -195,9 +195,9 @@ impl Model {
         &self,
         cells: &[i32],
         marks: &[u8],
-        history: &'h [u8],
+        history: &'h [u16],
         n: usize,
-    ) -> Result<&'h [u8], Refusal> {
+    ) -> Result<&'h [u16], Refusal> {
         let steps = history.get(..n).ok_or(Refusal::InconsistentRun)?;
         let fired = steps
             .iter()
@@ -211,7 +211,7 @@ impl Model {
     }
 
     /// The values after a start and these steps.
-    fn replay(&self, steps: &[u8]) -> Result<Vec<i32>, Refusal> {
+    fn replay(&self, steps: &[u16]) -> Result<Vec<i32>, Refusal> {
         let (mut values, _) = self.initial()?;
         for &step in steps {
             self.step(&mut values, usize::from(step))?;

@@ -2,11 +2,11 @@
 
 use std::ops::Range;
 
-use super::model::{Expr, ExprId, Instr, InstrId, Limits, Model, Transition, HEADER};
+use super::model::{Expr, ExprId, Instr, InstrId, Layout, Limits, Model, Sizes, Transition};
 use super::Refusal;
 
-/// The largest E and T: each is one byte of a file.
-const LARGEST_SIZE: usize = 255;
+/// Of the model that is read and of the one that is written.
+const LAYOUT: Layout = Layout::WIDE;
 
 const TRANSITION: u8 = 5;
 const IF_THEN: u8 = 18;
@@ -34,7 +34,7 @@ pub fn synchronise(
     if !together.fits(&model, nodes) {
         return Err(Refusal::NewModelTooLarge);
     }
-    let length = HEADER + 5 * nodes;
+    let length = LAYOUT.length(nodes);
     let cells = out.get_mut(..length).ok_or(Refusal::NewModelTooLarge)?;
     together.write(&model, file, nodes, cells);
     Ok(length)
@@ -80,9 +80,9 @@ impl Together<'_> {
 
     /// Whether the new model, of so many nodes, stays within every limit.
     fn fits(&self, model: &Model, nodes: usize) -> bool {
-        model.sizes.events < LARGEST_SIZE
-            && model.sizes.transitions < LARGEST_SIZE
-            && nodes <= Limits::NODES
+        model.sizes.events < LAYOUT.largest_size()
+            && model.sizes.transitions < LAYOUT.largest_size()
+            && nodes <= LAYOUT.nodes
             && self.guard_depth(model) <= Limits::DEPTH
             && self.action_depth(model) <= Limits::DEPTH
     }
@@ -112,12 +112,15 @@ impl Together<'_> {
     /// Writes the new model, of so many nodes, into cells of its length.
     fn write(&self, model: &Model, file: &[u8], nodes: usize, cells: &mut [u8]) {
         let sizes = model.sizes;
-        let (header, columns) = cells.split_at_mut(HEADER);
-        header.copy_from_slice(&file[..HEADER]);
-        header[2] += 1;
-        header[3] += 1;
-        header[4..].copy_from_slice(&(nodes as u16).to_le_bytes());
-        let old = file[HEADER..].split_at(sizes.nodes);
+        let new_sizes = Sizes {
+            events: sizes.events + 1,
+            transitions: sizes.transitions + 1,
+            nodes,
+            ..sizes
+        };
+        let (header, columns) = cells.split_at_mut(LAYOUT.header());
+        LAYOUT.write_sizes(new_sizes, header);
+        let old = file[LAYOUT.header()..].split_at(sizes.nodes);
         let new = columns.split_at_mut(nodes);
         let mut writer = Writer { old, new, place: 0 };
         writer.copy(0..model.assertion_place);

@@ -25,6 +25,10 @@ pub(super) fn timed() -> Vec<Workload> {
             chain_in_order(255, 0),
         ),
         start(
+            "chain of 3,999 flows in reverse, 4,000 rounds, start",
+            flows_alone(3_999, 0),
+        ),
+        start(
             "one condition that mentions each of 255 flows, 256 rounds, start",
             one_condition(255, 4_000),
         ),
@@ -45,6 +49,15 @@ pub(super) fn of_growing_rounds() -> Vec<Workload> {
         start(name, chain(flows, 2_000))
     };
     LENGTHS.map(chain).into()
+}
+
+/// At the nodes of the longest chain.
+pub(super) fn of_many_rounds() -> Vec<Workload> {
+    let chain = |flows| {
+        let name = format!("start, 11,998 nodes, {} rounds", flows + 1);
+        start(name, flows_alone(flows, 11_998))
+    };
+    [499, 999, 1_999, 3_999].map(chain).into()
 }
 
 pub(super) fn of_growing_models() -> Vec<Workload> {
@@ -101,6 +114,22 @@ pub fn chain(flows: usize, nodes: usize) -> Model {
 /// A chain, the first flow's assignment standing first; filled up to so many nodes.
 pub fn chain_in_order(flows: usize, nodes: usize) -> Model {
     model(flows, links(flows).collect(), nodes)
+}
+
+/// A chain of flows alone, the first of which is true, the last one's assignment standing first; filled up to so many nodes.
+pub fn flows_alone(flows: usize, nodes: usize) -> Model {
+    let link = |flow: usize| match flow.checked_sub(1) {
+        None => Instr::Assign(flow, Expr::Boolean(true)),
+        Some(before) => Instr::Assign(flow, Expr::Variable(before)),
+    };
+    let model = Model {
+        states: Vec::new(),
+        flows: vec![Variable::Boolean { first: false }; flows],
+        events: 0,
+        transitions: Vec::new(),
+        assertion: Instr::Block((0..flows).rev().map(link).collect()),
+    };
+    filled(model, nodes)
 }
 
 /// A chain in reverse, and after it one condition that mentions each flow, again and again: each round makes one of them

@@ -1,11 +1,9 @@
 //! Joins: those that are timed, and those that take most stack.
 
-use super::nests::{always, model, nests, Nest, FLOW, STATE};
-use super::{filled, large, Work, Workload, COUNTER};
+use super::nests::{always, model, nests, sized_model, Nest, Size, FLOW, STATE};
+use super::{large, Work, Workload, COUNTER};
+use crate::model_gen::MAX_DEPTH;
 use crate::tree::Instr;
-
-/// Nodes of the largest model.
-const NODES: usize = 4_000;
 
 /// Nodes that a join of 2 mandatory and 3 optional transitions of the model of many nodes adds: a transition and its
 /// block; two guards of 7 nodes with an operator; two actions of 13; three times an if-then, a guard and an action.
@@ -28,14 +26,14 @@ pub(super) fn timed() -> Vec<Workload> {
         ),
         large_join(
             "synchronise, 4,000 nodes, 2 mandatory and 3 optional".into(),
-            NODES,
+            4_000,
         ),
         many_members(1_300),
     ]
 }
 
 pub(super) fn of_growing_models() -> Vec<Workload> {
-    let sizes = [500, 1_000, 2_000, NODES];
+    let sizes = [500, 1_000, 2_000, 4_000, 12_000];
     let join = |nodes| large_join(format!("synchronise, {nodes} nodes"), nodes);
     sizes.map(join).into()
 }
@@ -52,8 +50,8 @@ fn many_members(count: usize) -> Workload {
     Workload::new(name, model.encode(), work)
 }
 
-/// Joins for the stack: new models of 4,000 nodes and of depth 32, and many members.
-pub fn deep_joins() -> Vec<Workload> {
+/// Joins for the stack: new models of so many nodes as the size says and of depth 32, and many members.
+pub fn deep_joins(size: Size) -> Vec<Workload> {
     let mut workloads = Vec::new();
     for nest in nests() {
         for (members, depths, lists) in [
@@ -62,27 +60,35 @@ pub fn deep_joins() -> Vec<Workload> {
             ("1 optional", [30, 30], [vec![], vec![0]]),
         ] {
             let name = format!("synchronise, {members}, nested {}", nest.name);
-            workloads.push(deep_join(name, &nest, depths, lists));
+            workloads.push(deep_join(size, name, &nest, depths, lists));
         }
     }
     let nest = &nests()[0];
-    for (mandatory, optional) in [(32, 0), (32, 300), (0, 32), (1, 500)] {
+    let many = size.nodes() / 12;
+    for (mandatory, optional) in [(32, 0), (32, many), (0, 32), (1, many)] {
         let name = format!("synchronise, {mandatory} mandatory and {optional} optional");
         let lists = [vec![0; mandatory], vec![0; optional]];
-        workloads.push(deep_join(name, nest, [1, 2], lists));
+        workloads.push(deep_join(size, name, nest, [1, 2], lists));
     }
     workloads
 }
 
-/// A join in a model whose transition has a guard and an action of these depths, filled up to 4,000 nodes with it.
-fn deep_join(name: String, nest: &Nest, depths: [usize; 2], lists: [Vec<usize>; 2]) -> Workload {
+/// A join in a model whose transition has a guard and an action of these depths, filled up so that it has all nodes with
+/// it.
+fn deep_join(
+    size: Size,
+    name: String,
+    nest: &Nest,
+    depths: [usize; 2],
+    lists: [Vec<usize>; 2],
+) -> Workload {
     let guard = (nest.expression)(depths[0]);
     let action = (nest.instruction)(STATE, depths[1]);
     let [mandatory, optional] = lists;
     let copied = [guard.nodes().len(), action.nodes().len()];
     let added = added_nodes(copied, mandatory.len(), optional.len());
-    let assertion = Instr::Block(vec![(nest.instruction)(FLOW, 31)]);
-    let model = filled(model(guard, action, assertion), NODES - added);
+    let branch = (nest.instruction)(FLOW, MAX_DEPTH - 1);
+    let model = sized_model(size, guard, action, branch, size.nodes() - added);
     Workload::new(name, model.encode(), Work::Synchronise(mandatory, optional))
 }
 

@@ -1,7 +1,7 @@
 //! Models that nest as deep as they may, for the stack.
 
-use super::{number, Work, Workload};
-use crate::model_gen::MAX_DEPTH;
+use super::{booleans, filled, number, rewrite, Work, Workload};
+use crate::model_gen::{MAX_DEPTH, MAX_NODES, MAX_VARIABLES};
 use crate::tree::{Expr, Instr, Model, Operator, Variable};
 
 // The variables of these models.
@@ -16,6 +16,53 @@ pub(super) fn always() -> Expr {
 pub(super) fn model(guard: Expr, action: Instr, assertion: Instr) -> Model {
     let variables = vec![Variable::Boolean { first: true }];
     Model::with_transition(variables.clone(), variables, guard, action, assertion)
+}
+
+/// How large a model for the stack is: some calls of the library take smaller arrays for small models.
+#[derive(Clone, Copy, Debug, PartialEq, Eq)]
+pub enum Size {
+    Small,
+    Large,
+}
+
+impl Size {
+    pub const ALL: [Size; 2] = [Size::Small, Size::Large];
+
+    pub fn name(self) -> &'static str {
+        match self {
+            Size::Small => "small",
+            Size::Large => "large",
+        }
+    }
+
+    pub fn nodes(self) -> usize {
+        match self {
+            Size::Small => 1_024,
+            Size::Large => MAX_NODES,
+        }
+    }
+
+    pub fn variables(self) -> usize {
+        match self {
+            Size::Small => 256,
+            Size::Large => MAX_VARIABLES,
+        }
+    }
+}
+
+/// Such a model whose assertion has this branch, with so many variables as its size says and so many nodes.
+pub(super) fn sized_model(
+    size: Size,
+    guard: Expr,
+    action: Instr,
+    branch: Instr,
+    nodes: usize,
+) -> Model {
+    let mut model = model(guard, action, Instr::Block(vec![branch]));
+    let more = size.variables() - model.variables().count();
+    let flow = Variable::Boolean { first: true };
+    model.flows.extend(std::iter::repeat_n(flow, more));
+    filled(model, nodes)
 }
 
 /// A way to nest expressions: one level around an expression.
@@ -104,12 +151,13 @@ pub(super) fn nests() -> Vec<Nest> {
 
 /// Runs of models as deep as they may be: in the action and the assertion, for a fire, and for an undo that fires again;
 /// in the guard, for a start.
-pub fn deep_runs() -> Vec<Workload> {
+pub fn deep_runs(size: Size) -> Vec<Workload> {
     let mut workloads = Vec::new();
     for nest in nests() {
-        let [action, assertion] =
-            [STATE, FLOW].map(|variable| (nest.instruction)(variable, MAX_DEPTH));
-        let model = model(always(), action, assertion).encode();
+        let action = (nest.instruction)(STATE, MAX_DEPTH);
+        // The assertion is a block around it.
+        let branch = (nest.instruction)(FLOW, MAX_DEPTH - 1);
+        let model = sized_model(size, always(), action, branch, size.nodes()).encode();
         let run = |name: &str, work| {
             let name = format!("{name}, nested {}", nest.name);
             Workload::new(name, model.clone(), work)
@@ -117,15 +165,51 @@ pub fn deep_runs() -> Vec<Workload> {
         workloads.push(run("start and fire", Work::Run(vec![0], 1)));
         workloads.push(run("undo at n = 2", Work::Undo(vec![0], 2)));
     }
-    workloads.extend(expression_nests().iter().map(deep_guard));
+    let guards = expression_nests();
+    workloads.extend(guards.iter().map(|nest| deep_guard(size, nest)));
     workloads
 }
 
 /// The start of a model with a guard of this nest. The flow is false: where it is a condition, it chooses what is
 /// nested.
-fn deep_guard(nest: &Nest) -> Workload {
+fn deep_guard(size: Size, nest: &Nest) -> Workload {
     let name = format!("start, guard of nested {}", nest.name);
     let never = Instr::Assign(FLOW, Expr::Boolean(false));
-    let model = model((nest.expression)(MAX_DEPTH), Instr::Skip, never);
+    let guard = (nest.expression)(MAX_DEPTH);
+    let model = sized_model(size, guard, Instr::Skip, never, size.nodes());
     Workload::new(name, model.encode(), Work::Start)
+}
+
+/// A model of this size for the calls that change no run, and for texts.
+pub(super) fn plain_model(size: Size) -> Model {
+    sized_model(size, always(), Instr::Skip, Instr::Skip, size.nodes())
+}
+
+/// A model of this size that has an old file: at most 510 variables and 4,000 nodes.
+fn old_model(size: Size) -> Model {
+    match size {
+        Size::Small => plain_model(size),
+        Size::Large => {
+            let assertion = Instr::Block(Vec::new());
+            let model = Model {
+                assertion,
+                ..booleans()
+            };
+            filled(model, 4_000)
+        }
+    }
+}
+
+/// The calls that change no run.
+pub fn sized_readings(size: Size) -> Vec<Workload> {
+    let model = plain_model(size).encode();
+    let reading = |name: &str, work| Workload::new(name, model.clone(), work);
+    vec![
+        reading("check", Work::Check),
+        reading("marks", Work::Marks),
+        reading("value", Work::Value(size.variables() - 1)),
+        reading("pick", Work::Pick),
+        reading("first_outside", Work::FirstOutside(None)),
+        rewrite("rewrite", &old_model(size)),
+    ]
 }

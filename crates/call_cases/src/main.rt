@@ -4,17 +4,17 @@
 // A list is a header of 32 bytes, the model file, the twin, the store at the beginning, and then its calls. Numbers stand low byte
 // first. The header: the lengths of the model and of the twin (four bytes each), of the values, the history and the buffer, the number of
 // calls and the length of the marks (two bytes each), six bytes of 0, and n (eight bytes). A store: the values (four bytes each), the
-// marks, the history, the buffer.
+// marks, the history (two bytes each), the buffer.
 //
 // A call is a header of 32 bytes and the store afterwards. The header: the call (0 check, 1 start, 2 fire, 3 undo, 4 marks, 5 value, 6
 // pick, 7 first outside), the form of its answer (0 refused, 1 a round count, 2 done, 3 a value, 4 the five sizes, 5 a transition, 6
-// nothing, 7 a variable outside its ends, 8 all within), how many values were looked at (two bytes; 0 but in the last two forms), four
-// bytes of 0, then eight bytes each: the transition or variable, the answer's number (the sizes are S, F, E, T in a byte each and N in
-// two), and n afterwards.
+// nothing, 7 a variable outside its ends, 8 all within), in the last two forms how many values were looked at, of the sizes N, else 0 (two
+// bytes), four bytes of 0, then eight bytes each: the transition or variable, the answer's number (the sizes are S, F, E, T in
+// two bytes each), and n afterwards.
 
 #![tactic(auto)]
 
-ghost use Rattle.std.specs.Prelude.{◌≡◌, ◌+◌, ◌*◌, ◌^◌, ◌<◌, ◌≤◌};
+ghost use Rattle.std.specs.Prelude.{◌≡◌, ◌+◌, ◌*◌, ◌^◌, ◌<◌, ◌≤◌, length};
 
 use model::Sizes;
 use results::Refusal;
@@ -25,11 +25,17 @@ use std::io;
 use std::io::Read;
 use std::rt::Files;
 
-// The most values, marks, places or bytes that a list has are 517.
-const CELLS: usize = 520;
+// The most values, marks or bytes of a buffer.
+const CELLS: usize = 4008;
 
-// The most bytes that a store has.
-const BYTES: usize = 7 * CELLS;
+// The most places of a history.
+const PLACES: usize = 520;
+
+// The most bytes that a store has: values, marks, history, buffer.
+const BYTES: usize = 6 * CELLS + 2 * PLACES;
+
+// The most bytes of both models of a list.
+const FILE_BYTES: usize = 120832;
 
 // Which of its two models a list is carried out on.
 #[derive(Clone, Copy, PartialEq, Eq, Debug)]
@@ -38,7 +44,7 @@ enum Side {
     Twin,
 }
 
-// The header of a list: the lengths of its models and of what is lent, which are cut to the most cells, its calls, and n.
+// The header of a list: the lengths of its models and of what is lent, which are cut to the most that there may be, its calls, and n.
 #[derive(Clone, Copy)]
 struct Head {
     model: usize,
@@ -50,7 +56,7 @@ struct Head {
     held: usize,
     n: usize,
     ghost models: { (model < 2 ^ 32) × (twin < 2 ^ 32) },
-    ghost cells: { (variables ≤ 520) × (places ≤ 520) × (copied ≤ 520) × (held ≤ 520) },
+    ghost cells: { (variables ≤ 4008) × (places ≤ 520) × (copied ≤ 4008) × (held ≤ 4008) },
 }
 
 impl From<[u8; 32]> for Head {
@@ -59,7 +65,7 @@ impl From<[u8; 32]> for Head {
             model: cases::number::<4>(&bytes, 0),
             twin: cases::number::<4>(&bytes, 4),
             variables: cases::number::<2>(&bytes, 8).min(CELLS),
-            places: cases::number::<2>(&bytes, 10).min(CELLS),
+            places: cases::number::<2>(&bytes, 10).min(PLACES),
             copied: cases::number::<2>(&bytes, 12).min(CELLS),
             calls: cases::number::<2>(&bytes, 14),
             held: cases::number::<2>(&bytes, 16).min(CELLS),
@@ -74,6 +80,15 @@ struct Wanted {
     call: Call,
     answer: Option<Result<Answer, u8>>,
     n: usize,
+}
+
+// The stored entries of a history, two bytes each.
+fn load_entries(stored: &[u8], entries: &mut [u16])
+    requires { 2 * length entries.old ≤ length stored.now }
+{
+    for (entry, bytes) in entries.iter_mut().zip(stored.as_chunks::<2>().0) {
+        *entry = u16::from_le_bytes(*bytes);
+    }
 }
 
 // How many lists were carried out, and their calls; none by default.
@@ -117,11 +132,11 @@ fn call_of(call: u8, number: usize) -> Call {
 // The stored sizes.
 fn sizes_of(head: &[u8; 32]) -> Sizes {
     Sizes {
-        states: usize::from(head[16]),
-        flows: usize::from(head[17]),
-        events: usize::from(head[18]),
-        transitions: usize::from(head[19]),
-        nodes: cases::number::<4>(head, 20),
+        states: cases::number::<2>(head, 16),
+        flows: cases::number::<2>(head, 18),
+        events: cases::number::<2>(head, 20),
+        transitions: cases::number::<2>(head, 22),
+        nodes: cases::number::<2>(head, 2),
     }
 }
 
@@ -137,7 +152,7 @@ fn answer_of(head: &[u8; 32]) -> Option<Result<Answer, u8>> {
             let value = (value as u64).cast_signed();
             Some(Ok(Answer::Number(i32::try_from(value).ok()?)))
         }
-        (4, _, 0) => Some(Ok(Answer::Sizes(sizes_of(head)))),
+        (4, _, _) => Some(Ok(Answer::Sizes(sizes_of(head)))),
         (5, transition, 0) => Some(Ok(Answer::Picked(Some(transition)))),
         (6, 0, 0) => Some(Ok(Answer::Picked(None))),
         (7, variable, looked) => Some(Ok(Answer::Outside(RangeCheck {
@@ -181,25 +196,28 @@ fn is_wanted(
 }
 
 impl Head {
-    // The length of a store: its values, four bytes each, its marks, its history and its buffer.
+    // The length of a store: its values, four bytes each, its marks, its history, two bytes each, and its buffer.
     fn store_length(self) -> usize
-        ensures { result ≡ 4 * self.variables + self.held + self.places + self.copied }
+        ensures { result ≡ 4 * self.variables + self.held + 2 * self.places + self.copied }
     {
-        4 * self.variables + self.held + self.places + self.copied
+        4 * self.variables + self.held + 2 * self.places + self.copied
     }
 
-    // The store in these bytes, its values in these cells.
+    // The store in these bytes, its values and its history in these cells.
     fn store_in<'a>(
         self,
         bytes: &'a mut [u8; BYTES],
         values: &'a mut [i32; CELLS],
+        history: &'a mut [u16; PLACES],
         n: &'a mut usize,
     ) -> Store<'a> {
         let (stored, rest) = bytes.split_at_mut(4 * self.variables);
         let (marks, rest) = rest.split_at_mut(self.held);
-        let (history, rest) = rest.split_at_mut(self.places);
+        let (entries, rest) = rest.split_at_mut(2 * self.places);
         let values = &mut values[..self.variables];
+        let history = &mut history[..self.places];
         cases::load_values(stored, values);
+        load_entries(entries, history);
         Store {
             values,
             marks,
@@ -213,9 +231,10 @@ impl Head {
     fn is_left(self, rt: &impl Print, file: &mut impl Read, store: &Store<'_>) -> io::Result<bool> {
         let mut bytes = [0u8; BYTES];
         let mut values = [0i32; CELLS];
+        let mut history = [0u16; PLACES];
         let is_whole = cases::is_read(file, &mut bytes[..self.store_length()])?;
         let mut n = self.n;
-        let stored = self.store_in(&mut bytes, &mut values, &mut n);
+        let stored = self.store_in(&mut bytes, &mut values, &mut history, &mut n);
         let is_same = is_whole
             && *store.values == *stored.values
             && *store.marks == *stored.marks
@@ -270,9 +289,10 @@ impl Head {
     ) -> io::Result<Tally> {
         let mut bytes = [0u8; BYTES];
         let mut values = [0i32; CELLS];
+        let mut history = [0u16; PLACES];
         cases::is_read(file, &mut bytes[..self.store_length()])?;
         let mut n = self.n;
-        let store = self.store_in(&mut bytes, &mut values, &mut n);
+        let store = self.store_in(&mut bytes, &mut values, &mut history, &mut n);
         self.all_calls(rt, file, model, store, tally)
     }
 
@@ -284,7 +304,7 @@ impl Head {
         side: Side,
         tally: Tally,
     ) -> io::Result<Tally> {
-        let mut models = [0u8; 49152];
+        let mut models = [0u8; FILE_BYTES];
         let Some(models) = models.get_mut(..self.model + self.twin) else {
             return tally.counted(rt, false);
         };

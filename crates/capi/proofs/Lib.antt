@@ -1,4 +1,3 @@
 -- Laws that the proofs of the functions cite, and the theorem.
 pub mod Coding
 pub mod Reached
-pub mod Sizing

@@ -62,8 +62,8 @@ cells_of z = z.states ∷ z.flows ∷ z.events ∷ z.transitions ∷ z.nodes ∷
 abbrev pub size_cells : ℕ
 size_cells = 5
 
--- a call whose result is the sizes, over the cells for them: check. Under 5 of them is 10, after 1 to 8; the cells from 5 on stay; the
--- other answers are none of check's.
+-- a call whose result is the sizes, over the cells for them: check. Under 5 of them is 10, after the check's refusals; the cells from 5 on
+-- stay; the other answers are none of check's.
 unfoldable pub coded_sizes : List ℕ → Answer → Answered ℕ (List ℕ)
 coded_sizes old (refused n) = answered n old
 coded_sizes old (rounds n) = answered 0 old
@@ -116,6 +116,6 @@ unfoldable pub value_or : {A : Type 0} → A → Result A Refusal → A
 value_or old (Err r) = old
 value_or old (Ok a) = a
 
--- a call whose result is a count, over what stood there: the nodes of a text, the bytes of a new model
+-- a call whose result is a count, over what stood there: the nodes of a text, the bytes of a new model or of an old one rewritten
 abbrev pub coded_count : {A : Type 0} → ℕ → Answered (Result ℕ Refusal) A → Answered ℕ (A × ℕ)
 coded_count = coded_result code_in value_or

@@ -1,7 +1,7 @@
 -- What each function promises of its code and of all that it is lent: its `ensures`, word for word. Names with ' stand for what is left.
 use Rattle.std.specs.Prelude.{◌≡◌, List, ℕ, zero, suc, ◌≤◌, ℤ}
 use Rattle.results.specs.Results.{answered}
-use Rattle.model.specs.Check.{Verdict, verdict, answer_of}
+use Rattle.model.specs.Check.{Verdict, verdict, byte_verdict, answer_of}
 use Rattle.model.specs.Check.Verdict.{refusal, accepted}
 use Rattle.standing.specs.Runs.{run}
 use Rattle.steps.specs.Answers.{on_file, on_file_answer}
@@ -10,6 +10,7 @@ use Rattle.inspection.specs.Queries as queries
 use Rattle.run.specs.Promises.{seen_check}
 use Rattle.texts.specs.Texts.{slices, typed_in}
 use Rattle.synchronisation.specs.Synchronisations.{synchronised_by}
+use Rattle.rewriting.specs.Rewriting.{rewritten_by}
 use Rattle.capi.specs.Codes.{coded_by, coded_rounds, coded_number, coded_sizes, coded_pick, coded_outside, coded_count}
 
 -- the cell of the round count, by the code. 01: "so it is at most F + 1"
@@ -65,3 +66,8 @@ TextCoded m text kinds parameters count code kinds' parameters' count' =
 abbrev pub SynchroniseCoded : List ℕ → List ℕ → List ℕ → List ℕ → ℕ → ℕ → List ℕ → ℕ → Type 0
 SynchroniseCoded m mandatory optional out new_length code out' new_length' =
     answered code (out', new_length') ≡ coded_count new_length (synchronised_by (verdict m) mandatory optional out)
+
+-- by the old check
+abbrev pub RewriteCoded : List ℕ → List ℕ → ℕ → ℕ → List ℕ → ℕ → Type 0
+RewriteCoded old out new_length code out' new_length' =
+    answered code (out', new_length') ≡ coded_count new_length (rewritten_by old (byte_verdict old) out)

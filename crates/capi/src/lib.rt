@@ -4,7 +4,7 @@
 
 ghost use Rattle.std.specs.Prelude.{◌≡◌};
 ghost use Rattle.capi.specs.Codes.{code_in, value_or, found_over};
-ghost use Rattle.capi.specs.Promises.{CheckCoded, StartCoded, FireCoded, UndoCoded, MarksCoded, ValueCoded, PickCoded, FirstOutsideCoded, TextCoded, SynchroniseCoded};
+ghost use Rattle.capi.specs.Promises.{CheckCoded, StartCoded, FireCoded, UndoCoded, MarksCoded, ValueCoded, PickCoded, FirstOutsideCoded, TextCoded, SynchroniseCoded, RewriteCoded};
 
 use results::Refusal;
 use standing::Run;
@@ -94,7 +94,7 @@ pub extern "C" fn gts_fire(
     model: &[u8],
     values: &mut [i32],
     marks: &mut [u8],
-    history: &mut [u8],
+    history: &mut [u16],
     n: &mut usize,
     transition: usize,
     rounds: &mut usize,
@@ -114,7 +114,7 @@ pub extern "C" fn gts_undo(
     model: &[u8],
     values: &mut [i32],
     marks: &mut [u8],
-    history: &[u8],
+    history: &[u16],
     n: &mut usize,
 ) -> u8
     ensures { UndoCoded model.now values.old marks.old history.now n.old result
@@ -129,7 +129,7 @@ pub extern "C" fn gts_marks(
     model: &[u8],
     values: &[i32],
     marks: &[u8],
-    history: &[u8],
+    history: &[u16],
     n: usize,
     buffer: &mut [u8],
 ) -> u8
@@ -145,7 +145,7 @@ pub extern "C" fn gts_value(
     model: &[u8],
     values: &[i32],
     marks: &[u8],
-    history: &[u8],
+    history: &[u16],
     n: usize,
     variable: usize,
     value: &mut i32,
@@ -177,7 +177,7 @@ pub extern "C" fn gts_pick(
     model: &[u8],
     values: &[i32],
     marks: &[u8],
-    history: &[u8],
+    history: &[u16],
     n: usize,
     transition: &mut usize,
     found: &mut u8,
@@ -251,4 +251,12 @@ pub extern "C" fn gts_synchronise(
 {
     let answer = synchronisation::synchronise(model, mandatory, optional, out);
     hand(answer, new_len)
+}
+
+// An old file in the layout that every call reads, with its length in bytes.
+#[unsafe(no_mangle)]
+pub extern "C" fn gts_rewrite(old: &[u8], out: &mut [u8], new_len: &mut usize) -> u8
+    ensures { RewriteCoded old.now out.old new_len.old result out.new new_len.new }
+{
+    hand(rewriting::rewrite(old, out), new_len)
 }

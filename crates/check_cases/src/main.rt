@@ -17,8 +17,8 @@ use std::fs::File;
 use std::io;
 use syntax::Tree;
 
-// The most parameters of an expression.
-const PARAMETERS: usize = 6000;
+// The most parameters of an expression: more than a model has nodes.
+const PARAMETERS: usize = 12288;
 
 // An expression handed beside a model: its sort, and how many kinds, parameters and bytes of the model stand in the body.
 #[derive(Clone, Copy)]
@@ -145,7 +145,7 @@ impl Head {
 
 fn main(rt: HostRuntime) -> io::Result<()> {
     let mut file = File::open(&rt, "cases")?;
-    let mut buffer = [0u8; 32768];
+    let mut buffer = [0u8; 65536];
     cases::run(&rt, "cases", || {
         cases::next_case::<16, Head, _, _>(&rt, &mut file, &mut buffer)
     })

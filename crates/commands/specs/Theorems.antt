@@ -2,7 +2,7 @@
 use Rattle.std.specs.Prelude.{◌≡◌, None, List, ℕ, ◌≤◌, length, take}
 use Rattle.commands.specs.Commands.{command_of, too_long}
 
--- a line of 6 or more bytes is no command, so the first 6 bytes tell a line's command
+-- a line of 8 or more bytes is no command, so the first 8 bytes tell a line's command
 abbrev pub LongLineUnknown : Type 0
 LongLineUnknown = (l : List ℕ) → too_long ≤ length l → command_of l ≡ None
 

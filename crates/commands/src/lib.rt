@@ -14,7 +14,7 @@ pub enum Command {
 }
 
 // The most digits of a transition's number.
-const MOST_DIGITS: usize = 3;
+const MOST_DIGITS: usize = 5;
 
 // The command of the digits after `f` and a space.
 fn fire_of(digits: &[u8]) -> Option<Command>

@@ -13,10 +13,10 @@ use Rattle.results.specs.declared.refusal.Refusal.{Refusal}
 use Rattle.results.specs.declared.refusal.Refusal.TheVariants.{NodesLeftOver}
 use Rattle.model.specs.declared.Sizes.{Sizes}
 use Rattle.model.specs.Trees.{Instruction, Variable, Transition, System, variables, sorts_of}
-use Rattle.model.specs.Sizes.{byte_layout, sized}
+use Rattle.model.specs.Sizes.{file_layout, sized}
 use Rattle.model.specs.Walk.{Walk, variable_at, transition_at, row_at, scope_of}
 use Rattle.model.specs.Walk.Walk.{refused, found}
-use Rattle.model.specs.Check.{max_depth, complete, rest_at, system_at, kinds_in, parameters_in, walked_in, verdict, verdict_in, verdict_of}
+use Rattle.model.specs.Check.{max_depth, complete, rest_at, system_at, kinds_in, parameters_in, walked_in, verdict, verdict_in, verdict_of, verdict_of_layout}
 use Rattle.model.specs.Check.Verdict.{accepted}
 use Rattle.model.specs.Standing.{InstructionAt, size_of, size_of_transitions}
 use Rattle.model.proofs.NodeLists.{TransitionsAt}
@@ -126,22 +126,22 @@ module _ (ks : List ℕ) (ps : List ℤ) (long : length ps ≡ length ks) (s : S
 -- ---- the file
 
 pub record FileRead (m : List ℕ) (s : Sizes) (t : System) : Type 0 where
-  pub sizes : SizedAs m s
-  pub system : SystemRead (kinds_in byte_layout s.nodes m) (parameters_in byte_layout s.nodes m) s t
+  pub sizes : SizedAs file_layout m s
+  pub system : SystemRead (kinds_in file_layout s.nodes m) (parameters_in file_layout s.nodes m) s t
 
 module _ (m : List ℕ) where
-  walked_read : (s : Sizes) (t : System) → sized byte_layout m ≡ Ok s → (next : ℕ) → walked_in byte_layout m s ≡ found t next → FileRead m s t
+  walked_read : (s : Sizes) (t : System) → sized file_layout m ≡ Ok s → (next : ℕ) → walked_in file_layout m s ≡ found t next → FileRead m s t
   walked_read s t r next e =
       let h = sized_read m s r in
       record {
         sizes = h;
         system =
-            system_read (kinds_in byte_layout s.nodes m) (parameters_in byte_layout s.nodes m)
+            system_read (kinds_in file_layout s.nodes m) (parameters_in file_layout s.nodes m)
             (parameters_length m s.nodes _ ∙ sym (kinds_length m s h)) s t next
-            (ap (λ n. complete n (system_at (kinds_in byte_layout s.nodes m) (parameters_in byte_layout s.nodes m) s)) (kinds_length m s h) ∙ e);
+            (ap (λ n. complete n (system_at (kinds_in file_layout s.nodes m) (parameters_in file_layout s.nodes m) s)) (kinds_length m s h) ∙ e);
       }
 
-  verdict_walk : (r s : Sizes) (t : System) → sized byte_layout m ≡ Ok r → (w : Walk System) → walked_in byte_layout m r ≡ w → verdict_of r w ≡ accepted s t → FileRead m s t
+  verdict_walk : (r s : Sizes) (t : System) → sized file_layout m ≡ Ok r → (w : Walk System) → walked_in file_layout m r ≡ w → verdict_of r w ≡ accepted s t → FileRead m s t
   unfolding verdict_of
   verdict_walk r s t h (refused n) e v = cc
   verdict_walk r s t h (found t' next) e v =
@@ -149,11 +149,11 @@ module _ (m : List ℕ) where
       let q : t' ≡ t = cc in
       subst (λ s. FileRead m s t) p (walked_read r t h next (e ∙ ap (λ t. found t next) q))
 
-  verdict_sized : (z : Result Sizes Refusal) → sized byte_layout m ≡ z → (s : Sizes) (t : System) → verdict_in byte_layout m z ≡ accepted s t → FileRead m s t
+  verdict_sized : (z : Result Sizes Refusal) → sized file_layout m ≡ z → (s : Sizes) (t : System) → verdict_in file_layout m z ≡ accepted s t → FileRead m s t
   unfolding verdict_in
   verdict_sized (Err n) h s t v = cc
-  verdict_sized (Ok r) h s t v = verdict_walk r s t h (walked_in byte_layout m r) refl v
+  verdict_sized (Ok r) h s t v = verdict_walk r s t h (walked_in file_layout m r) refl v
 
   pub accepted_file : (s : Sizes) (t : System) → verdict m ≡ accepted s t → FileRead m s t
-  unfolding verdict
-  accepted_file s t v = verdict_sized (sized byte_layout m) refl s t v
+  unfolding verdict_of_layout
+  accepted_file s t v = verdict_sized (sized file_layout m) refl s t v

@@ -1,4 +1,4 @@
--- The parts of the arrays that are in use after `prepare` accepted a file: they are its decoding.
+-- The parts of the arrays that are in use after an accepted file was decoded: they are its decoding.
 use mathlib.Core.Path.{◌≡◌, refl, sym, ap, ◌∙◌, subst}
 use mathlib.Core.List.{List}
 use Prim.Native.Nat.{ℕ, ◌+◌, ◌≤◌}
@@ -7,41 +7,29 @@ use mir.Syntax.{w8}
 use mir.Val.{Fits}
 use lib.ListN.{length, get_or, take, drop, length-take, length-map}
 use lib.Seq.{take_at}
-use Rattle.std.specs.Prelude.{Result, Ok, Err}
-use Rattle.results.specs.declared.refusal.Refusal.{Refusal}
-use Rattle.results.specs.Results.{answered, over}
+use Rattle.std.specs.Prelude.{Ok}
+use Rattle.results.specs.Results.{over}
 use Rattle.model.specs.declared.Sizes.{Sizes}
 use Rattle.model.specs.declared.Model.{Model}
 use Rattle.model.specs.Trees.{System, variables}
-use Rattle.model.specs.Sizes.{byte_layout}
-use Rattle.model.specs.Check.{Verdict, verdict, answer_of, kinds_in, parameters_in}
-use Rattle.model.specs.Check.Verdict.{refusal, accepted}
+use Rattle.model.specs.Sizes.{file_layout}
+use Rattle.model.specs.Check.{verdict, answer_of, kinds_in, parameters_in}
+use Rattle.model.specs.Check.Verdict.{accepted}
 use Rattle.model.specs.Theorems.{Bytes}
-use Rattle.model.proofs.LittleBytes.{all_bytes, parameters_length}
-use Rattle.model.proofs.CheckExact.{kinds_length, sized_fits}
+use Rattle.model.proofs.LittleBytes.{parameters_length}
+use Rattle.model.proofs.CheckExact.{kinds_length}
 use Rattle.variables.specs.Rows.{variable_row}
 use Rattle.tables.specs.declared.Tables.{Tables}
-use Rattle.decoding.specs.Decoding.{Decoded, Arrays, LentOf, decoded_over, prepared_by, assertion_place}
+use Rattle.decoding.specs.Decoding.{Decoded, Arrays, LentOf, decoded_over, assertion_place}
 use Rattle.decoding.proofs.Accepted.{accepted_file}
 use Rattle.decoding.proofs.Places.{nexts_length}
-use Rattle.decoding.proofs.Preparing.{ready_prepared}
+use Rattle.model.proofs.Verdicts.{answer_accepted}
 use Rattle.decoding.proofs.Decoded.{guards_length, decoded_nodes, decoded_rows, decoded_variables}
-
--- the sizes fit the arrays
-pub record SizesFit (s : Sizes) : Type 0 where
-  pub nodes : s.nodes ≤ 4000
-  pub variables : s.states + s.flows ≤ 510
-  pub transitions : s.transitions ≤ 255
-
-pub sizes_fit : (m : List ℕ) → Bytes m → (s : Sizes) (t : System) → verdict m ≡ accepted s t → SizesFit s
-sizes_fit m b s t e =
-    let f = sized_fits m (all_bytes m b) s (accepted_file m s t e).sizes in
-    record { nodes = f.nodes; variables = omega (arith, f.states, f.flows); transitions = omega (arith, f.transitions) }
 
 -- the first cells of these arrays are the decoding of the file
 abbrev pub DecodedIn : List ℕ → Arrays → Model → Type 0
 DecodedIn m a d =
-    Decoded m d (kinds_in byte_layout d.sizes.nodes m) (take d.sizes.nodes a.parameters)
+    Decoded m d (kinds_in file_layout d.sizes.nodes m) (take d.sizes.nodes a.parameters)
     (take (d.sizes.states + d.sizes.flows) a.variables) (take d.sizes.nodes a.nexts) (take d.sizes.transitions a.guards)
 
 pub record InUse (m : List ℕ) (a : Arrays) (d : Model) : Type 0 where
@@ -62,8 +50,8 @@ module _ (m : List ℕ) (a : Arrays) (d : Model) (u : InUse m a d) (t : Tables) 
         system = x.system;
         checked = x.checked ∙ ap (λ d. accepted d.sizes x.system) (sym l.model);
         assertion_decoded = ap (λ d. d.assertion) l.model ∙ x.assertion_decoded;
-        kinds_decoded = l.kinds ∙ ap (λ d. kinds_in byte_layout d.sizes.nodes m) (sym l.model);
-        parameters_decoded = l.parameters ∙ x.parameters_decoded ∙ ap (λ d. parameters_in byte_layout d.sizes.nodes m) (sym l.model);
+        kinds_decoded = l.kinds ∙ ap (λ d. kinds_in file_layout d.sizes.nodes m) (sym l.model);
+        parameters_decoded = l.parameters ∙ x.parameters_decoded ∙ ap (λ d. parameters_in file_layout d.sizes.nodes m) (sym l.model);
         variables_decoded = l.variables ∙ x.variables_decoded;
         nexts_decoded = l.nexts ∙ x.nexts_decoded;
         guards_decoded = l.guards ∙ x.guards_decoded;
@@ -75,19 +63,19 @@ module _ (m : List ℕ) (a : Arrays) (d : Model) (u : InUse m a d) (t : Tables) 
   pub rows_lent : length t.variables.now ≡ d.sizes.states + d.sizes.flows
   rows_lent = ap length l.variables ∙ decoded_rows m d _ _ _ _ _ u.decoding ∙ decoded_variables m d _ _ _ _ _ u.decoding
 
--- ---- what `prepare` leaves
+-- ---- what `decode` leaves
 
 pub take_over : {A : Type 0} (new old : List A) (n : ℕ) → length new ≡ n → take n (over new old) ≡ new
 take_over new old n e = take_at new (drop (length new) old) n e
 
-module _ (m : List ℕ) (b : Bytes m) (old : Arrays) where
+module _ (m : List ℕ) (bytes : (i : ℕ) → Fits w8 (get_or m i 0)) (old : Arrays) where
   accepted_used : (s : Sizes) (t : System) → verdict m ≡ accepted s t
       → InUse m (decoded_over m s t old) (record { sizes = s; assertion = assertion_place t })
   unfolding decoded_over
   accepted_used s t v =
       let f = accepted_file m s t v in
       record {
-        bytes = b;
+        bytes = λ i h. (bytes i).fits;
         decoding =
             record {
               system = t;
@@ -101,33 +89,10 @@ module _ (m : List ℕ) (b : Bytes m) (old : Arrays) where
             };
       }
 
-  ready_by : (v : Verdict) → verdict m ≡ v → (d : Model) (left : Arrays) → answered (Ok d) left ≡ prepared_by m old v → InUse m left d
-  unfolding prepared_by
-  ready_by (refusal n) h d left e =
-      let a : Ok d ≡ Err n = ap (λ p. p.answer) e in
-      cc
-  ready_by (accepted s t) h d left e =
-      let a : Ok d ≡ Ok (record { sizes = s; assertion = assertion_place t }) = ap (λ p. p.answer) e in
-      let z : d ≡ record { sizes = s; assertion = assertion_place t } = cc in
-      subst (InUse m left) (sym z) (subst (λ left. InUse m left (record { sizes = s; assertion = assertion_place t })) (sym (ap (λ p. p.left) e)) (accepted_used s t h))
-
--- a file that was accepted
-pub in_use_lem : (m : List ℕ) → ((i : ℕ) → Fits w8 (get_or m i 0)) → (old new : Arrays) (r : Result Model Refusal) (d : Model)
-    → answered r new ≡ prepared_by m old (verdict m) → r ≡ Ok d → InUse m new d
-in_use_lem m bytes old new r d e ready =
-    ready_by m (λ i h. (bytes i).fits) old (verdict m) refl d new (ap (λ x. answered x new) (sym ready) ∙ e)
-
--- what `decode` leaves
-pub decoded_used : (m : List ℕ) → ((i : ℕ) → Fits w8 (get_or m i 0)) → (old new : Arrays) (s : Sizes) (d : Model) → answer_of (verdict m) ≡ Ok s → d.sizes ≡ s
-    → ((t : System) → verdict m ≡ accepted s t → (d.assertion ≡ assertion_place t) × (new ≡ decoded_over m s t old)) → InUse m new d
-decoded_used m bytes old new s d e z f = in_use_lem m bytes old new (Ok d) d (ready_prepared m old s new d e z f) refl
-
--- a file that was refused
-pub refused_verdict : (m : List ℕ) (old new : Arrays) (r : Result Model Refusal) (n : Refusal) (v : Verdict) → answered r new ≡ prepared_by m old v → r ≡ Err n → v ≡ refusal n
-unfolding prepared_by
-refused_verdict m old new r n (refusal k) e h =
-    let a : ◌≡◌ {A = Result Model Refusal} (Err k) (Err n) = sym (ap (λ p. p.answer) e) ∙ h in
-    let z : k ≡ n = cc in ap refusal z
-refused_verdict m old new r n (accepted s t) e h =
-    let a : ◌≡◌ {A = Result Model Refusal} (Ok (record { sizes = s; assertion = assertion_place t })) (Err n) = sym (ap (λ p. p.answer) e) ∙ h in
-    cc
+  pub decoded_used : (new : Arrays) (s : Sizes) (d : Model) → answer_of (verdict m) ≡ Ok s → d.sizes ≡ s
+      → ((t : System) → verdict m ≡ accepted s t → (d.assertion ≡ assertion_place t) × (new ≡ decoded_over m s t old)) → InUse m new d
+  decoded_used new s d e z f =
+      let a = answer_accepted s (verdict m) e in
+      let g = f a.0 a.1 in
+      let same : d ≡ record { sizes = s; assertion = assertion_place a.0 } = λ i. record { sizes = z i; assertion = g.0 i } in
+      subst (InUse m new) (sym same) (subst (λ new. InUse m new (record { sizes = s; assertion = assertion_place a.0 })) (sym g.1) (accepted_used s a.0 a.1))

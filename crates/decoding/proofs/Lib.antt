@@ -5,6 +5,7 @@ pub mod Handed
 pub mod InUse
 pub mod Places
 pub mod Preparing
+pub mod Sizing
 pub mod StoredGuards
 pub mod StoredVariables
 pub mod VariablesInUse

@@ -9,24 +9,23 @@ use mir.Val.{Fits as Byte}
 use lib.IntN.{ℤ}
 use lib.ListN.{length, get_or, take, drop, length-append, length-map}
 use lib.Seq.{take_at, drop_at, length-take-le}
-use Rattle.std.specs.Prelude.{Ok, Err}
-use Rattle.results.specs.declared.refusal.Refusal.{Refusal}
+use Rattle.std.specs.Prelude.{Ok}
 use Rattle.kinds.specs.declared.Sort.TheVariants.{Boolean}
 use Rattle.kinds.specs.Sameness.{is_sort}
 use Rattle.model.specs.declared.Sizes.{Sizes}
-use Rattle.model.specs.declared.Model.{Model}
 use Rattle.model.specs.Trees.{Variable, Transition, System, variables}
-use Rattle.model.specs.Sizes.{byte_layout, max_nodes, max_variables}
-use Rattle.model.specs.Check.{Verdict, verdict, answer_of, kinds_in, parameters_in}
-use Rattle.model.specs.Check.Verdict.{refusal, accepted}
+use Rattle.model.specs.Sizes.{file_layout}
+use Rattle.model.specs.Check.{verdict, answer_of, kinds_in, parameters_in}
+use Rattle.model.specs.Check.Verdict.{accepted}
 use Rattle.decoding.specs.NextPlaces.{filled}
 use Rattle.model.specs.Standing.{size_of_transitions}
-use Rattle.results.specs.Results.{over, answered}
+use Rattle.results.specs.Results.{over}
 use Rattle.variables.specs.declared.VariableRow.{VariableRow}
 use Rattle.variables.specs.Rows.{variable_row, variable_rows}
-use Rattle.decoding.specs.Decoding.{Enough, VariablesRead, Arrays, arrays, decoded_over, prepared_by, guard_places, nexts_of, nexts_of_variables, nexts_of_transitions, nexts_of_system, size_of_variable, size_of_variables, transitions_place, assertion_place}
+use Rattle.decoding.specs.Decoding.{VariablesRead, Arrays, arrays, decoded_over, guard_places, nexts_of, nexts_of_variables, nexts_of_transitions, nexts_of_system, size_of_variable, size_of_variables, transitions_place, assertion_place}
 use Rattle.decoding.proofs.Accepted.{FileRead, accepted_file}
 use Rattle.model.proofs.LittleBytes.{parameters_length}
+use Rattle.model.proofs.Verdicts.{answer_accepted}
 use Rattle.model.proofs.Encoding.{Fits, SizedAs}
 use Rattle.model.proofs.CheckExact.{kinds_length, sized_fits}
 use Rattle.decoding.proofs.StoredVariables.{cells_over}
@@ -34,38 +33,21 @@ use Rattle.decoding.proofs.Places.{filled_nexts, nexts_length}
 
 -- ---- the answer of the check
 
-pub answer_refused : (n : Refusal) (v : Verdict) → answer_of v ≡ Err n → v ≡ refusal n
-unfolding answer_of
-answer_refused n (refusal k) e = let z : k ≡ n = cc in ap refusal z
-answer_refused n (accepted s t) e = cc
-
 module _ (m : List ℕ) (s : Sizes) where
-  answer_by : (v : Verdict) → verdict m ≡ v → answer_of v ≡ Ok s → (t : System) × (verdict m ≡ accepted s t)
-  unfolding answer_of
-  answer_by (refusal n) h e = cc
-  answer_by (accepted r t) h e = let z : r ≡ s = cc in (t, h ∙ ap (λ s. accepted s t) z)
+  pub answer_sizes : answer_of (verdict m) ≡ Ok s → SizedAs file_layout m s
+  answer_sizes e = let a = answer_accepted s (verdict m) e in (accepted_file m s a.0 a.1).sizes
 
-  pub answer_accepted : answer_of (verdict m) ≡ Ok s → (t : System) × (verdict m ≡ accepted s t)
-  answer_accepted e = answer_by (verdict m) refl e
-
-  pub answer_sizes : answer_of (verdict m) ≡ Ok s → SizedAs m s
-  answer_sizes e = let a = answer_accepted e in (accepted_file m s a.0 a.1).sizes
-
-  -- the sizes that stand in one byte
-  pub answer_fits : ((i : ℕ) → Byte w8 (get_or m i 0)) → answer_of (verdict m) ≡ Ok s → Fits s
+  -- the sizes fit their bytes
+  pub answer_fits : ((i : ℕ) → Byte w8 (get_or m i 0)) → answer_of (verdict m) ≡ Ok s → Fits file_layout s
   answer_fits bytes e = sized_fits m (λ i. omega (arith, bytes i)) s (answer_sizes e)
-
-  -- the most cells are enough
-  pub answer_enough : ((i : ℕ) → Byte w8 (get_or m i 0)) → answer_of (verdict m) ≡ Ok s → Enough s max_nodes max_variables
-  answer_enough bytes e = let f = answer_fits bytes e in ((answer_sizes e).few, omega (arith, f), omega (arith, f), omega arith)
 
 -- ---- the slices that are lent
 
-module _ (m : List ℕ) (s : Sizes) (ks : List ℕ) (k : ks ≡ kinds_in byte_layout s.nodes m) where
-  pub lent_kinds : SizedAs m s → length ks ≡ s.nodes
+module _ (m : List ℕ) (s : Sizes) (ks : List ℕ) (k : ks ≡ kinds_in file_layout s.nodes m) where
+  pub lent_kinds : SizedAs file_layout m s → length ks ≡ s.nodes
   lent_kinds r = ap length k ∙ kinds_length m s r
 
-  pub lent_parameters : (parameters : List ℤ) → SizedAs m s → s.nodes ≤ length parameters → length (take s.nodes parameters) ≡ length ks
+  pub lent_parameters : (parameters : List ℤ) → SizedAs file_layout m s → s.nodes ≤ length parameters → length (take s.nodes parameters) ≡ length ks
   lent_parameters parameters r l = length-take-le s.nodes parameters l ∙ sym (lent_kinds r)
 
 -- ---- the decoding
@@ -91,44 +73,44 @@ arrays_same : {a a' : List ℤ} {b b' : List VariableRow} {c c' d d' : List ℕ}
 arrays_same p q r s = λ i. arrays (p i) (q i) (r i) (s i)
 
 -- the parameters that were read stand in the first cells
-pub parameters_front : (m : List ℕ) (n : ℕ) (rest new : List ℤ) → new ≡ parameters_in byte_layout n m ++ rest → take n new ≡ parameters_in byte_layout n m
-parameters_front m n rest new e = ap (take n) e ∙ take_at (parameters_in byte_layout n m) rest n (parameters_length m n (6 + n))
+pub parameters_front : (m : List ℕ) (n : ℕ) (rest new : List ℤ) → new ≡ parameters_in file_layout n m ++ rest → take n new ≡ parameters_in file_layout n m
+parameters_front m n rest new e = ap (take n) e ∙ take_at (parameters_in file_layout n m) rest n (parameters_length m n (10 + n))
 
 -- the variables of an accepted file are those that the walk finds
-module _ (m : List ℕ) (s : Sizes) (ks : List ℕ) (ps : List ℤ) (k : ks ≡ kinds_in byte_layout s.nodes m) (p : ps ≡ parameters_in byte_layout s.nodes m)
+module _ (m : List ℕ) (s : Sizes) (ks : List ℕ) (ps : List ℤ) (k : ks ≡ kinds_in file_layout s.nodes m) (p : ps ≡ parameters_in file_layout s.nodes m)
     {count : ℕ} (n : count ≡ s.states + s.flows) where
   abbrev pub variables_read : (t : System) → verdict m ≡ accepted s t → VariablesRead ks ps count
   variables_read t v =
       record { variables = variables t; next = transitions_place t; row = rw (k, p, n) (accepted_file m s t v).system.row }
 
   pub variables_asked : answer_of (verdict m) ≡ Ok s → VariablesRead ks ps count
-  variables_asked e = let a = answer_accepted m s e in variables_read a.0 a.1
+  variables_asked e = let a = answer_accepted s (verdict m) e in variables_read a.0 a.1
 
-pub sorts_asked : (m : List ℕ) (s : Sizes) (ks : List ℕ) → ks ≡ kinds_in byte_layout s.nodes m → {count : ℕ} → count ≡ s.states + s.flows
+pub sorts_asked : (m : List ℕ) (s : Sizes) (ks : List ℕ) → ks ≡ kinds_in file_layout s.nodes m → {count : ℕ} → count ≡ s.states + s.flows
     → answer_of (verdict m) ≡ Ok s → (ps : List ℤ) × VariablesRead ks ps count
-sorts_asked m s ks k n e = (parameters_in byte_layout s.nodes m, variables_asked m s ks _ k refl n e)
+sorts_asked m s ks k n e = (parameters_in file_layout s.nodes m, variables_asked m s ks _ k refl n e)
 
 -- the parameters and the rows of the variables, from what the functions leave that read them
 pub variables_decoded_lem : (m : List ℕ) (s : Sizes) (ks : List ℕ) (old ps : List ℤ) (before rows : List VariableRow) (place count many : ℕ)
-    → ks ≡ kinds_in byte_layout s.nodes m → ps ≡ parameters_in byte_layout s.nodes m → count ≡ s.states + s.flows → many ≡ count
+    → ks ≡ kinds_in file_layout s.nodes m → ps ≡ parameters_in file_layout s.nodes m → count ≡ s.states + s.flows → many ≡ count
     → ((r : VariablesRead ks (take s.nodes (ps ++ drop s.nodes old)) many) → (place ≡ r.next) × (rows ≡ variable_rows r.variables))
     → (t : System) → verdict m ≡ accepted s t
     → (place ≡ transitions_place t)
-    × (ps ++ drop s.nodes old ≡ over (parameters_in byte_layout s.nodes m) old)
+    × (ps ++ drop s.nodes old ≡ over (parameters_in file_layout s.nodes m) old)
     × (rows ++ drop count before ≡ over (variable_rows (variables t)) before)
 variables_decoded_lem m s ks old ps before rows place count many k p n e d t v =
     let r = d (variables_read m s ks _ k (parameters_front m s.nodes _ _ (ap (λ l. l ++ drop s.nodes old) p)) (e ∙ n) t v) in (
       r.0,
-      cells_over old p (parameters_length m s.nodes (6 + s.nodes)),
+      cells_over old p (parameters_length m s.nodes (10 + s.nodes)),
       cells_over before r.1 (length-map (variables t) variable_row ∙ (accepted_file m s t v).system.number ∙ sym n),
     )
 
 -- what the functions leave: of the next places the first, which were lent alone
 pub record Steps (m : List ℕ) (s : Sizes) (ks : List ℕ) (old new : Arrays) (part : List ℕ) (place assertion : ℕ) : Type 0 where
-  pub kinds : ks ≡ kinds_in byte_layout s.nodes m
+  pub kinds : ks ≡ kinds_in file_layout s.nodes m
   pub declared : (t : System) → verdict m ≡ accepted s t
       → (place ≡ transitions_place t)
-      × (new.parameters ≡ over (parameters_in byte_layout s.nodes m) old.parameters)
+      × (new.parameters ≡ over (parameters_in file_layout s.nodes m) old.parameters)
       × (new.variables ≡ over (variable_rows (variables t)) old.variables)
   pub filling : part ≡ filled ks (take s.nodes new.parameters) (length ks) (take s.nodes old.nexts)
   pub nexts : new.nexts ≡ part ++ drop s.nodes old.nexts
@@ -142,10 +124,10 @@ module _ (m : List ℕ) (s : Sizes) (ks : List ℕ) (old new : Arrays) (part : L
   file = accepted_file m s t v
 
   abbrev file_kinds : List ℕ
-  file_kinds = kinds_in byte_layout s.nodes m
+  file_kinds = kinds_in file_layout s.nodes m
 
   abbrev file_parameters : List ℤ
-  file_parameters = parameters_in byte_layout s.nodes m
+  file_parameters = parameters_in file_layout s.nodes m
 
   front : take s.nodes new.parameters ≡ file_parameters
   front = parameters_front m s.nodes _ new.parameters (h.declared t v).1
@@ -181,19 +163,3 @@ module _ (m : List ℕ) (s : Sizes) (ks : List ℕ) (old new : Arrays) (part : L
         g.0,
         arrays_same d.1 d.2 table g.1,
       )
-
--- ---- the whole
-
-module _ (m : List ℕ) (old : Arrays) where
-  pub refused_prepared : (n : Refusal) → answer_of (verdict m) ≡ Err n → answered (Err n) old ≡ prepared_by m old (verdict m)
-  unfolding prepared_by
-  refused_prepared n e = ap (prepared_by m old) (sym (answer_refused n (verdict m) e))
-
-  pub ready_prepared : (s : Sizes) (new : Arrays) (d : Model) → answer_of (verdict m) ≡ Ok s → d.sizes ≡ s
-      → ((t : System) → verdict m ≡ accepted s t → (d.assertion ≡ assertion_place t) × (new ≡ decoded_over m s t old))
-      → answered (Ok d) new ≡ prepared_by m old (verdict m)
-  unfolding prepared_by
-  ready_prepared s new d e z f =
-      let a = answer_accepted m s e in
-      let g = f a.0 a.1 in
-      (λ i. answered (Ok (record { sizes = z i; assertion = g.0 i })) (g.1 i)) ∙ ap (prepared_by m old) (sym a.1)

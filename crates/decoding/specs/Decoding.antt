@@ -1,5 +1,5 @@
--- What `prepare` decodes of an accepted file for the layers above.
-use Rattle.std.specs.Prelude.{◌≡◌, cond, List, [], ◌∷◌, ◌++◌, ℕ, ◌+◌, ◌≤◌, ◌<◌, ℤ, take, Result, Ok, Err}
+-- What `decode` makes of an accepted file for the layers above.
+use Rattle.std.specs.Prelude.{◌≡◌, cond, List, [], ◌∷◌, ◌++◌, ℕ, ◌+◌, ◌≤◌, ℤ, take, Result, Ok, Err}
 use Rattle.results.specs.Results.{Answered, answered, over}
 use Rattle.results.specs.declared.refusal.Refusal.{Refusal}
 use Rattle.kinds.specs.declared.Sort.{Sort}
@@ -11,7 +11,7 @@ use Rattle.model.specs.Trees.{Expression, Instruction, Instructions, Variable, T
 use Rattle.model.specs.Trees.Expression.{numeral, truth, variable, negation, binary, if_then_else}
 use Rattle.model.specs.Trees.Instruction.{skip, assign, if_then, block}
 use Rattle.model.specs.Trees.Instructions.{none, more}
-use Rattle.model.specs.Sizes.{byte_layout, max_transitions}
+use Rattle.model.specs.Sizes.{file_layout, max_nodes, max_variables, max_transitions}
 use Rattle.model.specs.Walk.{variable_at, row_at}
 use Rattle.model.specs.Walk.Walk.{found}
 use Rattle.model.specs.Check.{Verdict, verdict, kinds_in, parameters_in}
@@ -98,15 +98,23 @@ pub record Decoded (m : List ℕ) (model : Model) (kinds : List ℕ) (parameters
   pub system : System
   pub checked : verdict m ≡ accepted model.sizes system
   pub assertion_decoded : model.assertion ≡ assertion_place system
-  pub kinds_decoded : kinds ≡ kinds_in byte_layout model.sizes.nodes m
-  pub parameters_decoded : parameters ≡ parameters_in byte_layout model.sizes.nodes m
+  pub kinds_decoded : kinds ≡ kinds_in file_layout model.sizes.nodes m
+  pub parameters_decoded : parameters ≡ parameters_in file_layout model.sizes.nodes m
   pub variables_decoded : rows ≡ variable_rows (variables system)
   pub nexts_decoded : nexts ≡ nexts_of_system system
   pub guards_decoded : guards ≡ guard_places system.transitions (transitions_place system)
 
--- so many cells for nodes and for variables, and the cells for guards, are enough for a model of these sizes, and the places fit 16 bits
-abbrev pub Enough : Sizes → ℕ → ℕ → Type 0
-Enough s nodes variables = (s.nodes ≤ nodes) × (s.states + s.flows ≤ variables) × (s.transitions ≤ max_transitions) × (nodes < 65536)
+-- arrays of these lengths, which are those of the largest model at most, have room for so many nodes and variables
+pub record RoomFor (nodes variables node_cells variable_cells : ℕ) : Type 0 where
+  pub for_nodes : nodes ≤ node_cells
+  pub for_variables : variables ≤ variable_cells
+  pub most_nodes : node_cells ≤ max_nodes
+  pub most_variables : variable_cells ≤ max_variables
+
+-- so many cells, with those for its guards, are enough for a model of these sizes
+abbrev pub Enough : Sizes → ℕ → ℕ → ℕ → Type 0
+Enough s nodes variables transitions =
+    RoomFor s.nodes (s.states + s.flows) nodes variables × (s.transitions ≤ transitions) × (transitions ≤ max_transitions)
 
 -- what the arrays hold that a file is decoded to
 pub record Arrays : Type 0 where
@@ -118,13 +126,13 @@ pub record Arrays : Type 0 where
 abbrev pub arrays : List ℤ → List VariableRow → List ℕ → List ℕ → Arrays
 arrays parameters rows nexts guards = record { parameters = parameters; variables = rows; nexts = nexts; guards = guards }
 
-abbrev pub arrays_in : {nodes variables : ℕ} → Decoding nodes variables → Arrays
+abbrev pub arrays_in : {nodes variables transitions : ℕ} → Decoding nodes variables transitions → Arrays
 arrays_in d = arrays d.parameters d.variables d.nexts d.guards
 
 -- the tables are those of a model with these bytes, lent out of the first cells of these arrays
 pub record LentOf (m : List ℕ) (a : Arrays) (d : Model) (t : Tables) : Type 0 where
   pub model : t.model ≡ d
-  pub kinds : t.kinds.now ≡ kinds_in byte_layout d.sizes.nodes m
+  pub kinds : t.kinds.now ≡ kinds_in file_layout d.sizes.nodes m
   pub parameters : t.parameters.now ≡ take d.sizes.nodes a.parameters
   pub variables : t.variables.now ≡ take (d.sizes.states + d.sizes.flows) a.variables
   pub nexts : t.nexts.now ≡ take d.sizes.nodes a.nexts
@@ -133,25 +141,12 @@ pub record LentOf (m : List ℕ) (a : Arrays) (d : Model) (t : Tables) : Type 0 
 -- the arrays after the decoding; cells past it stay
 unfoldable pub decoded_over : List ℕ → Sizes → System → Arrays → Arrays
 decoded_over m s t old =
-    arrays (over (parameters_in byte_layout s.nodes m) old.parameters)
+    arrays (over (parameters_in file_layout s.nodes m) old.parameters)
     (over (variable_rows (variables t)) old.variables)
     (over (nexts_of_system t) old.nexts)
     (over (guard_places t.transitions (transitions_place t)) old.guards)
 
--- what `prepare` does: the check's refusal with nothing changed, or the model and the arrays decoded
-unfoldable pub prepared_by : List ℕ → Arrays → Verdict → Answered (Result Model Refusal) Arrays
-prepared_by m old (refusal r) = answered (Err r) old
-prepared_by m old (accepted s t) =
-    answered (Ok (record { sizes = s; assertion = assertion_place t })) (decoded_over m s t old)
-
--- the check's answer, and something of each variable of an accepted model at the beginning of the cells lent for it
-unfoldable pub variables_after : {A : Type 0} → (List Variable → List A) → Verdict → List A → Answered (Result Sizes Refusal) (List A)
-variables_after f (refusal r) old = answered (Err r) old
-variables_after f (accepted s t) old = answered (Ok s) (over (f (variables t)) old)
-
--- the sorts; the rows
-abbrev pub sorts_after : Verdict → List Sort → Answered (Result Sizes Refusal) (List Sort)
-sorts_after = variables_after sorts_of
-
-abbrev pub rows_after : Verdict → List VariableRow → Answered (Result Sizes Refusal) (List VariableRow)
-rows_after = variables_after variable_rows
+-- the check's answer, and the sorts of an accepted model's variables at the beginning of the cells lent for them
+unfoldable pub sorts_after : Verdict → List Sort → Answered (Result Sizes Refusal) (List Sort)
+sorts_after (refusal r) old = answered (Err r) old
+sorts_after (accepted s t) old = answered (Ok s) (over (sorts_of (variables t)) old)

@@ -2,17 +2,17 @@
 
 #![tactic(auto)]
 
-ghost use Rattle.std.specs.Prelude.{◌≡◌, List, ◌++◌, ℕ, ◌+◌, ◌<◌, ◌≤◌, ℤ, length, drop, IfOk, Some};
+ghost use Rattle.std.specs.Prelude.{◌≡◌, List, ◌++◌, ℕ, ◌+◌, ◌<◌, ◌≤◌, ℤ, length, drop, Some};
 ghost use Rattle.results.specs.Results.{answered, over};
 ghost use Rattle.model.specs.Trees as trees;
 ghost use Rattle.model.specs.Trees.{Transition, System, sorts_of};
-ghost use Rattle.model.specs.Sizes.{byte_layout, max_nodes, max_variables};
+ghost use Rattle.model.specs.Sizes.{file_layout, max_nodes};
 ghost use Rattle.model.specs.Check.{kinds_in, parameters_in, verdict};
 ghost use Rattle.model.specs.Check.Verdict.{accepted};
 ghost use Rattle.model.specs.Standing.{size_of_transitions};
 ghost use Rattle.variables.specs.Rows.{variable_rows};
 ghost use Rattle.decoding.specs.NextPlaces.{children_by, following, filled};
-ghost use Rattle.decoding.specs.Decoding.{Enough, LentOf, VariablesRead, arrays_in, assertion_place, decoded_over, guard_places, nexts_of_transitions, prepared_by, rows_after, sorts_after, transitions_place};
+ghost use Rattle.decoding.specs.Decoding.{Enough, LentOf, VariablesRead, arrays_in, assertion_place, decoded_over, guard_places, nexts_of_transitions, sorts_after, transitions_place};
 ghost use Rattle.decoding.specs.Outside.{given_after};
 
 use file::AcceptedFile;
@@ -26,13 +26,13 @@ use variables::VariableRow;
 
 pub mod file; // file.rt: a file that the check accepts
 
-// The arrays that a file is decoded to, with cells for so many nodes and variables.
+// The arrays that a file is decoded to, with cells for so many nodes, variables and transitions.
 #[derive(Drop)]
-pub struct Decoding<const NODES: usize, const VARIABLES: usize> {
+pub struct Decoding<const NODES: usize, const VARIABLES: usize, const TRANSITIONS: usize> {
     pub parameters: [i32; NODES],
     pub variables: [VariableRow; VARIABLES],
     pub nexts: [u16; NODES],
-    pub guards: [u16; Model::MAX_TRANSITIONS],
+    pub guards: [u16; TRANSITIONS],
 }
 
 // The sorts of the variables from the first node on, as many as there are cells. A Boolean is one node, a number three.
@@ -149,7 +149,7 @@ fn decode_variables(
     requires { (file.now.sizes.nodes ≤ length parameters.old) × (file.now.sizes.states + file.now.sizes.flows ≤ length variables.old) }
     ensures { (t : System) → verdict file.now.bytes.now ≡ accepted file.now.sizes t →
         (result ≡ transitions_place t)
-        × (parameters.new ≡ over (parameters_in byte_layout file.now.sizes.nodes file.now.bytes.now) parameters.old)
+        × (parameters.new ≡ over (parameters_in file_layout file.now.sizes.nodes file.now.bytes.now) parameters.old)
         × (variables.new ≡ over (variable_rows (trees.variables t)) variables.old) }
 {
     let sizes = file.sizes;
@@ -162,18 +162,22 @@ fn decode_variables(
     read_variables(&tree, &mut variables[..sizes.variables()])
 }
 
-impl<const NODES: usize, const VARIABLES: usize> Decoding<NODES, VARIABLES> {
+impl<const NODES: usize, const VARIABLES: usize, const TRANSITIONS: usize> Decoding<
+    NODES,
+    VARIABLES,
+    TRANSITIONS,
+> {
     // What stands in the arrays before a file is decoded.
     pub const BLANK: Self = Decoding {
         parameters: [0; NODES],
         variables: [VariableRow::BLANK; VARIABLES],
         nexts: [0; NODES],
-        guards: [0; Model::MAX_TRANSITIONS],
+        guards: [0; TRANSITIONS],
     };
 
     // The decoding of an accepted file, into cells that are enough for it.
     pub fn decode(&mut self, file: &AcceptedFile<'_>) -> Model
-        requires { Enough file.now.sizes NODES VARIABLES }
+        requires { Enough file.now.sizes NODES VARIABLES TRANSITIONS }
         ensures sizes { result.sizes ≡ file.now.sizes }
         ensures decoded { (t : System) → verdict file.now.bytes.now ≡ accepted file.now.sizes t →
             (result.assertion ≡ assertion_place t)
@@ -194,7 +198,7 @@ impl<const NODES: usize, const VARIABLES: usize> Decoding<NODES, VARIABLES> {
 
     // The parts of the arrays that a model is decoded to, as they are lent.
     pub fn tables<'a>(&'a self, model: &'a [u8], decoded: Model) -> Tables<'a>
-        requires { Enough decoded.sizes NODES VARIABLES }
+        requires { Enough decoded.sizes NODES VARIABLES TRANSITIONS }
         ensures { LentOf model.now (arrays_in self.now) decoded result }
     {
         let sizes = decoded.sizes;
@@ -210,26 +214,9 @@ impl<const NODES: usize, const VARIABLES: usize> Decoding<NODES, VARIABLES> {
     }
 }
 
-impl Decoding<{ Model::MAX_NODES }, { Model::MAX_VARIABLES }> {
-    // Checks a model file and decodes it: the parameters, the rows of the variables, the place after each node with its children,
-    // the places of the guards (each action stands right after its guard) and of the assertion. Not one call with `tables`: what that
-    // lends would have to be told of while it is lent.
-    pub fn prepare(&mut self, model: &[u8]) -> Result<Model, Refusal>
-        ensures decoded { answered result (arrays_in self.new) ≡ prepared_by model.now (arrays_in self.old) (verdict model.now) }
-        ensures sizes { IfOk result (λ ready. Enough ready.sizes max_nodes max_variables) }
-    {
-        let sizes = check::check(model)?;
-        let file = AcceptedFile {
-            bytes: model,
-            sizes,
-        };
-        Ok(self.decode(&file))
-    }
-}
-
 // The kinds of a file with so many nodes.
 fn kinds_of(model: &[u8], nodes: usize) -> &[u8]
-    ensures { result.now ≡ kinds_in byte_layout nodes model.now }
+    ensures { result.now ≡ kinds_in file_layout nodes model.now }
 {
     let rest = model.get(Model::HEADER..).unwrap_or(&[]);
     &rest[..nodes.min(rest.len())]
@@ -245,21 +232,13 @@ pub fn sorts_of(model: &[u8], sorts: &mut [Sort; Model::MAX_VARIABLES]) -> Resul
     Ok(sizes)
 }
 
-// The check of a model file, and the rows of an accepted one's variables.
-pub fn variables_of(
-    model: &[u8],
-    variables: &mut [VariableRow; Model::MAX_VARIABLES],
-) -> Result<Sizes, Refusal>
-    ensures { answered result variables.new ≡ rows_after (verdict model.now) variables.old }
+// The rows of an accepted file's variables, whose parameters stand in an array that is declared here.
+pub fn rows_in<const NODES: usize>(file: &AcceptedFile<'_>, variables: &mut [VariableRow])
+    requires { (file.now.sizes.nodes ≤ NODES) × (NODES ≤ max_nodes) × (file.now.sizes.states + file.now.sizes.flows ≤ length variables.old) }
+    ensures { (t : System) → verdict file.now.bytes.now ≡ accepted file.now.sizes t → variables.new ≡ over (variable_rows (trees.variables t)) variables.old }
 {
-    let sizes = check::check(model)?;
-    let file = AcceptedFile {
-        bytes: model,
-        sizes,
-    };
-    let mut parameters = [0i32; Model::MAX_NODES];
-    decode_variables(&file, &mut parameters, variables);
-    Ok(sizes)
+    let mut parameters = [0i32; NODES];
+    decode_variables(file, &mut parameters, variables);
 }
 
 // The check of an expression handed outside a model: the model's refusal, or the expression's over the model's variables.

@@ -12,7 +12,7 @@ use Rattle.commands.proofs.Commands.{command_of_first}
 use Rattle.lines.specs.Lines.{feed_byte}
 use Rattle.replies.specs.Replies.{reply}
 use Rattle.dialogue.specs.Sizes.{kept_bytes}
-use Rattle.dialogue.specs.Transcript.{lines_after, replies}
+use Rattle.dialogue.specs.Transcript.{lines_after, replies_by, replies}
 use Rattle.dialogue.specs.Turns.{Progress, Turn, progress, ended, turn, after, turns, parts, closing, closing_by}
 use Rattle.dialogue.specs.Theorems.{AnsweredByLines, PartsAsWhole}
 use Rattle.dialogue.proofs.Scanning.{take_take_append, turn_ended, turn_kept}
@@ -33,7 +33,7 @@ module _ (m : List ℕ) where
   onward input t = t.answer ++ to_end (turns m input t.left)
 
   by_lines : (input begun : List ℕ) (s : Store) → to_end (turns m input (progress (take kept_bytes begun) s)) ≡ replies m (lines_after input begun) s
-  unfolding turns replies lines_after closing_by
+  unfolding turns replies_by lines_after closing_by
   by_lines [] [] s = refl
   by_lines [] (b ∷ begun) s = ap (λ r. r.answer) (first_answered (b ∷ begun) s) ∙ sym (append-nil (reply m (command_of (b ∷ begun)) s).answer)
   by_lines (byte ∷ input) begun s =

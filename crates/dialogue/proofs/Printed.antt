@@ -2,7 +2,7 @@
 use mathlib.Core.Path.{◌≡◌, refl, sym, ap, ap₂, ◌∙◌}
 use mathlib.Core.Bool.{Bool, true, false, cond}
 use mathlib.Core.List.{List, [], ◌∷◌, ◌++◌, append-nil, flatten}
-use Prim.Native.Nat.{ℕ, ◌+◌, ◌-◌, ◌≤◌}
+use Prim.Native.Nat.{ℕ, ◌+◌, ◌-◌, ◌≤◌, ◌<◌}
 use native.Mathlib.Omega.{arith}
 use borrow.Author.Tests.{ltb-true, ltb-false}
 use lib.Dec.{ltb}
@@ -10,28 +10,27 @@ use lib.IntN.{ℤ, pos}
 use lib.ListN.{length, take, drop, replicate, length-replicate, replicate-append-replicate}
 use lib.Seq.{take_all, take_at, take-append_seam}
 use Rattle.results.specs.declared.refusal.Refusal.{Refusal}
-use Rattle.results.specs.declared.refusal.Refusal.TheVariants.{TooManyNodes, WrongLength}
 use Rattle.results.specs.Refusals.{number_of}
 use Rattle.model.specs.declared.Sizes.{Sizes}
 use Rattle.model.specs.Trees.{System}
-use Rattle.model.specs.Sizes.{max_nodes, max_variables, max_transitions}
+use Rattle.model.specs.Sizes.{max_variables, max_transitions}
 use Rattle.model.specs.Check.{Verdict, verdict, answer_of}
 use Rattle.model.specs.Check.Verdict.{refusal, accepted}
 use Rattle.model.specs.Theorems.{Bytes}
 use Rattle.standing.specs.Runs.{Store, run, store}
 use Rattle.run.specs.Lists.{call_by}
-use Rattle.run.specs.declared.Call.TheVariants as calls
 use Rattle.lines.specs.Lines.{refusal_text}
-use Rattle.replies.specs.Replies.{opening, is_started, run_text, run_reply, is_accepted}
+use Rattle.replies.specs.Replies.{opening, is_started, run_text, is_accepted}
 use Rattle.dialogue.specs.Sizes.{places, longest_file, file_bytes}
-use Rattle.dialogue.specs.Transcript.{fresh, started_text, replies, lines_of, transcript_by, transcript}
+use Rattle.commands.specs.Commands.{most_digits}
+use Rattle.dialogue.specs.Transcript.{fresh, started_text, transcript_by, transcript}
 use Rattle.dialogue.specs.Turns.{Progress, progress, turns, parts, closing}
 use Rattle.dialogue.specs.Cells.{dimensions, dimensions_of, in_use, placed}
 use Rattle.dialogue.specs.declared.Dimensions.{Dimensions}
 use Rattle.dialogue.specs.Program.{text_in, pieces_of, pieces_text, empty, open_text, program_text}
 use Rattle.dialogue.specs.Theorems.{TranscriptOfKept}
 use Rattle.dialogue.proofs.RunSizes.{few_cells}
-use Rattle.dialogue.proofs.Files.{nodes_in, long_file, verdict_of_first}
+use Rattle.dialogue.proofs.Files.{verdict_of_first, long_file_refused}
 use Rattle.dialogue.proofs.Pieces.{pieces_joined}
 use Rattle.dialogue.proofs.Bytewise.{to_end, after_to_end, parts_joined, answered_by_lines}
 
@@ -59,7 +58,7 @@ module _ (m : List ℕ) where
       ∙ sym (after_to_end m t (parts m ps t.left))
 
   -- the start, then the lines of the input
-  open_printed : (d : Dimensions) (ps : List (List ℕ)) (out : List ℕ) → open_text m d ps out ≡ started_text m (flatten ps) (in_use d empty)
+  open_printed : (d : Dimensions) (ps : List (List ℕ)) (out : List ℕ) → open_text m d ps out ≡ started_text most_digits (verdict m) (flatten ps) (in_use d empty)
   unfolding open_text
   open_printed d ps out =
       let o = opening m (in_use d empty) in
@@ -69,13 +68,10 @@ module _ (m : List ℕ) where
       ∙ answered_by_lines m (flatten ps) o.left)
 
   -- a refused model
-  refused_opening : (r : Refusal) → verdict m ≡ refusal r → (input : List ℕ) (s : Store) → started_text m input s ≡ refusal_text (number_of r)
+  refused_opening : (r : Refusal) → verdict m ≡ refusal r → (input : List ℕ) (s : Store) → started_text most_digits (verdict m) input s ≡ refusal_text (number_of r)
   unfolding call_by run_text is_accepted
   refused_opening r e input s =
-      ap (λ v.
-      let d = call_by v calls.Start s in
-      (run_reply d).answer ++ cond (is_accepted d.answer) (replies m (lines_of input) d.left) []) e
-      ∙ append-nil (refusal_text (number_of r))
+      ap (λ v. started_text most_digits v input s) e ∙ append-nil (refusal_text (number_of r))
 
 -- ---- the program
 
@@ -84,16 +80,16 @@ module _ (ps : List (List ℕ)) (out : List ℕ) where
   unfolding transcript_by
   refused_printed m m' n e e' =
       let d = dimensions_of (length m') (verdict m') in
-      open_printed m' d ps out ∙ refused_opening m' n e' (flatten ps) (in_use d empty) ∙ sym (ap (λ v. transcript_by v m (flatten ps)) e)
+      open_printed m' d ps out ∙ refused_opening m' n e' (flatten ps) (in_use d empty) ∙ sym (ap (λ v. transcript_by most_digits v (flatten ps)) e)
 
   accepted_printed : (m : List ℕ) → Bytes m → (z : Sizes) (t : System) → verdict m ≡ accepted z t → program_text m ps out ≡ transcript m (flatten ps)
   unfolding transcript_by dimensions_of answer_of
   accepted_printed m b z t e =
-      let few = few_cells z m b (ap answer_of e) in
+      let few = few_cells z m (ap answer_of e) in
       open_printed m (dimensions_of (length m) (verdict m)) ps out
-      ∙ ap (λ v. started_text m (flatten ps) (in_use (dimensions_of (length m) v) empty)) e
-      ∙ ap (started_text m (flatten ps)) (fresh_in_use (length m) (z.states + z.flows) z.transitions few.0 few.1)
-      ∙ sym (ap (λ v. transcript_by v m (flatten ps)) e)
+      ∙ ap (λ v. started_text most_digits v (flatten ps) (in_use (dimensions_of (length m) v) empty)) e
+      ∙ ap (started_text most_digits (accepted z t) (flatten ps)) (fresh_in_use (length m) (z.states + z.flows) z.transitions few.0 few.1)
+      ∙ sym (ap (λ v. transcript_by most_digits v (flatten ps)) e)
 
   whole_printed : (m : List ℕ) → Bytes m → program_text m ps out ≡ transcript m (flatten ps)
   whole_printed m b = by (verdict m) refl
@@ -105,11 +101,11 @@ module _ (ps : List (List ℕ)) (out : List ℕ) where
 pub transcript_of_kept : TranscriptOfKept
 transcript_of_kept m ps out b = by (ltb longest_file (length m)) refl
   where
-    long : (t : Bool) → verdict m ≡ cond t (refusal TooManyNodes) (refusal WrongLength) → program_text (take file_bytes m) ps out ≡ transcript m (flatten ps)
-    long true e = refused_printed ps out m (take file_bytes m) TooManyNodes e (sym (verdict_of_first m) ∙ e)
-    long false e = refused_printed ps out m (take file_bytes m) WrongLength e (sym (verdict_of_first m) ∙ e)
+    long : longest_file < length m → (v : Verdict) → verdict m ≡ v → program_text (take file_bytes m) ps out ≡ transcript m (flatten ps)
+    long h (refusal r) e = refused_printed ps out m (take file_bytes m) r e (sym (verdict_of_first m) ∙ e)
+    long h (accepted z t) e = absurd (long_file_refused m h z t e)
 
     by : (t : Bool) → ltb longest_file (length m) ≡ t → program_text (take file_bytes m) ps out ≡ transcript m (flatten ps)
-    by true e = long (ltb max_nodes (nodes_in m)) (long_file m (ltb-true longest_file (length m) e))
+    by true e = long (ltb-true longest_file (length m) e) (verdict m) refl
     by false e =
         ap (λ x. program_text x ps out) (take_all file_bytes m (omega (arith, ltb-false longest_file (length m) e))) ∙ whole_printed ps out m b

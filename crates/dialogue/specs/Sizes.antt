@@ -1,7 +1,7 @@
 -- The sizes of what the program keeps, each named once. In the code struct `Program` has `places`, `file_bytes`, `kept_bytes` and
 -- `line_bytes`, struct `Model` the most variables and transitions.
-use Rattle.std.specs.Prelude.{ℕ, suc, ◌+◌, ◌*◌}
-use Rattle.model.specs.Sizes.{max_nodes, max_variables, node_width, byte_layout, header_of}
+use Rattle.std.specs.Prelude.{ℕ, suc}
+use Rattle.model.specs.Sizes.{max_variables, file_layout, longest}
 use Rattle.commands.specs.Commands.{too_long}
 use Rattle.lines.specs.Lines.{room, value_width}
 
@@ -9,15 +9,15 @@ use Rattle.lines.specs.Lines.{room, value_width}
 abbrev pub places : ℕ
 places = 200
 
--- no accepted file is longer: 3 "length not 6 + 5N", N at most 4,000
+-- no accepted file is longer: 3 "a length not 10 + 5N", N at most 12,000
 abbrev pub longest_file : ℕ
-longest_file = header_of byte_layout + node_width * max_nodes
+longest_file = longest file_layout
 
 -- the bytes kept of the file: one more tells a file that is too long
 abbrev pub file_bytes : ℕ
 file_bytes = suc longest_file
 
--- the bytes kept of a line: `f`, a space and 3 digits are 5; one more tells a line that is no command
+-- the bytes kept of a line: `f`, a space and 5 digits are 7; one more tells a line that is no command
 abbrev pub kept_bytes : ℕ
 kept_bytes = too_long
 

@@ -12,7 +12,7 @@ use Rattle.dialogue.specs.Transcript.{transcript, replies, lines_of}
 use Rattle.dialogue.specs.Turns.{Progress, progress, turns, parts, closing}
 use Rattle.dialogue.specs.Program.{pieces, program_text}
 
--- no accepted file is longer than 6 + 5 * 4,000 bytes, so the first 20,007 bytes tell a file's check
+-- no accepted file is longer than 10 + 5 * 12,000 bytes, so the first 60,011 bytes tell a file's check
 abbrev pub LongFileRefused : Type 0
 LongFileRefused = (m : List ℕ) → longest_file < length m → (s : Sizes) (t : System) → verdict m ≡ accepted s t → ⊥
 
@@ -33,7 +33,7 @@ PartsAsWhole = (m : List ℕ) (ps : List (List ℕ)) (s : Progress) → parts m 
 abbrev pub PiecesOfPart : Type 0
 PiecesOfPart = (part : List ℕ) → flatten (pieces part) ≡ part
 
--- what a program keeps is enough: 20,007 bytes of the file and six of each line. By the promises of the functions it prints 01's transcript
+-- what a program keeps is enough: 60,011 bytes of the file and eight of each line. By the promises of the functions it prints 01's transcript
 -- of the whole file and the whole input, however this is cut into parts and whatever the array for the lines holds: that every line fits it
 -- is in the promises of the functions
 abbrev pub TranscriptOfKept : Type 0

@@ -23,13 +23,13 @@ impl Program {
     pub const PLACES: usize = 200;
 
     // Bytes kept of the model file: one more than an accepted file can have.
-    pub const FILE_BYTES: usize = 20007;
+    pub const FILE_BYTES: usize = 60011;
 
     // Bytes kept of a line, as many as tell its command.
-    pub const KEPT_BYTES: usize = 6;
+    pub const KEPT_BYTES: usize = 8;
 
     // Bytes of the array for the lines: room for every line of a run.
-    pub const LINE_BYTES: usize = 6144;
+    pub const LINE_BYTES: usize = 48024;
 }
 
 // The first bytes of a line.
@@ -55,7 +55,7 @@ pub struct Dialogue {
     pub written: usize,
     pub values: [i32; Model::MAX_VARIABLES],
     pub marks: [u8; Model::MAX_TRANSITIONS],
-    pub history: [u8; Program::PLACES],
+    pub history: [u16; Program::PLACES],
     pub n: usize,
     pub buffer: [u8; Model::MAX_TRANSITIONS],
     pub dimensions: Dimensions,

@@ -4,6 +4,7 @@
 
 ghost use Rattle.std.specs.Prelude.{◌≡◌, ◌≤◌};
 ghost use Rattle.model.specs.Nodes.{little_bytes, parameter_bytes};
+ghost use Rattle.model.specs.Sizes.{file_layout, header_bytes};
 ghost use Rattle.encoding.specs.Files.{file_bytes};
 ghost use Rattle.tapes.specs.Tapes.{tape, tape_in, put_all};
 
@@ -30,10 +31,10 @@ fn put_parameter(tape: &mut Tape<'_, u8>, parameter: i32)
     tape.put(&parameter.to_le_bytes());
 }
 
-// Writes the five numbers of the header, the kinds and the parameters.
-#[tactic(auto, using(crate::proofs::Files::file_put, tapes::proofs::Tapes::pieces_done))]
-fn put_file(tape: &mut Tape<'_, u8>, sizes: Sizes, tree: &Tree<'_>)
-    ensures put { tape_in tape.new ≡ put_all (file_bytes sizes tree.now.kinds.now tree.now.parameters.now) (tape_in tape.old) }
+// Writes the five numbers of the header.
+#[tactic(auto, using(crate::proofs::Files::header_put))]
+pub fn put_header(tape: &mut Tape<'_, u8>, sizes: Sizes)
+    ensures put { tape_in tape.new ≡ put_all (header_bytes file_layout sizes) (tape_in tape.old) }
     ensures same_cells { tape.new.cells.ghost_name ≡ tape.old.cells.ghost_name }
 {
     put_number(tape, sizes.states, Model::SIZE_WIDTH);
@@ -41,6 +42,15 @@ fn put_file(tape: &mut Tape<'_, u8>, sizes: Sizes, tree: &Tree<'_>)
     put_number(tape, sizes.events, Model::SIZE_WIDTH);
     put_number(tape, sizes.transitions, Model::SIZE_WIDTH);
     put_number(tape, sizes.nodes, Layout::NODES_WIDTH);
+}
+
+// Writes the header, the kinds and the parameters.
+#[tactic(auto, using(crate::proofs::Files::file_put, tapes::proofs::Tapes::pieces_done))]
+fn put_file(tape: &mut Tape<'_, u8>, sizes: Sizes, tree: &Tree<'_>)
+    ensures put { tape_in tape.new ≡ put_all (file_bytes sizes tree.now.kinds.now tree.now.parameters.now) (tape_in tape.old) }
+    ensures same_cells { tape.new.cells.ghost_name ≡ tape.old.cells.ghost_name }
+{
+    put_header(tape, sizes);
     tape.put(tree.kinds);
     for parameter in tree.parameters {
         put_parameter(tape, *parameter);

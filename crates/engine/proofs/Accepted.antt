@@ -12,7 +12,7 @@ use Rattle.std.proofs.Props.{props}
 use Rattle.model.specs.declared.Model.{Model}
 use Rattle.model.specs.Trees.{variables}
 use Rattle.model.specs.Nodes.{parameter_bytes}
-use Rattle.model.specs.Sizes.{byte_layout, header_bytes}
+use Rattle.model.specs.Sizes.{file_layout, header_of, header_bytes}
 use Rattle.model.specs.Check.{Verdict, verdict, kinds_in, parameters_in}
 use Rattle.model.specs.Check.Verdict.{refusal, accepted}
 use Rattle.model.specs.Theorems.{Bytes}
@@ -36,7 +36,7 @@ row_set = Coded-set coded_row
 module _ (model : Model) (kinds : List ℕ) (parameters : List ℤ) (rows : List VariableRow) (nexts guards : List ℕ) where
   -- header, kinds and parameters
   abbrev file_told : List ℕ
-  file_told = header_bytes byte_layout model.sizes ++ (kinds ++ flat_map parameter_bytes parameters)
+  file_told = header_bytes file_layout model.sizes ++ (kinds ++ flat_map parameter_bytes parameters)
 
   -- the tables are decoded from that file and no other
   one_file : (d : Loaded model kinds parameters rows nexts guards) → d.file ≡ file_told
@@ -45,12 +45,12 @@ module _ (model : Model) (kinds : List ℕ) (parameters : List ℤ) (rows : List
       let n = model.sizes.nodes in
       let b = all_bytes m d.bytes in
       let f = (accepted_file m model.sizes d.decoded.system d.decoded.checked).sizes in
-      let columns : drop 6 m ≡ kinds ++ flat_map parameter_bytes parameters =
-      sym (take-append-drop n (drop 6 m))
+      let columns : drop (header_of file_layout) m ≡ kinds ++ flat_map parameter_bytes parameters =
+      sym (take-append-drop n (drop (header_of file_layout) m))
       ∙ ap₂ ◌++◌ (sym d.decoded.kinds_decoded)
-      (drop-drop n 6 m ∙ sym (parameters_written m b n (6 + n) (omega (arith, f.long)))
+      (drop-drop n (header_of file_layout) m ∙ sym (parameters_written m b n (header_of file_layout + n) (omega (arith, f.long)))
       ∙ ap (flat_map parameter_bytes) (sym d.decoded.parameters_decoded)) in
-      sym (header_written m b f.header) ∙ ap₂ ◌++◌ (ap (header_bytes byte_layout) f.sizes) columns
+      sym (header_written file_layout m b f.header) ∙ ap₂ ◌++◌ (ap (header_bytes file_layout) f.sizes) columns
 
   -- the check's verdict on a file is the model of the tables
   unfoldable Tabled : Verdict → Type 0
@@ -69,8 +69,8 @@ module _ (model : Model) (kinds : List ℕ) (parameters : List ℤ) (rows : List
   -- what `Loaded` says, of the file told: there is one proof of it at most
   abbrev Told : Type 0
   Told =
-      Bytes file_told × (kinds ≡ kinds_in byte_layout model.sizes.nodes file_told)
-      × (parameters ≡ parameters_in byte_layout model.sizes.nodes file_told) × Tabled (verdict file_told)
+      Bytes file_told × (kinds ≡ kinds_in file_layout model.sizes.nodes file_told)
+      × (parameters ≡ parameters_in file_layout model.sizes.nodes file_told) × Tabled (verdict file_told)
 
   told_prop : IsProp Told
   told_prop = Prim.hlevel (props, tabled_prop)
@@ -81,8 +81,8 @@ module _ (model : Model) (kinds : List ℕ) (parameters : List ℤ) (rows : List
       let e = one_file d in
       let c = d.decoded in (
         subst Bytes e d.bytes,
-        c.kinds_decoded ∙ ap (kinds_in byte_layout model.sizes.nodes) e,
-        c.parameters_decoded ∙ ap (parameters_in byte_layout model.sizes.nodes) e,
+        c.kinds_decoded ∙ ap (kinds_in file_layout model.sizes.nodes) e,
+        c.parameters_decoded ∙ ap (parameters_in file_layout model.sizes.nodes) e,
         subst Tabled (sym c.checked ∙ ap verdict e) (refl, refl, refl, refl, refl, c.assertion_decoded, c.variables_decoded, c.nexts_decoded, c.guards_decoded),
       )
 

@@ -1,16 +1,15 @@
 -- How many variables and transitions a loaded model has.
 use mathlib.Core.Path.{◌≡◌}
 use mathlib.Core.List.{List}
-use Prim.Native.Nat.{ℕ, ◌≤◌}
-use native.Mathlib.Omega.{arith}
+use Prim.Native.Nat.{ℕ}
 use lib.IntN.{ℤ}
-use lib.ListN.{length, length-append}
+use lib.ListN.{length}
 use Rattle.model.specs.declared.Model.{Model}
 use Rattle.model.specs.Trees.{variables}
 use Rattle.variables.proofs.Columns.{row_count}
 use Rattle.semantics.specs.Meanings.{Meaning, meaning_of}
 use Rattle.engine.specs.Cells.{Loaded}
-use Rattle.engine.proofs.Loading.{loaded_well_formed, loaded_guards}
+use Rattle.engine.proofs.Loading.{loaded_guards}
 use Rattle.variables.specs.declared.VariableRow.{VariableRow}
 
 module _ {model : Model} {kinds : List ℕ} {parameters : List ℤ} {rows : List VariableRow} {nexts guards : List ℕ}
@@ -25,14 +24,3 @@ module _ {model : Model} {kinds : List ℕ} {parameters : List ℤ} {rows : List
   pub guards_count : length guards ≡ meaning.transitions
   unfolding meaning_of
   guards_count = loaded_guards d
-
-  pub few_rows : length rows ≤ 510
-  unfolding meaning_of
-  few_rows =
-      omega (
-        arith,
-        rows_count,
-        length-append d.decoded.system.states d.decoded.system.flows,
-        (loaded_well_formed d).states,
-        (loaded_well_formed d).flows,
-      )

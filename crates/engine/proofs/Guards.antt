@@ -12,6 +12,7 @@ use lib.ListN.{length, take, get_or, get_elem?, length-append}
 use Rattle.evaluation.specs.declared.Evaluation.{Evaluation}
 use Rattle.evaluation.specs.declared.Evaluation.TheVariants.{Unknown, Failed, Value}
 use Rattle.evaluation.specs.Numbers.{eq_z, boolean}
+use Rattle.model.specs.Sizes.{max_variables}
 use Rattle.model.specs.declared.Model.{Model}
 use Rattle.model.specs.Trees.{Expression, variables}
 use Rattle.model.specs.Standing.{ExpressionAt, size_of_expression}
@@ -43,8 +44,8 @@ module _ {model : Model} {kinds : List ℕ} {parameters : List ℤ} {rows : List
   pub all_rows : length rows ≡ length (variables d.decoded.system)
   all_rows = row_count (variables d.decoded.system) d.decoded.variables_decoded
 
-  pub few_variables : model.sizes.states + model.sizes.flows ≤ 510
-  few_variables = omega (arith, loaded_states d, loaded_flows d, (loaded_well_formed d).states, (loaded_well_formed d).flows)
+  pub few_variables : model.sizes.states + model.sizes.flows ≤ max_variables
+  few_variables = omega (arith, length_all, (loaded_well_formed d).few)
 
   -- ---- a guard over cells
 

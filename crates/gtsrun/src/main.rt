@@ -2,8 +2,6 @@
 
 #![tactic(auto)]
 
-ghost use Rattle.std.specs.Prelude.{◌≤◌, length};
-
 use dialogue::{Dialogue, Program};
 use std::fs::File;
 use std::io;
@@ -13,25 +11,10 @@ use std::rt::Files;
 // Bytes of the input read at a time.
 const PART: usize = 4096;
 
-// Reads until the slice is full, the source ends or a read fails; how many bytes were read.
-fn fill(source: &mut impl Read, bytes: &mut [u8]) -> usize
-    ensures { result ≤ length bytes.new }
-{
-    let mut filled = 0;
-    // A read tells how many bytes came; no method of the library tells that of a source that ends early.
-    while filled < bytes.len() {
-        match source.read(&mut bytes[filled..]) {
-            Ok(0) | Err(_) => return filled,
-            Ok(count) => filled += count,
-        }
-    }
-    filled
-}
-
-// The first bytes of the file; none if it cannot be read.
+// The first bytes of the file; none if it cannot be opened or read.
 fn read_model(files: &impl Files, file: &mut [u8; Program::FILE_BYTES]) -> usize {
     match File::open(files, "model.gts") {
-        Ok(mut source) => fill(&mut source, file),
+        Ok(mut source) => filling::fill(&mut source, file).unwrap_or(0),
         Err(_) => 0,
     }
 }
@@ -52,7 +35,8 @@ fn answer_all<R: Input + Print>(rt: &R, dialogue: &mut Dialogue) -> io::Result<(
     let mut part = [0u8; PART];
     // It ends with the input; the number of turns is there since every function must end, whatever is read.
     for _ in 0..u64::MAX {
-        let count = input.read(&mut part)?;
+        // A read that fails is the end.
+        let count = input.read(&mut part).unwrap_or(0);
         if count == 0 {
             break;
         }

@@ -20,7 +20,7 @@ use std::io;
 const MEMBERS: usize = 64;
 
 // The most cells of the slice lent.
-const CELLS: usize = 20480;
+const CELLS: usize = 60416;
 
 // The header of a case.
 #[derive(Clone, Copy)]
@@ -94,7 +94,7 @@ impl Case<16> for Head {
 
 fn main(rt: HostRuntime) -> io::Result<()> {
     let mut file = File::open(&rt, "cases")?;
-    let mut buffer = [0u8; 65536];
+    let mut buffer = [0u8; 122880];
     cases::run(&rt, "joins", || {
         cases::next_case::<16, Head, _, _>(&rt, &mut file, &mut buffer)
     })

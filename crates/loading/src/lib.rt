@@ -2,15 +2,15 @@
 
 #![tactic(auto)]
 
-ghost use Rattle.std.specs.Prelude.{Ok, ◌≡◌, ◌+◌, length};
+ghost use Rattle.std.specs.Prelude.{Ok, ◌≡◌, length};
 ghost use Rattle.model.specs.Check.{verdict, answer_of};
+ghost use Rattle.decoding.specs.Decoding.{RoomFor, Enough};
 ghost use Rattle.engine.specs.Lent.{OnLoadedIn};
 ghost use Rattle.standing.specs.Runs.{moving_run, answered};
 ghost use Rattle.standing.specs.Lent.{SameRun};
 ghost use Rattle.steps.specs.Calls.{step_on};
 ghost use Rattle.steps.specs.Lent.{cells_left};
 ghost use Rattle.steps.specs.Answers.{seen_as, told_by, on_file};
-ghost use Rattle.moving.specs.Lent.{RoomFor};
 
 use decoding::Decoding;
 use decoding::file::AcceptedFile;
@@ -58,21 +58,22 @@ fn advance_decoded<const NODES: usize, const VARIABLES: usize>(
 }
 
 // Decodes an accepted model of these sizes, and makes the move on it. The file is made here: of a slice in a struct that is lent it is not
-// told that each cell is a byte.
-#[tactic(auto, using(decoding::proofs::Preparing::answer_fits, decoding::proofs::InUse::decoded_used, decoding::proofs::InUse::kinds_lent, decoding::proofs::InUse::rows_lent))]
-pub fn advance_in<const NODES: usize, const VARIABLES: usize>(
+// told that each cell is a byte. Not inlined: the arrays of both sizes would stand on the stack at once.
+#[tactic(auto, using(decoding::proofs::InUse::decoded_used, decoding::proofs::InUse::kinds_lent, decoding::proofs::InUse::rows_lent))]
+#[inline(never)]
+pub fn advance_in<const NODES: usize, const VARIABLES: usize, const TRANSITIONS: usize>(
     model: &[u8],
     sizes: Sizes,
     run: &mut MovingRun<'_>,
     step: Move,
 ) -> Result<usize, Refusal>
     requires accepted { answer_of (verdict model.now) ≡ Ok sizes }
-    requires room { RoomFor sizes.nodes (sizes.states + sizes.flows) NODES VARIABLES }
+    requires room { Enough sizes NODES VARIABLES TRANSITIONS }
     ensures moved { answered (seen_as (told_by step) result) (run.new.values.now, run.new.marks.now)
         ≡ cells_left (on_file (verdict model.now) (λ m. step_on m step (moving_run run.old)) (moving_run run.old)) }
     ensures same { SameRun run.old run.new }
 {
-    let mut arrays = Decoding::<NODES, VARIABLES>::BLANK;
+    let mut arrays = Decoding::<NODES, VARIABLES, TRANSITIONS>::BLANK;
     let file = AcceptedFile {
         bytes: model,
         sizes,

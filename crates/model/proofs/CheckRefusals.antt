@@ -1,5 +1,6 @@
--- The check refuses by 1 to 8 alone: by 1 to 3 at the header, by 4 to 7 at a node, by 8 at the end.
-use mathlib.Core.Path.{subst}
+-- The check refuses by 1 to 8 and 37 alone: by 1, 2, 37, 3 at the header, by 4 to 7 at a node, by 8 at the end.
+use mathlib.Core.Path.{◌≡◌, refl, subst}
+use mathlib.Core.Logic.{◌⊎◌, inl, inr}
 use mathlib.Core.Bool.{Bool, true, false, cond, not}
 use mathlib.Core.List.{List}
 use Prim.Native.Nat.{ℕ, zero, suc, ◌+◌, ◌*◌, ◌≤◌}
@@ -9,25 +10,26 @@ use lib.IntN.{ℤ, nat_abs}
 use lib.ListN.{length}
 use Rattle.std.specs.Prelude.{slice_get, Option, Some, None, Ok, Err}
 use Rattle.results.specs.declared.refusal.Refusal.{Refusal}
-use Rattle.results.specs.declared.refusal.Refusal.TheVariants.{ShortFile, TooManyNodes, WrongLength, MissingNode, TooDeep, KindNotAllowed, ParameterNotAllowed, NodesLeftOver}
+use Rattle.results.specs.declared.refusal.Refusal.TheVariants.{ShortFile, TooManyNodes, TooManyVariables, WrongLength, MissingNode, TooDeep, KindNotAllowed, ParameterNotAllowed, NodesLeftOver}
 use Rattle.results.specs.Refusals.{number_of}
 use Rattle.kinds.specs.declared.Sort.{Sort}
 use Rattle.kinds.specs.Kinds.{children_of}
 use Rattle.syntax.specs.Readings.{refusal_at, kind_at, parameter_at, expression_refusal, instruction_refusal, variable_refusal, end_refusal, transition_refusal}
+use Rattle.model.specs.declared.Layout.{Layout}
 use Rattle.model.specs.declared.Sizes.{Sizes}
 use Rattle.model.specs.Trees.{Expression, Instruction, System}
 use Rattle.model.specs.Trees.Instruction.{block}
-use Rattle.model.specs.Sizes.{byte_layout, header_of, node_width, sizes_in, sized as sized_in}
+use Rattle.model.specs.Sizes.{file_layout, header_of, node_width, sizes_in, sized as sized_in}
 use Rattle.model.specs.Walk.{Walk, Scope, and_then, unless_refused, operands_at, expression_at, branches_at, parts_at, instruction_at, range_at, variable_at, transition_at, row_at}
 use Rattle.model.specs.Walk.Walk.{refused, found}
-use Rattle.model.specs.Check.{Verdict, complete, rest_at, system_at, verdict, verdict_of, verdict_in}
+use Rattle.model.specs.Check.{Verdict, complete, rest_at, system_at, verdict_of, verdict_in, verdict_of_layout}
 use Rattle.model.specs.Check.Verdict.{refusal, accepted}
 use Rattle.model.specs.Theorems.{CheckRefusals}
 
 -- ---- walks
 
 -- a refusal with one of the numbers 1 to 8
-abbrev Low : Refusal → Type 0
+abbrev pub Low : Refusal → Type 0
 Low r = (1 ≤ number_of r) × (number_of r ≤ 8)
 
 -- whatever refuses this walk has one of these numbers
@@ -156,27 +158,35 @@ system_refusing ks ps s =
     (then_refusing _ _ (row_refusing _ (transition_refusing ks ps _ _ _) _ second)
     (λ ts third. found_refusing _ _ (instruction_refusing ks ps _ _ third))))
 
-unfoldable Refused : Verdict → Type 0
-Refused (refusal r) = Low r
-Refused (accepted s t) = Unit {0}
+-- what refuses has one of these numbers, or is one of those in P
+unfoldable pub Refused : (Refusal → Type 0) → Verdict → Type 0
+Refused P (refusal r) = Low r ⊎ P r
+Refused P (accepted s t) = Unit {0}
 
-of_walk : (s : Sizes) (w : Walk System) → Refusing w → Refused (verdict_of s w)
+of_walk : (P : Refusal → Type 0) (s : Sizes) (w : Walk System) → Refusing w → Refused P (verdict_of s w)
 unfolding Refusing Refused verdict_of
-of_walk s (refused n) h = h
-of_walk s (found t next) h = tt
+of_walk P s (refused n) h = inl h
+of_walk P s (found t next) h = tt
 
-of_sizes : (m : List ℕ) → Refused (verdict m)
-unfolding Refused verdict verdict_in sized_in number_of
-of_sizes m =
-    by (ltb (length m) (header_of byte_layout)) (ltb byte_layout.max_nodes (sizes_in byte_layout m).nodes)
-    (not (eqb (length m) (header_of byte_layout + node_width * (sizes_in byte_layout m).nodes)))
+-- where there are too many variables, that refusal must be in P
+pub of_sizes : (l : Layout) (m : List ℕ) (P : Refusal → Type 0)
+    → (ltb l.max_variables ((sizes_in l m).states + (sizes_in l m).flows) ≡ true → P TooManyVariables) → Refused P (verdict_of_layout l m)
+unfolding Refused verdict_of_layout verdict_in sized_in number_of
+of_sizes l m P many =
+    by (ltb (length m) (header_of l)) (ltb l.max_nodes s.nodes) (ltb l.max_variables (s.states + s.flows))
+    (not (eqb (length m) (header_of l + node_width * s.nodes))) many
   where
-    by : (a b c : Bool) → Refused (verdict_in byte_layout m (cond a (Err ShortFile) (cond b (Err TooManyNodes) (cond c (Err WrongLength) (Ok (sizes_in byte_layout m))))))
-    by true b c = (omega arith, omega arith)
-    by false true c = (omega arith, omega arith)
-    by false false true = (omega arith, omega arith)
-    by false false false = of_walk (sizes_in byte_layout m) _ (complete_refusing _ _ (system_refusing _ _ (sizes_in byte_layout m)))
+    s : Sizes
+    s = sizes_in l m
+
+    by : (a b c d : Bool) → (c ≡ true → P TooManyVariables)
+        → Refused P (verdict_in l m (cond a (Err ShortFile) (cond b (Err TooManyNodes) (cond c (Err TooManyVariables) (cond d (Err WrongLength) (Ok s))))))
+    by true b c d h = inl (omega arith, omega arith)
+    by false true c d h = inl (omega arith, omega arith)
+    by false false true d h = inr (h refl)
+    by false false false true h = inl (omega arith, omega arith)
+    by false false false false h = of_walk P s _ (complete_refusing _ _ (system_refusing _ _ s))
 
 pub check_refusals : CheckRefusals
 unfolding Refused
-check_refusals m r e = subst Refused e (of_sizes m)
+check_refusals m r e = subst (Refused (λ k. k ≡ TooManyVariables)) e (of_sizes file_layout m (λ k. k ≡ TooManyVariables) (λ h. refl))

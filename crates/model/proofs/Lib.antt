@@ -6,11 +6,14 @@ pub mod CompleteRows
 pub mod Declarations
 pub mod Encoding
 pub mod Expressions
+pub mod FewTransitions
 pub mod Instructions
 pub mod KindCases
 pub mod LittleBytes
+pub mod LongFiles
 pub mod NodeLists
 pub mod NodeTrees
+pub mod Headers
 pub mod Representable
 pub mod Shuffling
 pub mod Standing

@@ -87,6 +87,13 @@ unfolding little_at
 little_bound m b zero at = omega arith
 little_bound m b (suc width) at = omega (arith, b at, little_bound m b width (at + 1))
 
+-- a number of two bytes at most
+pub bytes_bound : (width : ℕ) → width ≤ 2 → 256 ^ width ≤ 65536
+bytes_bound zero h = omega arith
+bytes_bound (suc zero) h = omega arith
+bytes_bound (suc (suc zero)) h = omega arith
+bytes_bound (suc (suc (suc width))) h = absurd (omega arith)
+
 pub little_length : (width n : ℕ) → length (little_bytes width n) ≡ width
 unfolding little_bytes
 little_length zero n = refl

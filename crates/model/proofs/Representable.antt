@@ -23,14 +23,17 @@ use Rattle.model.specs.Nodes.{Node, nodes_of_expression, nodes_of, nodes_of_all,
 use Rattle.model.specs.Walk.{Scope}
 use Rattle.syntax.specs.Readings.{is_truth}
 use Rattle.model.specs.Check.{action_scope, assertion_scope}
-use Rattle.model.specs.WellFormed.{Sorted, Scoped, AllScoped, Declared, GuardedBy, All, WellFormed, sizes_of}
+use Rattle.model.specs.WellFormed.{Sorted, Scoped, AllScoped, Declared, GuardedBy, All, WellFormedIn, sizes_of}
+use Rattle.model.specs.declared.Layout.{Layout}
+use Rattle.model.specs.Sizes.{size_bound_of}
+use Rattle.model.specs.Theorems.{Sound}
 use Rattle.model.specs.Standing.{size_of, size_of_all, size_of_transition, size_of_transitions}
 use Rattle.model.proofs.KindCases.{both}
 use Rattle.model.proofs.Standing.{holds_T}
 use Rattle.model.proofs.Complete.{T_true}
 use Rattle.model.proofs.CompleteRows.{le_z_trans, all_true}
 use Rattle.model.proofs.NodeTrees.{system_size}
-use Rattle.model.proofs.LittleBytes.{representable_pos}
+use Rattle.model.proofs.LittleBytes.{bytes_bound, representable_pos}
 
 -- ---- lists
 
@@ -65,7 +68,7 @@ between_representable low v high l h p q =
     let b = (both (le_z least high) (le_z high greatest) (T_true (representable high) h)).1 in
     holds_T (all_true (le_z least v) (le_z v greatest) (le_z_trans least low v (holds_T a) p) (le_z_trans v high greatest q (holds_T b)))
 
-pub expression_parameters : (sorts : List Sort) → length sorts ≤ 510 → (e : Expression) (wanted : Option Sort) → Sorted sorts wanted e → All Representable (nodes_of_expression e)
+pub expression_parameters : (sorts : List Sort) → length sorts ≤ 131072 → (e : Expression) (wanted : Option Sort) → Sorted sorts wanted e → All Representable (nodes_of_expression e)
 unfolding Sorted nodes_of_expression All
 expression_parameters sorts few (numeral v) wanted h = (h.1, tt)
 expression_parameters sorts few (truth v) wanted h = (truth_representable v h.1, tt)
@@ -91,23 +94,23 @@ unfolding count size_of_all
 count_size none = omega arith
 count_size (more i is) = omega (arith, instruction_nonempty i, count_size is)
 
-module _ (s : Scope) (few : length s.sorts ≤ 510) (narrow : s.past ≤ 510) where
+module _ (s : Scope) (few : length s.sorts ≤ 131072) (narrow : s.past ≤ 131072) where
   mutual
     unfolding Scoped AllScoped nodes_of nodes_of_all size_of size_of_all All
 
-    pub instruction_parameters : (i : Instruction) → Scoped i s → size_of i ≤ 4000 → All Representable (nodes_of i)
+    pub instruction_parameters : (i : Instruction) → Scoped i s → size_of i ≤ 65536 → All Representable (nodes_of i)
     instruction_parameters skip h z = (tt, tt)
     instruction_parameters (assign x e) h z = (representable_pos x (omega (arith, h.1)), expression_parameters s.sorts few e _ h.2)
     instruction_parameters (if_then c i) h z =
         (tt, all_append Representable (nodes_of_expression c) (nodes_of i) (expression_parameters s.sorts few c boolean_sort h.0) (instruction_parameters i h.1 (omega arith)))
     instruction_parameters (block is) h z = (representable_pos (count is) (omega (arith, count_size is)), branches_parameters is h (omega arith))
 
-    branches_parameters : (is : Instructions) → AllScoped is s → size_of_all is ≤ 4000 → All Representable (nodes_of_all is)
+    branches_parameters : (is : Instructions) → AllScoped is s → size_of_all is ≤ 65536 → All Representable (nodes_of_all is)
     branches_parameters none h z = tt
     branches_parameters (more i is) h z =
         all_append Representable (nodes_of i) (nodes_of_all is) (instruction_parameters i h.0 (omega arith)) (branches_parameters is h.1 (omega arith))
 
-  transitions_parameters : (events : ℕ) → events < 256 → (ts : List Transition) → All (GuardedBy events s) ts → size_of_transitions ts ≤ 4000
+  transitions_parameters : (events : ℕ) → events < 65536 → (ts : List Transition) → All (GuardedBy events s) ts → size_of_transitions ts ≤ 65536
       → All Representable (flat_map nodes_of_transition ts)
   unfolding All flat_map nodes_of_transition size_of_transitions size_of_transition
   transitions_parameters events l [] h z = tt
@@ -134,16 +137,17 @@ unfolding All flat_map
 variables_parameters [] h = tt
 variables_parameters (v ∷ vs) h = all_append Representable (nodes_of_variable v) (flat_map nodes_of_variable vs) (variable_parameters v h.0) (variables_parameters vs h.1)
 
-pub system_parameters : (t : System) → WellFormed t → All Representable (nodes_of_system t)
+pub system_parameters : (t : System) {l : Layout} → Sound l → WellFormedIn l t → All Representable (nodes_of_system t)
 unfolding nodes_of_system
-system_parameters t w =
+system_parameters t {l} sound w =
+    let small : size_bound_of l ≤ 65536 = bytes_bound l.width sound.widths.1 in
     let vs = variables t in
     let front = flat_map nodes_of_variable vs in
     let middle = flat_map nodes_of_transition t.transitions in
-    let few : length (sorts_of vs) ≤ 510 = omega (arith, length-map vs (λ v. v.sort), length-append t.states t.flows, w.states, w.flows) in
+    let few : length (sorts_of vs) ≤ 131072 = omega (arith, length-map vs (λ v. v.sort), length-append t.states t.flows, small, w.states, w.flows) in
     all_append Representable front (middle ++ nodes_of t.assertion) (variables_parameters vs w.declared)
     (all_append Representable middle (nodes_of t.assertion)
-    (transitions_parameters (action_scope (sizes_of t) vs) few (omega (arith, w.states)) t.events w.events t.transitions w.guarded
-    (omega (arith, w.nodes, system_size t)))
-    (instruction_parameters (assertion_scope (sizes_of t) vs) few (omega (arith, w.states, w.flows)) t.assertion w.assertion
-    (omega (arith, w.nodes, system_size t))))
+    (transitions_parameters (action_scope (sizes_of t) vs) few (omega (arith, small, w.states)) t.events (omega (arith, small, w.events)) t.transitions w.guarded
+    (omega (arith, w.nodes, sound.nodes, system_size t)))
+    (instruction_parameters (assertion_scope (sizes_of t) vs) few (omega (arith, small, w.states, w.flows)) t.assertion w.assertion
+    (omega (arith, w.nodes, sound.nodes, system_size t))))

@@ -9,10 +9,12 @@ use Rattle.kinds.specs.declared.Sort.{Sort}
 use Rattle.kinds.specs.Kinds.{boolean_sort}
 use Rattle.model.specs.Trees.{Expression, Instruction, Instructions, Transition, System, depth_of_expression, depth_of, depth_of_all}
 use Rattle.model.specs.Nodes.{nodes_of_system}
+use Rattle.model.specs.declared.Layout.{Layout}
+use Rattle.model.specs.Sizes.{file_layout}
 use Rattle.model.specs.Walk.{Scope}
-use Rattle.model.specs.Check.{verdict}
+use Rattle.model.specs.Check.{verdict_of_layout}
 use Rattle.model.specs.Check.Verdict.{accepted}
-use Rattle.model.specs.WellFormed.{Sorted, Scoped, AllScoped, GuardedBy, All, WellFormed, sizes_of}
+use Rattle.model.specs.WellFormed.{Sorted, Scoped, AllScoped, GuardedBy, All, WellFormedIn, sizes_of}
 use Rattle.model.specs.Shuffle.{OperandsExchanged, Replaced, Exchanged, BranchesExchanged, TransitionExchanged, OneExchanged, SystemExchanged, Shuffled}
 use Rattle.model.specs.Shuffle.OperandsExchanged.{here, in_negation, in_left, in_right, in_condition, in_then, in_else}
 use Rattle.model.specs.Shuffle.Replaced.{first, later}
@@ -23,10 +25,10 @@ use Rattle.model.specs.Shuffle.OneExchanged.{in_first, in_later}
 use Rattle.model.specs.Shuffle.SystemExchanged.{in_transitions, in_assertion}
 use Rattle.model.specs.Shuffle.Shuffled.{same, step}
 use Rattle.model.specs.Standing.{size_of_expression, size_of, size_of_all, size_of_transition, size_of_transitions}
-use Rattle.model.specs.Theorems.{ShuffledAccepted}
+use Rattle.model.specs.Theorems.{ShuffledAccepted, LayoutsShuffled}
 use Rattle.model.proofs.NodeTrees.{system_size}
 use Rattle.model.proofs.Encoding.{sizes_path}
-use Rattle.model.proofs.CheckExact.{check_exact, encode_accepted}
+use Rattle.model.proofs.CheckExact.{check_exact_in, layouts_sound, encode_accepted_in}
 
 -- ---- expressions
 
@@ -167,8 +169,8 @@ system_sizes : {t t' : System} → SystemExchanged t t' → sizes_of t ≡ sizes
 system_sizes {t} {t'} (in_transitions x) = sizes_path refl refl refl (one_size x).0 (system_nodes (in_transitions x))
 system_sizes {t} {t'} (in_assertion x) = sizes_path refl refl refl refl (system_nodes (in_assertion x))
 
-pub exchanged_well_formed : {t t' : System} → SystemExchanged t t' → WellFormed t → WellFormed t'
-exchanged_well_formed {t} {t'} (in_transitions x) w =
+pub exchanged_well_formed : {l : Layout} {t t' : System} → SystemExchanged t t' → WellFormedIn l t → WellFormedIn l t'
+exchanged_well_formed {t = t} {t' = t'} (in_transitions x) w =
     let n : length (nodes_of_system t) ≡ length (nodes_of_system t') = system_nodes (in_transitions x) in
     record {
       states = w.states;
@@ -176,12 +178,13 @@ exchanged_well_formed {t} {t'} (in_transitions x) w =
       events = w.events;
       transitions = omega (arith, w.transitions, (one_size x).0);
       nodes = omega (arith, w.nodes, n);
+      few = w.few;
       declared = w.declared;
       guarded = one_guarded x _ _ w.guarded;
       assertion = w.assertion;
       assertion_depth = w.assertion_depth;
     }
-exchanged_well_formed {t} {t'} (in_assertion x) w =
+exchanged_well_formed {t = t} {t' = t'} (in_assertion x) w =
     let n : length (nodes_of_system t) ≡ length (nodes_of_system t') = system_nodes (in_assertion x) in
     record {
       states = w.states;
@@ -189,13 +192,14 @@ exchanged_well_formed {t} {t'} (in_assertion x) w =
       events = w.events;
       transitions = w.transitions;
       nodes = omega (arith, w.nodes, n);
+      few = w.few;
       declared = w.declared;
       guarded = w.guarded;
       assertion = exchanged_scoped x _ w.assertion;
       assertion_depth = omega (arith, w.assertion_depth, exchanged_depth x);
     }
 
-pub shuffled_well_formed : {t t' : System} → Shuffled t t' → WellFormed t → WellFormed t'
+pub shuffled_well_formed : {l : Layout} {t t' : System} → Shuffled t t' → WellFormedIn l t → WellFormedIn l t'
 shuffled_well_formed same w = w
 shuffled_well_formed (step x r) w = shuffled_well_formed r (exchanged_well_formed x w)
 
@@ -203,8 +207,12 @@ pub shuffled_sizes : {t t' : System} → Shuffled t t' → sizes_of t ≡ sizes_
 shuffled_sizes same = refl
 shuffled_sizes (step x r) = system_sizes x ∙ shuffled_sizes r
 
-pub shuffled_accepted : ShuffledAccepted
-shuffled_accepted m m' b f =
-    let e = (check_exact m b f.sizes f.before).0 f.read in
-    ap verdict f.written ∙ encode_accepted f.after (shuffled_well_formed f.shuffled e.2)
+pub shuffled_accepted_in : LayoutsShuffled
+shuffled_accepted_in l sound m m' b f =
+    let e = (check_exact_in l sound m b f.sizes f.before).0 f.read in
+    ap (verdict_of_layout l) f.written ∙ encode_accepted_in sound f.after (shuffled_well_formed f.shuffled e.2)
     ∙ ap (λ s. accepted s f.after) (sym (e.1 ∙ shuffled_sizes f.shuffled))
+
+-- of the files that every call reads
+pub shuffled_accepted : ShuffledAccepted
+shuffled_accepted = shuffled_accepted_in file_layout layouts_sound.1

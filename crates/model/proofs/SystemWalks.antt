@@ -7,13 +7,14 @@ use lib.IntN.{ℤ}
 use lib.ListN.{length, take, drop, length-append, length-take, length-drop, take-append-drop}
 use lib.Seq.{take-append_seam, drop-append_seam}
 use Rattle.kinds.specs.declared.Sort.{Sort}
+use Rattle.model.specs.declared.Layout.{Layout}
 use Rattle.model.specs.declared.Sizes.{Sizes}
 use Rattle.model.specs.Trees.{Variable, Transition, Instruction, System, variables, sorts_of, depth_of}
 use Rattle.model.specs.Nodes.{nodes_of_variable, nodes_of_transition, nodes_of, nodes_of_system}
 use Rattle.model.specs.Walk.{scope_of, and_then, instruction_at, variable_at, transition_at, row_at}
 use Rattle.model.specs.Walk.Walk.{found}
 use Rattle.model.specs.Check.{max_depth, action_scope, assertion_scope, rest_at, system_at}
-use Rattle.model.specs.WellFormed.{Scoped, Declared, GuardedBy, All, WellFormed, sizes_of}
+use Rattle.model.specs.WellFormed.{Scoped, Declared, GuardedBy, All, WellFormedIn, sizes_of}
 use Rattle.model.specs.Standing.{size_of_transitions}
 use Rattle.model.proofs.WalkClaims.{Holds, holds_then}
 use Rattle.model.proofs.NodeLists.{NodesAt, nodes_append, nodes_split}
@@ -117,7 +118,7 @@ module _ (ks : List ℕ) (ps : List ℤ) (t : System) where
       )
       (ap (found (ts, a)) (omega (arith, e, length-append (flat_map nodes_of_transition ts) (nodes_of a), transitions_size ts, instruction_size a)))
 
-  pub complete_system : NodesAt ks ps (nodes_of_system t) 0 → WellFormed t → system_at ks ps (sizes_of t) ≡ found t (length (nodes_of_system t))
+  pub complete_system : NodesAt ks ps (nodes_of_system t) 0 → {l : Layout} → WellFormedIn l t → system_at ks ps (sizes_of t) ≡ found t (length (nodes_of_system t))
   unfolding system_at and_then nodes_of_system
   complete_system n w =
       let front = flat_map nodes_of_variable (variables t) in

@@ -1,7 +1,6 @@
 -- Numbers in bytes, low byte first, as they are widened to eight bytes.
-use Rattle.std.proofs.Common.{◌≡◌, ℕ, zero, suc, ◌+◌, ◌-◌, ◌^◌, ◌<◌, ◌≤◌, true, false, Bool, List, length, get_or, take, drop, refl, sym, ap, ◌∙◌, add-zero, arith, replicate, ◌++◌, length-take, length-drop, w64}
+use Rattle.std.proofs.Common.{◌≡◌, ℕ, zero, suc, ◌+◌, ◌-◌, ◌<◌, ◌≤◌, true, false, Bool, List, length, get_or, take, drop, refl, sym, ap, ◌∙◌, add-zero, arith, replicate, ◌++◌, length-take, length-drop, w64}
 use Rattle.std.proofs.Math.ListN.{get_or-append, get_or-replicate, get_or-eq_default}
-use Rattle.std.proofs.Math.Nat.{pow-succ'}
 use Rattle.std.proofs.lemmas.List.{get_or-append-add, get_or-take, get_or-drop}
 use Rattle.std.specs.Int.{from_le_bytes}
 use borrow.Author.Tests.{ltb-true, ltb-false}
@@ -69,12 +68,3 @@ copied m at width h k {w} {n} e f =
     above i l =
         let e : 0 + width + i ≡ length w + i = omega arith in
         rw e (get_or-append-add w (drop width blank) i 0 ∙ get_or-drop width blank i 0 ∙ blank_at (width + i))
-
--- so many bytes hold a number below 256 to that power
-pub little_small : (m : List ℕ) → ((i : ℕ) → get_or m i 0 < 256) → (at width : ℕ) → little_at m at width < 256 ^ width
-unfolding little_at
-little_small m b at zero = omega arith
-little_small m b at (suc width) =
-    let first : get_or m at 0 < 256 = b at in
-    let rest : little_at m (at + 1) width < 256 ^ width = little_small m b (at + 1) width in
-    rw (pow-succ' 256 width) (omega arith)

@@ -1,5 +1,6 @@
 -- The check of a model file, and of an expression handed outside a model.
--- 01: "Orders: 1, 2, 3, then the walk, where the first offending node ends it and 4 to 7 are tried in that order; 8 last."
+-- 01: "Orders: 1, 2, 3, then the walk, where the first offending node ends it and 4 to 7 are tried in that order; 8 last." 02, A7: 37
+-- "between 2 and 3".
 use Rattle.std.specs.Prelude.{cond, not, List, [], ◌∷◌, ℕ, zero, suc, ◌+◌, ◌-◌, eqb, ltb, ℤ, pos, neg_ℤ, length, take, drop, Option, Result, Ok, Err}
 use Rattle.model.specs.declared.Layout.{Layout}
 use Rattle.model.specs.declared.Sizes.{Sizes}
@@ -8,7 +9,7 @@ use Rattle.results.specs.declared.refusal.Refusal.TheVariants.{WrongLength, Node
 use Rattle.kinds.specs.declared.Sort.{Sort}
 use Rattle.model.specs.Trees.{Expression, Variable, Transition, Instruction, System, sorts_of}
 use Rattle.model.specs.Nodes.{parameter_width}
-use Rattle.model.specs.Sizes.{byte_layout, header_of, little_at, sized}
+use Rattle.model.specs.Sizes.{byte_layout, file_layout, header_of, little_at, sized}
 use Rattle.model.specs.Walk.{Walk, Scope, scope_of, and_then, expression_at, instruction_at, variable_at, transition_at, row_at}
 use Rattle.model.specs.Walk.Walk.{refused, found}
 
@@ -74,8 +75,17 @@ unfoldable pub verdict_in : Layout → List ℕ → Result Sizes Refusal → Ver
 verdict_in l m (Err r) = refusal r
 verdict_in l m (Ok s) = verdict_of s (walked_in l m s)
 
-unfoldable pub verdict : List ℕ → Verdict
-verdict m = verdict_in byte_layout m (sized byte_layout m)
+-- the check by a layout
+unfoldable pub verdict_of_layout : Layout → List ℕ → Verdict
+verdict_of_layout l m = verdict_in l m (sized l m)
+
+-- that of every call
+abbrev pub verdict : List ℕ → Verdict
+verdict = verdict_of_layout file_layout
+
+-- that of an old file. 02, A7: "one that the old check refuses"
+abbrev pub byte_verdict : List ℕ → Verdict
+byte_verdict = verdict_of_layout byte_layout
 
 -- 01: "Check of a model: its five sizes." What the call answers.
 unfoldable pub answer_of : Verdict → Result Sizes Refusal

@@ -8,6 +8,7 @@ pub mod Check
 pub mod WellFormed
 pub mod Shuffle
 -- how the code goes about it:
+pub mod Room
 pub mod Standing
 pub mod Walkers
 -- statements:

@@ -5,6 +5,7 @@ use Rattle.std.specs.Int.Signed.{le_z}
 use Rattle.evaluation.specs.Numbers.{representable}
 use Rattle.kinds.specs.declared.Sort.{Sort}
 use Rattle.kinds.specs.declared.Sort.TheVariants.{Boolean, Number}
+use Rattle.model.specs.declared.Layout.{Layout}
 use Rattle.model.specs.declared.Sizes.{Sizes}
 use Rattle.kinds.specs.Kinds.{boolean_sort, number_sort, kind_of, result_of, operand_sort}
 use Rattle.model.specs.Trees.{Expression, Instruction, Instructions, Variable, Transition, System, variables, depth_of, depth_of_expression}
@@ -12,7 +13,7 @@ use Rattle.model.specs.Trees.Expression.{numeral, truth, variable, negation, bin
 use Rattle.model.specs.Trees.Instruction.{skip, assign, if_then, block}
 use Rattle.model.specs.Trees.Instructions.{none, more}
 use Rattle.model.specs.Nodes.{nodes_of_system, parameter_bytes}
-use Rattle.model.specs.Sizes.{byte_layout, header_bytes, max_nodes, size_bound}
+use Rattle.model.specs.Sizes.{file_layout, header_bytes, size_bound_of}
 use Rattle.model.specs.Walk.{Scope}
 use Rattle.syntax.specs.Readings.{is_truth}
 use Rattle.model.specs.Check.{action_scope, assertion_scope, max_depth}
@@ -67,20 +68,27 @@ sizes_of t =
       nodes = length (nodes_of_system t);
     }
 
--- the bytes of the model file
-unfoldable pub encode : System → List ℕ
-encode t =
-    header_bytes byte_layout (sizes_of t)
+-- the bytes of the model file, by a layout
+unfoldable pub encode_in : Layout → System → List ℕ
+encode_in l t =
+    header_bytes l (sizes_of t)
     ++ (map (λ n. n.kind) (nodes_of_system t) ++ flat_map (λ n. parameter_bytes n.parameter) (nodes_of_system t))
 
--- 01's list, as a whole; the sizes fit their bytes
-pub record WellFormed (t : System) : Type 0 where
-  pub states : length t.states < size_bound
-  pub flows : length t.flows < size_bound
-  pub events : t.events < size_bound
-  pub transitions : length t.transitions < size_bound
-  pub nodes : length (nodes_of_system t) ≤ max_nodes
+abbrev pub encode : System → List ℕ
+encode = encode_in file_layout
+
+-- 01's list, as a whole; the sizes fit their bytes, and keep the limits of the layout
+pub record WellFormedIn (l : Layout) (t : System) : Type 0 where
+  pub states : length t.states < size_bound_of l
+  pub flows : length t.flows < size_bound_of l
+  pub events : t.events < size_bound_of l
+  pub transitions : length t.transitions < size_bound_of l
+  pub nodes : length (nodes_of_system t) ≤ l.max_nodes
+  pub few : length (variables t) ≤ l.max_variables
   pub declared : All Declared (variables t)
   pub guarded : All (GuardedBy t.events (action_scope (sizes_of t) (variables t))) t.transitions
   pub assertion : Scoped t.assertion (assertion_scope (sizes_of t) (variables t))
   pub assertion_depth : depth_of t.assertion ≤ max_depth
+
+abbrev pub WellFormed : System → Type 0
+WellFormed = WellFormedIn file_layout

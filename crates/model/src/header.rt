@@ -36,14 +36,13 @@ fn sizes_in(layout: Layout, model: &[u8]) -> Sizes
     }
 }
 
-// Refusals 1, 2, 3, or the five sizes.
-#[tactic(auto, using(crate::proofs::Bytes::refused_1, crate::proofs::Bytes::refused_2, crate::proofs::Bytes::refused_3, crate::proofs::Bytes::read_whole, crate::proofs::Bytes::nodes_small))]
+// Refusals 1, 2, 37, 3, or the five sizes.
+#[tactic(auto, using(crate::proofs::Bytes::refused_1, crate::proofs::Bytes::refused_2, crate::proofs::Bytes::refused_37, crate::proofs::Bytes::refused_3, crate::proofs::Bytes::read_whole, crate::proofs::Bytes::nodes_small, crate::proofs::Bytes::variables_small))]
 pub fn read_sizes(layout: Layout, model: &[u8]) -> Result<Sizes, Refusal>
     requires { (1 ≤ layout.width) × (layout.width ≤ 2) }
     ensures { result ≡ sized layout model.now }
 {
-    // S, F, E, T, then N.
-    let header = 4 * layout.width + Layout::NODES_WIDTH;
+    let header = layout.header();
     if model.len() < header {
         return Err(Refusal::ShortFile);
     }
@@ -51,6 +50,9 @@ pub fn read_sizes(layout: Layout, model: &[u8]) -> Result<Sizes, Refusal>
     let nodes = sizes.nodes;
     if layout.max_nodes < nodes {
         return Err(Refusal::TooManyNodes);
+    }
+    if layout.max_variables < sizes.variables() {
+        return Err(Refusal::TooManyVariables);
     }
     if model.len() != header + Layout::NODE_WIDTH * nodes {
         return Err(Refusal::WrongLength);

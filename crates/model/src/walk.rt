@@ -233,12 +233,12 @@ fn rest(tree: &Tree, sorts: &[Sort], sizes: Sizes, cursor: Cursor) -> Result<Cur
     Ok(next)
 }
 
-// All nodes of a model.
-pub fn system(tree: &Tree, sizes: Sizes) -> Result<Cursor, Refusal>
-    requires { sizes.states + sizes.flows ≤ max_variables }
+// All nodes of a model, the sorts of whose variables stand in an array that is declared here.
+pub fn system<const VARIABLES: usize>(tree: &Tree, sizes: Sizes) -> Result<Cursor, Refusal>
+    requires { (sizes.states + sizes.flows ≤ VARIABLES) × (VARIABLES ≤ max_variables) }
     ensures { result ≡ outcome (complete sizes.nodes (system_at tree.now.kinds.now tree.now.parameters.now sizes)) }
 {
-    let mut cells = [Sort::Boolean; Model::MAX_VARIABLES];
+    let mut cells = [Sort::Boolean; VARIABLES];
     let sorts = &mut cells[..sizes.variables()];
     let next = variables(tree, sorts)?;
     rest(tree, sorts, sizes, next)

@@ -1,2 +1,1 @@
--- Definitions of crate `moving`: how the code goes about it. None is 01's own.
-pub mod Lent
+-- Definitions of crate `moving`: none.

@@ -5,6 +5,7 @@
 ghost use Rattle.std.specs.Prelude.{◌≡◌, cond, ◌≤◌, length, replicate};
 ghost use Rattle.results.specs.Results.{over};
 ghost use Rattle.results.specs.Results as results;
+ghost use Rattle.decoding.specs.Decoding.{RoomFor};
 ghost use Rattle.scratch.specs.Blank.{unknown_cell};
 ghost use Rattle.engine.specs.Lent.{OnLoadedIn};
 ghost use Rattle.standing.specs.Runs.{moving_run, answered};
@@ -15,7 +16,6 @@ ghost use Rattle.replaying.specs.Moves.{HasEntries, moved};
 ghost use Rattle.steps.specs.Calls.{step_on};
 ghost use Rattle.steps.specs.Lent.{cells_left};
 ghost use Rattle.steps.specs.Answers.{seen_as, told_by};
-ghost use Rattle.moving.specs.Lent.{RoomFor};
 
 use engine::{DecodedModel, LoadedModel, Work};
 use interpreter::Gathered;

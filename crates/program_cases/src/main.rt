@@ -90,7 +90,7 @@ impl Case<12> for Head {
 
 fn main(rt: HostRuntime) -> io::Result<()> {
     let mut source = File::open(&rt, "cases")?;
-    let mut body = [0u8; 32768];
+    let mut body = [0u8; 204800];
     cases::run(&rt, "programs", || {
         cases::next_case::<12, Head, _, _>(&rt, &mut source, &mut body)
     })

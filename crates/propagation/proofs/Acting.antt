@@ -8,6 +8,7 @@ use native.Mathlib.Nat.{not-suc-le-zero, le_of_suc-le-suc}
 use native.Mathlib.Omega.{arith}
 use lib.IntN.{ℤ}
 use lib.ListN.{length, take, get_elem?, replicate, length-take, length-replicate}
+use Rattle.model.specs.Sizes.{max_variables}
 use Rattle.model.specs.Trees.{Instruction, variables}
 use Rattle.model.specs.WellFormed.{sizes_of}
 use Rattle.model.specs.Check.{action_scope}
@@ -69,8 +70,8 @@ module _ {ks : List ℕ} {ps : List ℤ} {nexts : List ℕ} {rows : List Variabl
       below : (n : ℕ) → length a.system.states ≤ n → TargetsBelow a.action n
       below n l = targets_below a.action (action_scope (sizes_of a.system) (variables a.system)) a.scoped l
 
-  pub few_rows : length rows ≤ 510
-  few_rows = omega (arith, rows_counted, a.well_formed.states, a.well_formed.flows)
+  pub few_rows : length rows ≤ max_variables
+  few_rows = omega (arith, rows_counted, length_variables a.system, a.well_formed.few)
 
   length_old : length old ≡ length a.system.states
   length_old = ap length a.states ∙ simp length-take (omega (arith, a.long, length_variables a.system))

@@ -41,7 +41,7 @@ fn refire(
     loaded: &LoadedModel<'_>,
     work: &mut Work<'_, '_>,
     values: &mut [i32],
-    entries: &[u8],
+    entries: &[u16],
     rounds: usize,
 ) -> Firing
     requires { BlankFiringIn loaded.now.decoded.tables work.old }

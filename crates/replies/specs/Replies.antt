@@ -5,7 +5,8 @@ use Rattle.results.specs.Results.{Answered, answered}
 use Rattle.run.specs.declared.Call.TheVariants as calls
 use Rattle.standing.specs.Runs.{Store, Answer, Done}
 use Rattle.standing.specs.Runs.Answer.{refused, rounds, done, number, sizes, picked, outside}
-use Rattle.run.specs.Lists.{call}
+use Rattle.model.specs.Check.{Verdict, verdict}
+use Rattle.run.specs.Lists.{call_by}
 use Rattle.commands.specs.declared.Command.{Command}
 use Rattle.commands.specs.declared.Command.TheVariants.{Fire, Undo, Marks}
 use Rattle.lines.specs.Lines.{ok_text, back_text, marks_text, refusal_text}
@@ -48,16 +49,23 @@ look_reply d = answered (look_text d.answer d.left.buffer) d.left
 abbrev pub no_command : ℕ
 no_command = 13
 
-unfoldable pub reply : List ℕ → Option Command → Store → Reply
-reply m (Some (Fire t)) s = run_reply (call m (calls.Fire t) s)
-reply m (Some Undo) s = run_reply (call m calls.Undo s)
-reply m (Some Marks) s = look_reply (call m calls.Marks s)
-reply m None s = answered (refusal_text no_command) s
+-- by the check's verdict on the file
+unfoldable pub reply_by : Verdict → Option Command → Store → Reply
+reply_by v (Some (Fire t)) s = run_reply (call_by v (calls.Fire t) s)
+reply_by v (Some Undo) s = run_reply (call_by v calls.Undo s)
+reply_by v (Some Marks) s = look_reply (call_by v calls.Marks s)
+reply_by v None s = answered (refusal_text no_command) s
+
+abbrev pub reply : List ℕ → Option Command → Store → Reply
+reply m = reply_by (verdict m)
 
 -- ---- the start: "It stops after a refused start."
 
+abbrev pub opening_by : Verdict → Store → Reply
+opening_by v s = run_reply (call_by v calls.Start s)
+
 abbrev pub opening : List ℕ → Store → Reply
-opening m s = run_reply (call m calls.Start s)
+opening m = opening_by (verdict m)
 
 unfoldable pub is_accepted : Answer → Bool
 is_accepted (refused n) = false
@@ -68,5 +76,8 @@ is_accepted (sizes z) = true
 is_accepted (picked t) = true
 is_accepted (outside x looked) = true
 
+abbrev pub is_started_by : Verdict → Store → Bool
+is_started_by v s = is_accepted (call_by v calls.Start s).answer
+
 abbrev pub is_started : List ℕ → Store → Bool
-is_started m s = is_accepted (call m calls.Start s).answer
+is_started m = is_started_by (verdict m)

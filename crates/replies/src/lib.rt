@@ -44,7 +44,7 @@ fn written(line: Result<Option<usize>, Refusal>, out: &mut [u8]) -> Option<usize
 }
 
 // Carries out a command, refused if there is none, and writes its line unless it is refused.
-#[tactic(auto, unfolding(crate::specs::Replies::reply, crate::specs::Replies::run_text, crate::specs::Replies::look_text, lines::specs::Lines::line_into, results::specs::Refusals::number_of))]
+#[tactic(auto, unfolding(crate::specs::Replies::reply_by, crate::specs::Replies::run_text, crate::specs::Replies::look_text, lines::specs::Lines::line_into, results::specs::Refusals::number_of))]
 fn carry_out(
     command: Option<Command>,
     model: &[u8],
@@ -81,7 +81,7 @@ pub fn respond(
     model: &[u8],
     values: &mut [i32],
     marks: &mut [u8],
-    history: &mut [u8],
+    history: &mut [u16],
     n: &mut usize,
     buffer: &mut [u8],
     out: &mut [u8],
@@ -122,7 +122,7 @@ pub fn open(
     model: &[u8],
     values: &mut [i32],
     marks: &mut [u8],
-    history: &mut [u8],
+    history: &mut [u16],
     n: &mut usize,
     buffer: &mut [u8],
     out: &mut [u8],

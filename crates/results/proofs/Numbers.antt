@@ -5,7 +5,7 @@ use native.Mathlib.Omega.{arith}
 use lib.Dec.{eqb}
 use mathlib.Core.Bool.{cond}
 use Rattle.results.specs.declared.refusal.Refusal.{Refusal}
-use Rattle.results.specs.declared.refusal.Refusal.TheVariants.{ShortFile, TooManyNodes, WrongLength, MissingNode, TooDeep, KindNotAllowed, ParameterNotAllowed, NodesLeftOver, ShortValues, ShortSlice, NoSuchTransition, NoSuchVariable, NoCommand, InvalidRun, FullHistory, EmptyHistory, GuardFalse, GuardFailed, ActionFailed, ActionOutside, ActionConflict, AssertionFailed, AssertionOutside, AssertionConflict, NotReplayable, NotInGrammar, TypesDoNotFit, TooLarge, NoMembers, LimitPassed}
+use Rattle.results.specs.declared.refusal.Refusal.TheVariants.{ShortFile, TooManyNodes, WrongLength, MissingNode, TooDeep, KindNotAllowed, ParameterNotAllowed, NodesLeftOver, ShortValues, ShortSlice, NoSuchTransition, NoSuchVariable, NoCommand, InvalidRun, FullHistory, EmptyHistory, GuardFalse, GuardFailed, ActionFailed, ActionOutside, ActionConflict, AssertionFailed, AssertionOutside, AssertionConflict, NotReplayable, NotInGrammar, TypesDoNotFit, TooLarge, NoMembers, LimitPassed, TooManyVariables}
 use Rattle.results.specs.Refusals.{number_of, NumbersDiffer}
 
 -- the refusal of a number; of other numbers it has no meaning
@@ -40,7 +40,8 @@ refusal_of n =
     (cond (eqb n 33) TypesDoNotFit
     (cond (eqb n 34) TooLarge
     (cond (eqb n 35) NoMembers
-    LimitPassed))))))))))))))))))))))))))))
+    (cond (eqb n 36) LimitPassed
+    TooManyVariables)))))))))))))))))))))))))))))
 
 found_again : (r : Refusal) → refusal_of (number_of r) ≡ r
 unfolding refusal_of number_of
@@ -74,6 +75,7 @@ found_again TypesDoNotFit = refl
 found_again TooLarge = refl
 found_again NoMembers = refl
 found_again LimitPassed = refl
+found_again TooManyVariables = refl
 
 positive : (r : Refusal) → 1 ≤ number_of r
 unfolding number_of
@@ -107,6 +109,7 @@ positive TypesDoNotFit = omega arith
 positive TooLarge = omega arith
 positive NoMembers = omega arith
 positive LimitPassed = omega arith
+positive TooManyVariables = omega arith
 
 pub numbers_differ : NumbersDiffer
 numbers_differ = (positive, λ r r' e. sym (found_again r) ∙ (ap refusal_of e ∙ found_again r'))

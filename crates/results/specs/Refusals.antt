@@ -1,15 +1,15 @@
--- The numbers of the refusals. 01, "Refused because of the input" and "Refused because of the state"; the numbers from 32 on are the
--- errors of texts and of transitions joined.
+-- The numbers of the refusals. 01, "Refused because of the input" and "Refused because of the state"; the numbers from 32 on are those of
+-- 02's requests. Of 1, 2 and 3 the words are those of A7; of an old file they say 6 bytes, 4,000 nodes and 6 + 5N.
 use Rattle.std.specs.Prelude.{◌≡◌, ℕ, ◌≤◌}
 use Rattle.results.specs.declared.refusal.Refusal.{Refusal}
-use Rattle.results.specs.declared.refusal.Refusal.TheVariants.{ShortFile, TooManyNodes, WrongLength, MissingNode, TooDeep, KindNotAllowed, ParameterNotAllowed, NodesLeftOver, ShortValues, ShortSlice, NoSuchTransition, NoSuchVariable, NoCommand, InvalidRun, FullHistory, EmptyHistory, GuardFalse, GuardFailed, ActionFailed, ActionOutside, ActionConflict, AssertionFailed, AssertionOutside, AssertionConflict, NotReplayable, NotInGrammar, TypesDoNotFit, TooLarge, NoMembers, LimitPassed}
+use Rattle.results.specs.declared.refusal.Refusal.TheVariants.{ShortFile, TooManyNodes, WrongLength, MissingNode, TooDeep, KindNotAllowed, ParameterNotAllowed, NodesLeftOver, ShortValues, ShortSlice, NoSuchTransition, NoSuchVariable, NoCommand, InvalidRun, FullHistory, EmptyHistory, GuardFalse, GuardFailed, ActionFailed, ActionOutside, ActionConflict, AssertionFailed, AssertionOutside, AssertionConflict, NotReplayable, NotInGrammar, TypesDoNotFit, TooLarge, NoMembers, LimitPassed, TooManyVariables}
 
 unfoldable pub number_of : Refusal → ℕ
--- "under 6 bytes"
+-- "under 10 bytes"
 number_of ShortFile = 1
--- "N above 4,000"
+-- "N above 12,000"
 number_of TooManyNodes = 2
--- "length not 6 + 5N"
+-- "a length not 10 + 5N"
 number_of WrongLength = 3
 -- "a node is due past the N-th"
 number_of MissingNode = 4
@@ -63,6 +63,8 @@ number_of TooLarge = 34
 number_of NoMembers = 35
 -- "the result would pass a limit of sizes, nodes or depth, or the slice lent for it"
 number_of LimitPassed = 36
+-- "S+F above 4,000"
+number_of TooManyVariables = 37
 
 -- 0 is no refusal's number, and no two refusals have one number. Proved in proofs/Numbers.antt.
 abbrev pub NumbersDiffer : Type 0

@@ -6,11 +6,11 @@ ghost use Rattle.results.specs.Refusals.{number_of};
 // A refusal, with the number that a call answers for it.
 #[derive(Clone, Copy, PartialEq, Eq, Debug)]
 pub enum Refusal {
-    // The file is under 6 bytes.
+    // The file is under 10 bytes; an old file, under 6.
     ShortFile = 1,
-    // N is above 4,000.
+    // N is above 12,000; of an old file, above 4,000.
     TooManyNodes = 2,
-    // The file's length is not 6 + 5N; the lengths of an expression's slices differ.
+    // The file's length is not 10 + 5N; of an old file, 6 + 5N; the lengths of an expression's slices differ.
     WrongLength = 3,
     // A node is due past the last.
     MissingNode = 4,
@@ -66,6 +66,8 @@ pub enum Refusal {
     NoMembers = 35,
     // The model joined would pass a limit of sizes, nodes or depth, or the slice lent for it.
     LimitPassed = 36,
+    // S+F is above 4,000.
+    TooManyVariables = 37,
 }
 
 impl Refusal {

@@ -10,6 +10,7 @@ use native.Mathlib.Numerals.{add-one}
 use native.Mathlib.Omega.{arith}
 use lib.IntN.{ℤ}
 use lib.ListN.{length, length-append}
+use Rattle.model.specs.Sizes.{max_variables}
 use Rattle.model.specs.Trees.{System, variables}
 use Rattle.model.specs.WellFormed.{WellFormed, sizes_of}
 use Rattle.model.specs.Check.{assertion_scope}
@@ -97,8 +98,8 @@ module _ {ks : List ℕ} {ps : List ℤ} {nexts : List ℕ} {rows : List Variabl
   pub rows_counted : length rows ≡ length a.system.states + length a.system.flows
   rows_counted = row_count (variables a.system) a.rows_held ∙ length_variables a.system
 
-  pub rows_within : length rows ≤ 510
-  rows_within = omega (arith, rows_counted, a.well_formed.states, a.well_formed.flows)
+  pub rows_within : length rows ≤ max_variables
+  rows_within = omega (arith, rows_counted, length_variables a.system, a.well_formed.few)
 
   pub may_gather : (given : List (Optional ℤ)) → length rows ≤ length given → InstructionStands ks ps nexts (length rows) (length given) at
   may_gather given h =

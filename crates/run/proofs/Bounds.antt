@@ -118,15 +118,15 @@ module _ (m : List ℕ) (bytes : Bytes m) where
 
   -- an accepted fire was of a transition, with room in the history
   pub fire_fits : (t : ℕ) (s : Store) (count : ℕ) → (call m (calls.Fire t) s).answer ≡ rounds count
-      → (t < 256) × (s.run.count < length s.run.history)
+      → (t < 65536) × (s.run.count < length s.run.history)
   unfolding call_by call_on meaning_of
   fire_fits t s count = go (verdict m) refl
     where
-      go : (v : Verdict) → verdict m ≡ v → (call_by v (calls.Fire t) s).answer ≡ rounds count → (t < 256) × (s.run.count < length s.run.history)
+      go : (v : Verdict) → verdict m ≡ v → (call_by v (calls.Fire t) s).answer ≡ rounds count → (t < 65536) × (s.run.count < length s.run.history)
       go (refusal k) e q = absurd (no_rounds (number_of k) count q)
       go (accepted z y) e q =
           let x = (check_exact m bytes z y).0 e in
-          fire_cases (meaning_of y) s.run (λ d. d.answer ≡ rounds count → (t < 256) × (s.run.count < length s.run.history))
+          fire_cases (meaning_of y) s.run (λ d. d.answer ≡ rounds count → (t < 65536) × (s.run.count < length s.run.history))
           (λ k o e. absurd (no_rounds k count e)) (λ h e. absurd (no_rounds 20 count e)) t
           (λ below held free n f e. (
             omega (arith, ltb-true t (length y.transitions) below, x.2.transitions),

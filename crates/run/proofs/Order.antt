@@ -2,22 +2,24 @@
 use mathlib.Core.Path.{◌≡◌, refl, sym, ap, ap₂, ◌∙◌}
 use mathlib.Core.List.{List, ◌∷◌}
 use Prim.Native.Nat.{ℕ}
+use Rattle.model.specs.Check.{Verdict, verdict}
 use Rattle.model.specs.Theorems.{Bytes, ShuffledFile, ShuffledAccepted}
 use Rattle.semantics.specs.Theorems.{ShuffledMeansSame}
 use Rattle.run.specs.declared.Call.{Call}
 use Rattle.standing.specs.Runs.{Store, Done}
-use Rattle.run.specs.Lists.{call_on, call_by, call, calls_of, Performed}
+use Rattle.run.specs.Lists.{call_on, call_by, call, calls_by, Performed}
 use Rattle.run.specs.Lists.Performed.{nothing, next}
 use Rattle.run.specs.Theorems.{OrderIndependent}
 
--- results that the promise allows on m' are those of the definitions on m, where a call on m' is one on m
-performed_is : (m m' : List ℕ) → ((c : Call) (s : Store) → call m' c s ≡ call m c s) → {cs : List Call} {s : Store} {rs : List (Done Store)}
-    → Performed m' cs s rs → rs ≡ calls_of m cs s
-unfolding calls_of
-performed_is m m' same nothing = refl
-performed_is m m' same (next {c = c} {cs = cs} {s = s} {d = d} p rest) =
-    ap₂ (λ (x : Done Store) (xs : List (Done Store)). x ∷ xs) (p ∙ same c s)
-    (performed_is m m' same rest ∙ ap (λ (x : Done Store). calls_of m cs x.left) (p ∙ same c s))
+-- results that the promises allow are those of the definitions by a verdict by which each call is the file's
+pub performed_by : (m : List ℕ) (v : Verdict) → ((c : Call) (s : Store) → call m c s ≡ call_by v c s) → {cs : List Call} {s : Store} {rs : List (Done Store)}
+    → Performed m cs s rs → rs ≡ calls_by v cs s
+unfolding calls_by
+performed_by m v same nothing = refl
+performed_by m v same (next {c = c} {cs = cs} {s = s} p rest) =
+    let answer = p ∙ same c s in
+    ap₂ (λ (x : Done Store) (xs : List (Done Store)). x ∷ xs) answer
+    (performed_by m v same rest ∙ ap (λ (x : Done Store). calls_by v cs x.left) answer)
 
 module _ (shuffled_accepted : ShuffledAccepted) (means-same : ShuffledMeansSame) where
   -- a call comes to the same on the shuffle
@@ -28,4 +30,4 @@ module _ (shuffled_accepted : ShuffledAccepted) (means-same : ShuffledMeansSame)
 
   pub order_independence : OrderIndependent
   order_independence m m' b a f cs s rs rs' p p' =
-      (performed_is m m (λ c t. refl) p, performed_is m m' (shuffled_call m m' b f) p')
+      (performed_by m (verdict m) (λ c t. refl) p, performed_by m' (verdict m) (shuffled_call m m' b f) p')

@@ -46,7 +46,7 @@ module _ (m : List ℕ) (fits : (i : ℕ) → Fits w8 (get_or m i 0)) where
 
   pub fire_allowed : (values : List ℤ) (marks history : List ℕ) (n t : ℕ) (r : Result ℕ Refusal) (new : List ℤ) (marked : List ℕ) (count : ℕ) → r ≡ Ok count
       → Advanced (verdict m) values marks history n new marked (moves.Fire t) r (run values marks history n)
-      → (t < 256) × (n < length history)
+      → (t < 65536) × (n < length history)
   unfolding told_by
   fire_allowed values marks history n t r new marked count q e =
       let s = store (run values marks history n) [] in

@@ -16,7 +16,7 @@ use Rattle.steps.specs.Answers.{seen_as, on_file, on_file_answer}
 use Rattle.steps.specs.Calls as calls
 use Rattle.inspection.specs.Asked.{told_outside}
 use Rattle.inspection.specs.Queries as queries
-use Rattle.run.specs.Lists.{on_run, on_buffer, call_on, call_by, call, calls_of}
+use Rattle.run.specs.Lists.{on_run, on_buffer, call_on, call_by, call, calls_by}
 use Rattle.run.specs.Lists.Performed.{nothing, next}
 use Rattle.run.specs.Promises.{seen_check}
 use Rattle.run.specs.Theorems.{CallsReached, PerformancesExist}
@@ -104,6 +104,6 @@ calls_reached = record {
 }
 
 pub performances_exist : PerformancesExist
-unfolding calls_of
+unfolding calls_by
 performances_exist m [] s = nothing
 performances_exist m (c ∷ cs) s = next refl (performances_exist m cs (call m c s).left)

@@ -38,10 +38,14 @@ call_by (accepted z t) c s = call_on z (meaning_of t) c s
 abbrev pub call : List ℕ → Call → Store → Done Store
 call m c s = call_by (verdict m) c s
 
--- the answer and the store after each call of a list
-unfoldable pub calls_of : List ℕ → List Call → Store → List (Done Store)
-calls_of m [] s = []
-calls_of m (c ∷ cs) s = call m c s ∷ calls_of m cs (call m c s).left
+-- the answer and the store after each call of a list, by the check's verdict
+unfoldable pub calls_by : Verdict → List Call → Store → List (Done Store)
+calls_by v [] s = []
+calls_by v (c ∷ cs) s = call_by v c s ∷ calls_by v cs (call_by v c s).left
+
+-- the same on a model file
+abbrev pub calls_of : List ℕ → List Call → Store → List (Done Store)
+calls_of m = calls_by (verdict m)
 
 -- a round count that is answered. 01: "so it is at most F + 1"
 unfoldable pub CountWithin : ℕ → Answer → Type 0

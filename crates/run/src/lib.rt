@@ -46,7 +46,7 @@ pub enum Answer {
 pub struct Store<'a> {
     pub values: &'a mut [i32],
     pub marks: &'a mut [u8],
-    pub history: &'a mut [u8],
+    pub history: &'a mut [u16],
     pub n: &'a mut usize,
     pub buffer: &'a mut [u8],
 }
@@ -139,7 +139,7 @@ pub fn fire(
     model: &[u8],
     values: &mut [i32],
     marks: &mut [u8],
-    history: &mut [u8],
+    history: &mut [u16],
     n: &mut usize,
     transition: usize,
 ) -> Result<usize, Refusal>
@@ -154,7 +154,7 @@ pub fn fire(
         count,
     };
     let rounds = advancing::advance(model, &mut run, Move::Fire(transition))?;
-    history[count] = transition as u8;
+    history[count] = transition as u16;
     *n = count + 1;
     Ok(rounds)
 }
@@ -164,7 +164,7 @@ pub fn undo(
     model: &[u8],
     values: &mut [i32],
     marks: &mut [u8],
-    history: &[u8],
+    history: &[u16],
     n: &mut usize,
 ) -> Result<(), Refusal>
     ensures { UndoPromise model.now values.old marks.old history.now n.old result

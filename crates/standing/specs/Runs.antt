@@ -1,5 +1,5 @@
 -- 01, "The calls on a run": "A run is a values slice [..], a record slice of transition numbers (bytes), and a count n of recorded
--- steps." The record slice is called the history here. A4: "The run shall hold its marks".
+-- steps." 02, A7: "record entries two bytes wide". The record slice is called the history here. A4: "The run shall hold its marks".
 use Rattle.std.specs.Prelude.{List, ℕ, ℤ, Option}
 use Rattle.model.specs.declared.Sizes.{Sizes}
 use Rattle.standing.specs.declared.Run.{Run as Lent}

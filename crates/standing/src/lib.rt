@@ -19,7 +19,7 @@ const MARKS: usize = 3;
 pub struct Run<'a> {
     pub values: &'a [i32],
     pub marks: &'a [u8],
-    pub history: &'a [u8],
+    pub history: &'a [u16],
     pub count: usize,
 }
 
@@ -28,7 +28,7 @@ pub struct Run<'a> {
 pub struct MovingRun<'a> {
     pub values: &'a mut [i32],
     pub marks: &'a mut [u8],
-    pub history: &'a [u8],
+    pub history: &'a [u16],
     pub count: usize,
 }
 
@@ -98,7 +98,7 @@ pub fn all_below<T: Copy + Into<usize>>(bound: usize, cells: &[T]) -> bool
 
 impl<'a> Run<'a> {
     // The run of these slices and this count, one by one, as C lends them.
-    pub fn new(values: &'a [i32], marks: &'a [u8], history: &'a [u8], count: usize) -> Run<'a>
+    pub fn new(values: &'a [i32], marks: &'a [u8], history: &'a [u16], count: usize) -> Run<'a>
         ensures { run_in result ≡ run values.now marks.now history.now count }
     {
         Run {

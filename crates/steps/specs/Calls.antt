@@ -1,5 +1,6 @@
 -- Start, fire and undo over the meaning of an accepted model and a run. 01: "Every call goes 1 to 8, 9, 10, 11, 12, 20, 21, 22, 23 up,
--- skipping those foreign to it". "A refusal answers its number alone; values, record, n and marks keep their content."
+-- skipping those foreign to it"; 02, A7: 37 "between 2 and 3". 01: "A refusal answers its number alone; values, record, n and marks keep
+-- their content."
 use Rattle.std.specs.Prelude.{cond, not, List, ℕ, suc, ◌-◌, eqb, ltb, ℤ, length, take, set, Ok, Err}
 use Rattle.std.proofs.Math.Option.{Option, some, none}
 use Rattle.interpreter.specs.Instructions.{fault_number}
@@ -54,7 +55,7 @@ fire m t r =
     (fired_by m t r (fired m t r.values))))))
 
 -- Undo (01: take back): "values become those of start and the first n − 1 recorded transitions fired again; n one lower, the
--- record's bytes stay". 22 "take back with n = 0", 31 "start is refused, or the first n − 1 entries can't be fired again".
+-- record's bytes stay" (A7's entries). 22 "take back with n = 0", 31 "start is refused, or the first n − 1 entries can't be fired again".
 unfoldable pub undone_by : Meaning → Run → Option (List ℤ) → Done Run
 undone_by m r none = answered (refused 31) r
 undone_by m r (some values) = answered done (with_count (r.count - 1) (refreshed m values r))

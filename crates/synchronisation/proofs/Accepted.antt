@@ -153,6 +153,7 @@ well_formed_lem t ts os w h k f =
       events = f.events;
       transitions = omega (arith, f.transitions, one_more t.transitions u);
       nodes = f.nodes;
+      few = w.few;
       declared = w.declared;
       guarded = all_guarded t.events s t.transitions u w.guarded g;
       assertion = w.assertion;

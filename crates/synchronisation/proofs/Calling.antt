@@ -1,4 +1,4 @@
--- 1 to 8, 35, 11, then the new model.
+-- 35, 11, then the new model; what an accepted model is decoded to.
 use mathlib.Core.Path.{◌≡◌, refl, sym, ap, ◌∙◌}
 use mathlib.Core.Bool.{true, false, true≢false, ◌&&◌}
 use mathlib.Core.List.{List}
@@ -14,15 +14,15 @@ use Rattle.kinds.specs.declared.Sort.TheVariants.{Boolean}
 use Rattle.model.specs.declared.Model.{Model}
 use Rattle.model.specs.declared.Sizes.{Sizes}
 use Rattle.model.specs.Trees.{Transition, System, sorts_of}
-use Rattle.model.specs.Sizes.{byte_layout}
+use Rattle.model.specs.Sizes.{file_layout}
 use Rattle.model.specs.Check.{verdict, parameters_in}
 use Rattle.standing.specs.Holding.{all_below}
 use Rattle.std.proofs.Common.{Result, Err}
 use Rattle.results.specs.declared.refusal.Refusal.{Refusal}
 use Rattle.tables.specs.declared.Tables.{Tables}
-use Rattle.decoding.specs.Decoding.{Arrays, LentOf, VariablesRead, prepared_by}
+use Rattle.decoding.specs.Decoding.{Arrays, LentOf, VariablesRead}
 use Rattle.decoding.proofs.Preparing.{variables_read}
-use Rattle.decoding.proofs.InUse.{InUse, refused_verdict}
+use Rattle.decoding.proofs.InUse.{InUse}
 use Rattle.steps.proofs.Parts.{loaded_lent}
 use Rattle.results.specs.declared.refusal.Refusal.TheVariants.{NoSuchTransition}
 use Rattle.synchronisation.specs.Synchronisations.{members_of, together, is_empty, extended_into, joined_into, synchronised_in, synchronised_by}
@@ -86,11 +86,6 @@ module _ (t : System) (ms os old : List ℕ) where
 
 -- ---- the model's check
 
-pub model_refused : (m : List ℕ) (before after : Arrays) (r : Result Model Refusal) → answered r after ≡ prepared_by m before (verdict m)
-    → {n : Refusal} → r ≡ Err n → (ms os old : List ℕ) → answered (Err n) old ≡ synchronised_by (verdict m) ms os old
-unfolding synchronised_by
-model_refused m before after r e {n} h ms os old = rw (refused_verdict m before after r n (verdict m) e h)
-
 module _ (m : List ℕ) (a : Arrays) (d : Model) (u : InUse m a d) where
   pub model_accepted : (ms os old : List ℕ) {y : Answered (Result ℕ Refusal) (List ℕ)} → y ≡ synchronised_in u.decoding.system ms os old
       → y ≡ synchronised_by (verdict m) ms os old
@@ -99,15 +94,16 @@ module _ (m : List ℕ) (a : Arrays) (d : Model) (u : InUse m a d) where
 
   -- the sorts of an accepted model's variables, read off its kinds
   module _ (t : Tables) (l : LentOf m a d t) {count : ℕ} (e : count ≡ d.sizes.states + d.sizes.flows) where
-    abbrev declared : VariablesRead t.kinds.now (parameters_in byte_layout d.sizes.nodes m) count
+    abbrev declared : VariablesRead t.kinds.now (parameters_in file_layout d.sizes.nodes m) count
     declared = variables_read m d.sizes t.kinds.now _ l.kinds refl e u.decoding.system u.decoding.checked
 
     pub sorts_asked : (ps : List ℤ) × VariablesRead t.kinds.now ps count
-    sorts_asked = (parameters_in byte_layout d.sizes.nodes m, declared)
+    sorts_asked = (parameters_in file_layout d.sizes.nodes m, declared)
 
     abbrev pub system_lent : (sorts : List Sort) → ((ps : List ℤ) (r : VariablesRead t.kinds.now ps count) → sorts ≡ sorts_of r.variables) → SystemIn t sorts
     system_lent sorts read = record { rows = t.variables.now; loaded = loaded_lent m a d u t l; sorts_held = read _ declared }
 
--- a cell for each variable
-pub cells_cut : (s : Sizes) {k : ℕ} → k ≡ s.states + s.flows → s.states + s.flows ≤ 510 → length (take k (replicate 510 Boolean)) ≡ s.states + s.flows
-cells_cut s {k} e h = length-take-le k (replicate 510 Boolean) (omega (arith, length-replicate 510 Boolean, e, h)) ∙ e
+-- of so many cells, which are enough, one for each variable
+pub cells_cut : (cells : ℕ) (s : Sizes) {k : ℕ} → k ≡ s.states + s.flows → s.states + s.flows ≤ cells
+    → length (take k (replicate cells Boolean)) ≡ s.states + s.flows
+cells_cut cells s {k} e h = length-take-le k (replicate cells Boolean) (omega (arith, length-replicate cells Boolean, e, h)) ∙ e

@@ -10,6 +10,7 @@ use Rattle.evaluation.specs.Numbers.{representable}
 use Rattle.kinds.specs.Kinds.{boolean_sort}
 use Rattle.kinds.specs.declared.Sort.{Sort}
 use Rattle.std.specs.Prelude.{Option}
+use Rattle.model.specs.Sizes.{max_nodes, max_variables, size_bound}
 use Rattle.model.specs.Trees.{Expression, Instruction, Transition, System, variables, sorts_of, depth_of_expression, depth_of}
 use Rattle.model.specs.Nodes.{nodes_of_expression, nodes_of, nodes_of_variable, nodes_of_transition, nodes_of_system}
 use Rattle.model.specs.Walk.{Scope, transition_at}
@@ -24,6 +25,7 @@ use Rattle.model.proofs.StandingRows.{TransitionFound, transition_found}
 use Rattle.model.proofs.Complete.{complete_expression, complete_instruction}
 use Rattle.model.proofs.CompleteRows.{complete_transition}
 use Rattle.model.proofs.LittleBytes.{representable_pos}
+use Rattle.model.proofs.CheckExact.{layouts_sound}
 use Rattle.model.proofs.Representable.{Representable, all_append, all_map, expression_parameters, instruction_parameters, system_parameters}
 use Rattle.synchronisation.specs.Synchronisations.{extended_by}
 use Rattle.synchronisation.proofs.NewNodes.{extended_nodes}
@@ -85,12 +87,12 @@ all_each [] h i = tt
 all_each (p ∷ ps) h zero = h.0
 all_each (p ∷ ps) h (suc i) = all_each ps h.1 i
 
-module _ (t : System) (u : Transition) (w : WellFormed t) (event : u.event < 256) (sorted : Sorted (sorts_of (variables t)) boolean_sort u.guard)
-    (scoped : Scoped u.action (action_scope (sizes_of t) (variables t))) (few : length (nodes_of_system (extended_by t u)) ≤ 4000) where
-  sorts_few : length (sorts_of (variables t)) ≤ 510
-  sorts_few = omega (arith, length-map (variables t) (λ v. v.sort), length-append t.states t.flows, w.states, w.flows)
+module _ (t : System) (u : Transition) (w : WellFormed t) (event : u.event < size_bound) (sorted : Sorted (sorts_of (variables t)) boolean_sort u.guard)
+    (scoped : Scoped u.action (action_scope (sizes_of t) (variables t))) (few : length (nodes_of_system (extended_by t u)) ≤ max_nodes) where
+  sorts_few : length (sorts_of (variables t)) ≤ max_variables
+  sorts_few = omega (arith, length-map (variables t) (λ v. v.sort), w.few)
 
-  action_few : size_of u.action ≤ 4000
+  action_few : size_of u.action ≤ max_nodes
   unfolding nodes_of_transition
   action_few =
       omega (
@@ -108,8 +110,8 @@ module _ (t : System) (u : Transition) (w : WellFormed t) (event : u.event < 256
   transition_numbers = (
     representable_pos u.event (omega (arith, event)),
     all_append Representable (nodes_of_expression u.guard) (nodes_of u.action)
-        (expression_parameters (sorts_of (variables t)) sorts_few u.guard boolean_sort sorted)
-        (instruction_parameters (action_scope (sizes_of t) (variables t)) sorts_few (omega (arith, w.states)) u.action scoped action_few),
+        (expression_parameters (sorts_of (variables t)) (omega (arith, sorts_few)) u.guard boolean_sort sorted)
+        (instruction_parameters (action_scope (sizes_of t) (variables t)) (omega (arith, sorts_few)) (omega (arith, w.states)) u.action scoped (omega (arith, action_few))),
   )
 
   pub extended_numbers : AllRepresentable (map (λ n. n.parameter) (nodes_of_system (extended_by t u)))
@@ -118,7 +120,7 @@ module _ (t : System) (u : Transition) (w : WellFormed t) (event : u.event < 256
       let vs = flat_map nodes_of_variable (variables t) in
       let ts = flat_map nodes_of_transition t.transitions in
       let a = nodes_of t.assertion in
-      let r = all_split Representable vs (ts ++ a) (system_parameters t w) in
+      let r = all_split Representable vs (ts ++ a) (system_parameters t layouts_sound.1 w) in
       let q = all_split Representable ts a r.1 in
       let all =
       all_append Representable (vs ++ ts) (nodes_of_transition u ++ a) (all_append Representable vs ts r.0 q.0)

@@ -17,12 +17,12 @@ use Rattle.std.specs.Result.{is_err}
 use Rattle.results.specs.declared.refusal.Refusal.{Refusal}
 use Rattle.model.specs.Trees.{Transition, System, variables}
 use Rattle.model.specs.Nodes.{Node, nodes_of_expression, nodes_of, nodes_of_variable, nodes_of_transition, nodes_of_system}
-use Rattle.model.specs.Sizes.{byte_layout, header_bytes}
+use Rattle.model.specs.Sizes.{file_layout, header_bytes, header_of, node_width, max_nodes, size_bound}
 use Rattle.model.specs.Walk.{Walk, scope_of, outcome, transition_at}
 use Rattle.model.specs.Walk.Walk.{refused, found}
 use Rattle.model.specs.Check.{max_depth, action_scope}
 use Rattle.model.specs.Standing.{NodeAt, ExpressionAt, InstructionAt, size_of_expression, size_of}
-use Rattle.model.specs.WellFormed.{encode, sizes_of}
+use Rattle.model.specs.WellFormed.{encode, encode_in, sizes_of}
 use Rattle.model.proofs.NodeLists.{NodesAt, nodes_split, own_nodes}
 use Rattle.model.proofs.NodeTrees.{expression_size, nodes_expression, nodes_instruction, transitions_size}
 use Rattle.model.proofs.Standing.{AllRepresentable}
@@ -73,10 +73,10 @@ module _ (t : System) (ts os : List Transition) (s : Sizes) (m o : ℕ) where
       let few = members_few t t.events ts os in
       true≢false
       (rw (
-        lt-ltb (suc s.events) 256 (omega (arith, e, g.events)),
-        lt-ltb (suc s.transitions) 256 (omega (arith, f, g.transitions)),
-        le-leb m 4000 (omega (arith, p, few, g.nodes)),
-        le-leb o 4000 (omega (arith, q, few, g.nodes)),
+        lt-ltb (suc s.events) size_bound (omega (arith, e, g.events)),
+        lt-ltb (suc s.transitions) size_bound (omega (arith, f, g.transitions)),
+        le-leb m max_nodes (omega (arith, p, few, g.nodes)),
+        le-leb o max_nodes (omega (arith, q, few, g.nodes)),
       ) at n)
 
 -- ---- an answer that is a refusal, and one that is not
@@ -114,9 +114,9 @@ module _ {sizes : Sizes} {assertion : ℕ} {ks : List ℕ} {ps : List ℤ} {sort
   same_nodes = ap (λ s. s.nodes) e.sizes_held
 
   -- the length that is answered
-  bytes_of : 6 + 5 * sizes.nodes ≡ length (encode (extended_by t u))
-  unfolding encode file
-  bytes_of = ap (λ n. 6 + 5 * n) same_nodes ∙ sym (file_length (sizes_of (extended_by t u)) ns)
+  bytes_of : header_of file_layout + node_width * sizes.nodes ≡ length (encode (extended_by t u))
+  unfolding encode_in file
+  bytes_of = ap (λ n. header_of file_layout + node_width * n) same_nodes ∙ sym (file_length file_layout (sizes_of (extended_by t u)) ns)
 
   -- the new transition stands in the place of the assertion
   transition_nodes : NodesAt kinds parameters (nodes_of_transition u) place
@@ -194,18 +194,18 @@ module _ {sizes : Sizes} {assertion : ℕ} {ks : List ℕ} {ps : List ℤ} {sort
         by (found v next) p q = shallow_by v next p
 
     -- the slice is too short
-    pub slice_short : length old < 6 + 5 * sizes.nodes → answered (Err LimitPassed) old ≡ extended_into t u old
+    pub slice_short : length old < header_of file_layout + node_width * sizes.nodes → answered (Err LimitPassed) old ≡ extended_into t u old
     slice_short h = no_room t u old (omega (arith, h, bytes_of))
 
     -- the bytes that were written
     same_bytes_lem : file_bytes sizes ks ps ≡ encode (extended_by t u)
-    unfolding file_bytes encode
+    unfolding file_bytes encode_in
     same_bytes_lem =
         (λ i. file_bytes (e.sizes_held i) (e.kinds_held i) (e.parameters_held i))
-        ∙ ap (λ (l : List ℕ). header_bytes byte_layout (sizes_of (extended_by t u)) ++ (kinds ++ l)) (sym (parameters_map ns))
+        ∙ ap (λ (l : List ℕ). header_bytes file_layout (sizes_of (extended_by t u)) ++ (kinds ++ l)) (sym (parameters_map ns))
 
-    pub model_written : {new : List ℕ} {r : ℕ} → is_err w ≡ false → 6 + 5 * sizes.nodes ≤ length old
-        → tape new r ≡ put_all (file_bytes sizes ks ps) (tape old 0) → answered (Ok (6 + 5 * sizes.nodes)) new ≡ extended_into t u old
+    pub model_written : {new : List ℕ} {r : ℕ} → is_err w ≡ false → header_of file_layout + node_width * sizes.nodes ≤ length old
+        → tape new r ≡ put_all (file_bytes sizes ks ps) (tape old 0) → answered (Ok (header_of file_layout + node_width * sizes.nodes)) new ≡ extended_into t u old
     model_written {new = new} h room put =
         let d = walk_found h in
         let f : Fitting t u = record { events = e.events_fit; transitions = e.transitions_fit; nodes = e.nodes_fit; guard_depth = d.0; action_depth = d.1 } in

@@ -12,6 +12,7 @@ use Rattle.results.specs.Results.{over}
 use Rattle.kinds.specs.declared.Sort.{Sort}
 use Rattle.model.specs.declared.Model.{Model}
 use Rattle.model.specs.declared.Sizes.{Sizes}
+use Rattle.model.specs.Sizes.{max_nodes, size_bound}
 use Rattle.model.specs.Trees.{Transition, System, variables, sorts_of}
 use Rattle.model.specs.Nodes.{Node, nodes_of_system}
 use Rattle.model.specs.Check.{action_scope}
@@ -62,7 +63,7 @@ module _ {model : Model} {ks : List ℕ} {ps : List ℤ} {nexts guards ms os : L
 
   -- the nodes on the sheet, of which `at` are told
   module _ {s : Sheet}
-      (put : s ≡ put_nodes ns (record { kinds = tape (replicate 4001 0) 0; parameters = tape (replicate 4001 (pos 0)) 0 })) where
+      (put : s ≡ put_nodes ns (record { kinds = tape (replicate 12001 0) 0; parameters = tape (replicate 12001 (pos 0)) 0 })) where
     abbrev at : ℕ
     at = s.kinds.at
 
@@ -73,35 +74,35 @@ module _ {model : Model} {ks : List ℕ} {ps : List ℤ} {nexts guards ms os : L
     parameters = s.parameters.cells
 
     abbrev blank_kinds : List ℕ
-    blank_kinds = replicate 4001 0
+    blank_kinds = replicate 12001 0
 
     abbrev blank_parameters : List ℤ
-    blank_parameters = replicate 4001 (pos 0)
+    blank_parameters = replicate 12001 (pos 0)
 
-    kinds_blank : length blank_kinds ≡ 4001
-    kinds_blank = length-replicate {A = ℕ} 4001 0
+    kinds_blank : length blank_kinds ≡ 12001
+    kinds_blank = length-replicate {A = ℕ} 12001 0
 
-    all_kinds : length ns ≤ 4000 → (kinds ≡ over (map (λ n. n.kind) ns) blank_kinds) × (at ≡ length ns)
+    all_kinds : length ns ≤ max_nodes → (kinds ≡ over (map (λ n. n.kind) ns) blank_kinds) × (at ≡ length ns)
     all_kinds h = kinds_over ns blank_kinds blank_parameters put (omega (arith, h, kinds_blank))
 
     -- too many
-    pub nodes_many : 4000 < at → Fitting t u → ⊥
+    pub nodes_many : max_nodes < at → Fitting t u → ⊥
     nodes_many h f = omega (arith, h, f.nodes, (all_kinds f.nodes).1)
 
-    module _ (few : at ≤ 4000) where
-      pub nodes_fit_lem : length ns ≤ 4000
-      nodes_fit_lem = by (ltb 4000 (length ns)) refl
+    module _ (few : at ≤ max_nodes) where
+      pub nodes_fit_lem : length ns ≤ max_nodes
+      nodes_fit_lem = by (ltb max_nodes (length ns)) refl
         where
-          by : (b : Bool) → ltb 4000 (length ns) ≡ b → length ns ≤ 4000
+          by : (b : Bool) → ltb max_nodes (length ns) ≡ b → length ns ≤ max_nodes
           by true e =
               absurd (omega (
                 arith,
                 few,
                 kinds_blank,
-                ltb-true 4000 (length ns) e,
-                nodes_full ns blank_kinds blank_parameters put (omega (arith, kinds_blank, ltb-true 4000 (length ns) e)),
+                ltb-true max_nodes (length ns) e,
+                nodes_full ns blank_kinds blank_parameters put (omega (arith, kinds_blank, ltb-true max_nodes (length ns) e)),
               ))
-          by false e = ltb-false 4000 (length ns) e
+          by false e = ltb-false max_nodes (length ns) e
 
       same_nodes : at ≡ length ns
       same_nodes = (all_kinds nodes_fit_lem).1
@@ -113,7 +114,7 @@ module _ {model : Model} {ks : List ℕ} {ps : List ℤ} {nexts guards ms os : L
 
       pub parameters_held_lem : take at parameters ≡ map (λ n. n.parameter) ns
       parameters_held_lem =
-          ap (take at) (parameters_over ns blank_kinds blank_parameters put (omega (arith, nodes_fit_lem, length-replicate 4001 (pos 0))))
+          ap (take at) (parameters_over ns blank_kinds blank_parameters put (omega (arith, nodes_fit_lem, length-replicate 12001 (pos 0))))
           ∙ take_over (map (λ n. n.parameter) ns) blank_parameters at (length-map ns (λ n. n.parameter) ∙ sym same_nodes)
 
       pub kinds_counted : at ≡ length (take at kinds)
@@ -142,10 +143,10 @@ module _ {model : Model} {ks : List ℕ} {ps : List ℤ} {nexts guards ms os : L
         pub action_scoped : Scoped u.action (action_scope (sizes_of t) (variables t))
         action_scoped = unfold Scoped in branches_scoped t.events (action_scope (sizes_of t) (variables t)) ts us mandatory_in optional_in
 
-        pub events_fit_lem : suc t.events < 256
+        pub events_fit_lem : suc t.events < size_bound
         events_fit_lem = omega (arith, (may_fit_lem model.sizes (length ms) (length os) fit).events, loaded_events j.loaded)
 
-        pub transitions_fit_lem : suc (length t.transitions) < 256
+        pub transitions_fit_lem : suc (length t.transitions) < size_bound
         transitions_fit_lem = omega (arith, (may_fit_lem model.sizes (length ms) (length os) fit).transitions, loaded_transitions j.loaded)
 
         abbrev pub extension : ExtensionStands new_sizes model.assertion (take at kinds) (take at parameters) sorts

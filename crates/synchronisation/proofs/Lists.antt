@@ -8,6 +8,7 @@ use borrow.Author.Tests.{ne_eqb, ltb-true, leb-true}
 use lib.Dec.{eqb, leb, ltb}
 use lib.ListN.{length}
 use Rattle.model.specs.declared.Sizes.{Sizes}
+use Rattle.model.specs.Sizes.{max_nodes, size_bound}
 use Rattle.synchronisation.specs.Synchronisations.{is_empty}
 use Rattle.synchronisation.specs.Members.{may_fit}
 
@@ -45,18 +46,18 @@ all_four true true true d e = (refl, refl, refl, e)
 module _ (s : Sizes) (m o : ℕ) where
   -- what is told where all tests pass
   pub record MayFit : Type 0 where
-    pub events : s.events < 255
-    pub transitions : s.transitions < 255
-    pub mandatory : m ≤ 4000
-    pub optional : o ≤ 4000
+    pub events : suc s.events < size_bound
+    pub transitions : suc s.transitions < size_bound
+    pub mandatory : m ≤ max_nodes
+    pub optional : o ≤ max_nodes
 
   pub may_fit_lem : may_fit s m o ≡ true → MayFit
   unfolding may_fit
   may_fit_lem e =
-      let h = all_four (ltb (suc s.events) 256) (ltb (suc s.transitions) 256) (leb m 4000) (leb o 4000) e in
+      let h = all_four (ltb (suc s.events) size_bound) (ltb (suc s.transitions) size_bound) (leb m max_nodes) (leb o max_nodes) e in
       record {
-        events = omega (arith, ltb-true (suc s.events) 256 h.0);
-        transitions = omega (arith, ltb-true (suc s.transitions) 256 h.1);
-        mandatory = leb-true m 4000 h.2;
-        optional = leb-true o 4000 h.3;
+        events = ltb-true (suc s.events) size_bound h.0;
+        transitions = ltb-true (suc s.transitions) size_bound h.1;
+        mandatory = leb-true m max_nodes h.2;
+        optional = leb-true o max_nodes h.3;
       }

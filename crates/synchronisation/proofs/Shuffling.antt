@@ -5,10 +5,11 @@ use mathlib.Core.List.{List, [], ◌∷◌, ◌++◌}
 use mathlib.Core.Option.{Option, some, none}
 use Prim.Native.Nat.{ℕ, ◌+◌, ◌*◌}
 use lib.ListN.{length}
+use Rattle.model.specs.Sizes.{file_layout, header_of, node_width}
 use Rattle.model.specs.Trees.{Expression, Instruction, Transition, System, depth_of_expression, depth_of}
 use Rattle.model.specs.Nodes.{nodes_of_system}
 use Rattle.model.specs.Check.{verdict}
-use Rattle.model.specs.WellFormed.{encode, sizes_of}
+use Rattle.model.specs.WellFormed.{encode, encode_in, sizes_of}
 use Rattle.model.specs.Shuffle.{OperandsExchanged, Exchanged, TransitionExchanged, OneExchanged, SystemExchanged, Shuffled}
 use Rattle.model.specs.Shuffle.OneExchanged.{in_first, in_later}
 use Rattle.model.specs.Shuffle.SystemExchanged.{in_transitions, in_assertion}
@@ -102,10 +103,10 @@ module _ {t t' : System} {u u' : Transition} (h : Shuffled t t') (x : Several Tr
 
   -- their files have the same length
   same_length : length (encode (extended_by t u)) ≡ length (encode (extended_by t' u'))
-  unfolding encode file
+  unfolding encode_in file
   same_length =
-      file_length (sizes_of (extended_by t u)) (nodes_of_system (extended_by t u))
-      ∙ ap (λ n. 6 + 5 * n) same_nodes ∙ sym (file_length (sizes_of (extended_by t' u')) (nodes_of_system (extended_by t' u')))
+      file_length file_layout (sizes_of (extended_by t u)) (nodes_of_system (extended_by t u))
+      ∙ ap (λ n. header_of file_layout + node_width * n) same_nodes ∙ sym (file_length file_layout (sizes_of (extended_by t' u')) (nodes_of_system (extended_by t' u')))
 
   -- so the answer is the same
   extended_answer : (old : List ℕ) → (extended_into t u old).answer ≡ (extended_into t' u' old).answer

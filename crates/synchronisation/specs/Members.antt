@@ -20,7 +20,7 @@ use Rattle.synchronisation.specs.declared.nodes.Sheet.{Sheet as Lent}
 use Rattle.synchronisation.specs.Synchronisations.{members_of, extended_by, is_empty}
 use Rattle.variables.specs.declared.VariableRow.{VariableRow}
 
--- with sizes s and so many members of each list the new model may keep the limits: a size more fits its byte, and each member has a node
+-- with sizes s and so many members of each list the new model may keep the limits: a size more fits its two bytes, and each member has a node
 unfoldable pub may_fit : Sizes → ℕ → ℕ → Bool
 may_fit s mandatory optional =
     (ltb (suc s.events) size_bound && ltb (suc s.transitions) size_bound) && (leb mandatory max_nodes && leb optional max_nodes)

@@ -2,15 +2,17 @@
 
 #![tactic(auto)]
 
-ghost use Rattle.std.specs.Prelude.{◌≡◌, ◌&&◌, length};
+ghost use Rattle.std.specs.Prelude.{◌≡◌, ◌&&◌, Ok, length};
 ghost use Rattle.results.specs.Results.{answered};
 ghost use Rattle.model.specs.Trees.{variables, sorts_of};
-ghost use Rattle.model.specs.Check.{verdict};
+ghost use Rattle.model.specs.Check.{verdict, answer_of};
+ghost use Rattle.decoding.specs.Decoding.{Enough};
 ghost use Rattle.synchronisation.specs.Synchronisations.{is_empty, together, extended_into, synchronised_in, synchronised_by};
 ghost use Rattle.synchronisation.specs.Members.{may_fit, SystemIn, JoinIn, ExtensionStands, joined_system};
 
 use decoding::Decoding;
-use model::{Layout, Model, Sizes, Sort, check};
+use decoding::file::AcceptedFile;
+use model::{Layout, Model, Room, Sizes, Sort, check};
 use nodes::{Members, Sheet};
 use results::Refusal;
 use syntax::Tree;
@@ -141,8 +143,34 @@ fn join(
     extend(tables, sorts, members, out)
 }
 
+// The same of an accepted model of these sizes, decoded in arrays that are declared here.
+fn synchronise_in<const NODES: usize, const VARIABLES: usize, const TRANSITIONS: usize>(
+    model: &[u8],
+    sizes: Sizes,
+    members: &Members<'_>,
+    out: &mut [u8],
+) -> Result<usize, Refusal>
+    requires accepted { answer_of (verdict model.now) ≡ Ok sizes }
+    requires room { Enough sizes NODES VARIABLES TRANSITIONS }
+    ensures { answered result out.new
+        ≡ synchronised_by (verdict model.now) members.now.mandatory.now members.now.optional.now out.old }
+{
+    let mut arrays = Decoding::<NODES, VARIABLES, TRANSITIONS>::BLANK;
+    let mut sorts = [Sort::Boolean; VARIABLES];
+    let file = AcceptedFile {
+        bytes: model,
+        sizes,
+    };
+    let ready = arrays.decode(&file);
+    let tables = arrays.tables(model, ready);
+    let sorts = &mut sorts[..sizes.variables()];
+    decoding::sorts_in(tables.kinds, sorts);
+    join(&tables, sorts, members, out)
+}
+
 // The model with one transition more, which fires the mandatory ones and those of the optional ones that can: its bytes in the first
 // cells, and how many they are.
+#[tactic(auto, using(decoding::proofs::Sizing::enough_few, decoding::proofs::Sizing::enough_many, decoding::proofs::Sizing::enough_most), unfolding(crate::specs::Synchronisations::synchronised_by, model::specs::Check::answer_of))]
 pub fn synchronise(
     model: &[u8],
     mandatory: &[usize],
@@ -152,15 +180,26 @@ pub fn synchronise(
     ensures { answered result out.new
         ≡ synchronised_by (verdict model.now) mandatory.now optional.now out.old }
 {
-    let mut arrays = Decoding::BLANK;
-    let ready = arrays.prepare(model)?;
-    let tables = arrays.tables(model, ready);
-    let mut sorts = [Sort::Boolean; Model::MAX_VARIABLES];
-    let sorts = &mut sorts[..ready.sizes.variables()];
-    decoding::sorts_in(tables.kinds, sorts);
+    let sizes = check::check(model)?;
     let members = Members {
         mandatory,
         optional,
     };
-    join(&tables, sorts, &members, out)
+    match sizes.room() {
+        Room::Few => synchronise_in::<
+            { Model::FEW_NODES },
+            { Model::FEW_VARIABLES },
+            { Model::FEW_TRANSITIONS },
+        >(model, sizes, &members, out),
+        Room::Many => synchronise_in::<
+            { Model::MANY_NODES },
+            { Model::MANY_VARIABLES },
+            { Model::MANY_TRANSITIONS },
+        >(model, sizes, &members, out),
+        Room::Most => synchronise_in::<
+            { Model::MAX_NODES },
+            { Model::MAX_VARIABLES },
+            { Model::MAX_TRANSITIONS },
+        >(model, sizes, &members, out),
+    }
 }

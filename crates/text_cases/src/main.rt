@@ -94,7 +94,7 @@ impl Head {
 
 fn main(rt: HostRuntime) -> io::Result<()> {
     let mut file = File::open(&rt, "cases")?;
-    let mut buffer = [0u8; 16384];
+    let mut buffer = [0u8; 24576];
     cases::run(&rt, "texts", || {
         cases::next_case::<16, Head, _, _>(&rt, &mut file, &mut buffer)
     })

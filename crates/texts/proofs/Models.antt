@@ -2,9 +2,7 @@
 use mathlib.Core.Path.{◌≡◌, sym, ap, ◌∙◌}
 use mathlib.Core.List.{List}
 use Prim.Native.Nat.{ℕ, ◌+◌}
-use lib.ListN.{take, get_or}
-use mir.Syntax.{w8}
-use mir.Val.{Fits}
+use lib.ListN.{take}
 use Rattle.results.specs.Results.{Answered, answered}
 use Rattle.model.specs.declared.Sizes.{Sizes}
 use Rattle.std.proofs.Common.{Result, Ok}
@@ -16,9 +14,9 @@ use Rattle.decoding.proofs.VariablesInUse.{SortsInUse, sorts_in_use}
 use Rattle.texts.specs.Texts.{Slices, typed_over, typed_in}
 
 -- the sorts of an accepted model's variables
-pub sorts_found : {m : List ℕ} (old : List Sort) {left : List Sort} {r : Result Sizes Refusal} {s : Sizes} → ((i : ℕ) → Fits w8 (get_or m i 0))
-    → answered r left ≡ sorts_after (verdict m) old → r ≡ Ok s → SortsInUse m s left
-sorts_found {m} old {left} {r} {s} bytes e q = sorts_in_use m bytes old left s r e q
+pub sorts_found : {m : List ℕ} (old : List Sort) {left : List Sort} {r : Result Sizes Refusal} {s : Sizes} → answered r left ≡ sorts_after (verdict m) old → r ≡ Ok s
+    → SortsInUse m s left
+sorts_found {m} old {left} {r} {s} e q = sorts_in_use m old left s r e q
 
 module _ (m text : List ℕ) (left : List Sort) (s : Slices) where
   -- over the variables of an accepted one

@@ -13,6 +13,7 @@ use Rattle.evaluation.specs.declared.Operator.TheVariants.{Difference}
 use Rattle.kinds.specs.declared.kind.Kind.{Kind}
 use Rattle.kinds.specs.declared.kind.Kind.TheVariants as kind
 use Rattle.kinds.specs.Kinds.{code_of, kind_of}
+use Rattle.model.specs.Sizes.{max_variables}
 use Rattle.model.specs.Trees.{Expression}
 use Rattle.model.specs.Trees.Expression.{numeral as number, truth as boolean, variable as cell, negation, binary, if_then_else}
 use Rattle.model.specs.Nodes as nodes
@@ -165,7 +166,7 @@ narrow_operated Greater sort f g = narrow_binary _ g f
 narrow_operated GreaterOrEqual sort f g = narrow_binary _ g f
 narrow_operated _ sort f g = narrow_binary _ f g
 
-module _ (vs : List Sort) (few : length vs ≤ 510) where
+module _ (vs : List Sort) (few : length vs ≤ max_variables) where
   narrow_phrase : (p : Phrase) → Small p → T (variables_below (length vs) p) → NarrowNodes (expression_of vs p)
   unfolding Small variables_below expression_of
   narrow_phrase (numeral n) m v = narrow_number n (omega arith)

@@ -10,6 +10,7 @@ use lib.Dec.{T}
 use lib.IntN.{ℤ}
 use lib.ListN.{length, length-map}
 use Rattle.results.specs.Results.{answered, over}
+use Rattle.model.specs.Sizes.{max_variables}
 use Rattle.model.specs.Trees.{depth_of_expression}
 use Rattle.model.specs.Nodes as nodes
 use Rattle.model.specs.Nodes.{nodes_of_expression}
@@ -62,7 +63,7 @@ module _ (vs : List Sort) (text : List ℕ) (s : Slices) where
           counted = ap length q.holds.nodes ∙ length-map own held
 
           -- the kinds and the parameters of the nodes in use
-          module _ (few : length vs ≤ 510) where
+          module _ (few : length vs ≤ max_variables) where
             below : T (variables_below (length vs) q.phrase)
             below = passes (variables_below (length vs) q.phrase) (beyond_as b)
 
@@ -76,7 +77,7 @@ module _ (vs : List Sort) (text : List ℕ) (s : Slices) where
             parameters_own = ap (map (λ n. n.parameter)) q.holds.nodes ∙ phrase_parameters vs few q.phrase small below
 
           -- no refusal is due
-          pub text_written : length vs ≤ 510 → part.depth ≤ max_depth → {kinds : List ℕ} {parameters : List ℤ}
+          pub text_written : length vs ≤ max_variables → part.depth ≤ max_depth → {kinds : List ℕ} {parameters : List ℤ}
               → kinds ≡ over (map (λ n. code_of n.kind) (written cells)) s.kinds
               → parameters ≡ over (map (λ n. n.parameter) (written cells)) s.parameters
               → answered (Ok (length (written cells))) (slices kinds parameters) ≡ typed_over vs text s

@@ -59,7 +59,7 @@ typed_over vs text old =
     (cond (ltb (length old.kinds) min_nodes || ltb (length old.parameters) min_nodes) (answered (Err ShortSlice) old)
     (written_into old (meant_by vs (phrase_of text))))
 
--- 1 to 8, then the text over the variables' sorts
+-- the check's refusal, then the text over the variables' sorts
 unfoldable pub typed_in : Verdict → List ℕ → Slices → Answered (Result ℕ Refusal) Slices
 typed_in (refusal r) text old = answered (Err r) old
 typed_in (accepted z t) text old = typed_over (sorts_of (variables t)) text old

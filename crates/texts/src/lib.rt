@@ -4,6 +4,7 @@
 
 ghost use Rattle.std.specs.Prelude.{◌≡◌, ◌≤◌, length};
 ghost use Rattle.results.specs.Results.{answered};
+ghost use Rattle.model.specs.Sizes.{max_variables};
 ghost use Rattle.model.specs.Check.{verdict};
 ghost use Rattle.composition.specs.Parts.{SameCells};
 ghost use Rattle.texts.specs.Texts.{slices, typed_over, typed_in};
@@ -23,7 +24,7 @@ pub const MIN_NODES: usize = composition::MAX_NODES;
 // The nodes of a text over variables of these sorts.
 #[tactic(auto, unfolding(crate::specs::Texts::typed_over, crate::specs::Texts::meant_by, crate::specs::Texts::written_into))]
 fn write_over(text: &[u8], sorts: &[Sort], cells: &mut Cells<'_>) -> Result<usize, Refusal>
-    requires { length sorts.now ≤ 510 }
+    requires { length sorts.now ≤ max_variables }
     ensures typed { answered result (slices cells.new.kinds.now cells.new.parameters.now)
         ≡ typed_over sorts.now text.now (slices cells.old.kinds.now cells.old.parameters.now) }
     ensures same { SameCells cells.old cells.new }
@@ -55,7 +56,7 @@ fn write_over(text: &[u8], sorts: &[Sort], cells: &mut Cells<'_>) -> Result<usiz
 
 // The nodes of a text, of either type, at the beginning of the two slices, and how many they are. The slices are lent one by one, as C
 // lends them.
-#[tactic(auto, unfolding(crate::specs::Texts::typed_in, decoding::specs::Decoding::variables_after))]
+#[tactic(auto, unfolding(crate::specs::Texts::typed_in, decoding::specs::Decoding::sorts_after))]
 pub fn write_nodes(
     model: &[u8],
     text: &[u8],

@@ -4,6 +4,7 @@ use bench::calls::{Call, Join, Store, FIRE, MARKS, START, UNDO};
 use bench::ffi::LIBRARY;
 use bench::guarded::Guarded;
 use bench::joined::{mark_together, Beside};
+use bench::limits::AtLimit;
 use bench::model_gen;
 use bench::random::Random;
 use bench::reference::ENGINE;
@@ -34,8 +35,23 @@ pub fn compare(tally: &mut Tally, random: &mut Random, case: &Case) {
     }
 }
 
+/// Joins in a model at a limit; in each new model transitions are fired.
+pub fn compare_at_limit(tally: &mut Tally, case: &AtLimit) {
+    let file = case.model.encode();
+    for join in case.joins() {
+        let name = format!("{} join", case.name);
+        let (answer, found) = perform(tally, &name, &file, &join);
+        let members = (join.mandatory.cells(), join.optional.cells());
+        let new = model_gen::joined(&case.model, members.0, members.1);
+        if let (0, Ok(new)) = (answer, new) {
+            let mut pair = Pair::new(found.written(), found.written(), &fitting_store(&new));
+            pair.follow(tally, &name, &every_fire(new.transitions.len()));
+        }
+    }
+}
+
 /// The library's answer to a join and what it wrote, compared with what the Rust implementation gives in the same model.
-fn perform(tally: &mut Tally, name: &str, file: &[u8], join: &Join) -> (u8, Join) {
+pub fn perform(tally: &mut Tally, name: &str, file: &[u8], join: &Join) -> (u8, Join) {
     let (mut expected, mut found) = (join.clone(), join.clone());
     let lent = Guarded::new(file);
     let wanted = expected.perform(&ENGINE, file);
@@ -168,12 +184,20 @@ fn fitting_store(model: &Model) -> Store {
     )
 }
 
-/// A start, and for each of so many transitions: it is fired, the marks are copied, the step is taken back.
+/// A start, and for each of so many transitions, or for some of very many: it is fired, the marks are copied, the step is
+/// taken back.
 fn every_fire(transitions: usize) -> Vec<Call> {
     let call = |row, number| Call { row, number };
     let mut calls = vec![call(START, 0)];
     for transition in 0..transitions {
-        calls.extend([call(FIRE, transition), call(MARKS, 0), call(UNDO, 0)]);
+        if transitions <= 300 || is_chosen(transition, transitions) {
+            calls.extend([call(FIRE, transition), call(MARKS, 0), call(UNDO, 0)]);
+        }
     }
     calls
+}
+
+/// The first ones, the last ones and those around 255.
+fn is_chosen(transition: usize, transitions: usize) -> bool {
+    transition < 4 || transition + 4 >= transitions || (254..=257).contains(&transition)
 }

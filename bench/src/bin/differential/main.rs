@@ -2,11 +2,12 @@
 //!
 //!     differential [CALLS [SEED]]
 //!
-//! CALLS are those on runs; each random model gets some texts and some joins beside them.
+//! CALLS are those on runs; each random model gets some texts and some joins beside them, and an old file is rewritten.
 //! Each case has its own seed, counted up from SEED: a difference is met again by `differential 1 SEED` with the
 //! seed that is printed for it.
 
 mod joins;
+mod rewritings;
 mod stored_cases;
 mod tally;
 
@@ -15,6 +16,7 @@ use std::process::ExitCode;
 use bench::calls::{Call, Store, Typed};
 use bench::ffi::LIBRARY;
 use bench::guarded::Guarded;
+use bench::limits;
 use bench::model_gen;
 use bench::random::Random;
 use bench::reference::ENGINE;
@@ -34,6 +36,7 @@ fn main() -> ExitCode {
 
     let mut tally = Tally::new();
     stored_cases::compare(&mut tally);
+    models_at_limits(&mut tally);
     let mut seed = first;
     let mut on_runs = 0;
     while on_runs < wanted {
@@ -50,14 +53,32 @@ fn main() -> ExitCode {
     }
 }
 
-/// One random model with its twin, or one damaged file, with one list of calls, some texts and some joins; gives how many
-/// calls of the list were made.
+/// The models at the limits of a file, each with its twin, texts and joins.
+fn models_at_limits(tally: &mut Tally) {
+    let mut random = Random::new(0);
+    for case in limits::all() {
+        let file = case.model.encode();
+        let twin = case.model.shuffled(&mut random).encode();
+        for given in [&file, &twin] {
+            let mut pair = Pair::new(&file, given, &case.store);
+            pair.follow(tally, case.name, &case.calls);
+            for typed in case.texts() {
+                compare_text(tally, case.name, [&file, given], &typed);
+            }
+        }
+        joins::compare_at_limit(tally, &case);
+    }
+}
+
+/// One random model with its twin, or one damaged file, with one list of calls, some texts and some joins, and an old
+/// file of another model; gives how many calls of the list were made.
 fn random_case(tally: &mut Tally, seed: u64) -> usize {
     let mut random = Random::new(seed.wrapping_mul(0x9E37_79B9_7F4A_7C15));
     let case = Case::new(&mut random, seed);
     let calls = case.compare_list(tally, &mut random);
     case.compare_texts(tally, &mut random);
     joins::compare(tally, &mut random, &case);
+    rewritings::compare(tally, &mut random, &case.name);
     calls
 }
 
@@ -65,9 +86,9 @@ fn random_case(tally: &mut Tally, seed: u64) -> usize {
 struct Case {
     name: String,
     model: Model,
-    /// The model's file, or a damaged one.
+    /// The model's file, or a damaged one, or the old file.
     file: Vec<u8>,
-    /// None beside a damaged file.
+    /// None beside a damaged file and an old one.
     twin: Option<Vec<u8>>,
 }
 
@@ -77,7 +98,10 @@ impl Case {
         let model = model_gen::model(random, shape);
         let mut file = model.encode();
         let twin = if random.chance(1, 3) {
-            file = model_gen::damaged(random, &file);
+            file = match model.encode_old() {
+                Some(old) if random.chance(1, 12) => old,
+                _ => model_gen::damaged(random, &file),
+            };
             None
         } else {
             Some(model.shuffled(random).encode())
@@ -111,10 +135,8 @@ impl Case {
         for _ in 0..TEXTS {
             let typed = model_gen::typed(random, &self.model);
             for (name, given) in self.given() {
-                let (answer, wrong) = perform_text(&self.file, given, &typed);
-                tally.count(TEXT, answer);
-                let text = typed.text.cells().escape_ascii();
-                tally.report(&format!("{} {name}, text {text}", self.name), &wrong);
+                let name = format!("{} {name}", self.name);
+                compare_text(tally, &name, [&self.file, given], &typed);
             }
         }
     }
@@ -172,9 +194,8 @@ impl<'a> Pair<'a> {
     }
 }
 
-/// The library's answer to a text beside a model or its twin, and all that differs from what the Rust implementation
-/// gives beside the model.
-fn perform_text(model: &[u8], given: &[u8], typed: &Typed) -> (u8, Vec<String>) {
+/// A text: the Rust implementation gets it beside the model, the library beside the file that is given to it.
+fn compare_text(tally: &mut Tally, name: &str, [model, given]: [&[u8]; 2], typed: &Typed) {
     let (mut expected, mut found) = (typed.clone(), typed.clone());
     let lent = Guarded::new(given);
     let wanted = expected.perform(&ENGINE, model);
@@ -186,5 +207,7 @@ fn perform_text(model: &[u8], given: &[u8], typed: &Typed) -> (u8, Vec<String>) 
     if !found.intact() || lent != Guarded::new(given) {
         wrong.push("guard cells or the model were written".to_string());
     }
-    (answer, wrong)
+    tally.count(TEXT, answer);
+    let text = typed.text.cells().escape_ascii();
+    tally.report(&format!("{name}, text {text}"), &wrong);
 }

@@ -3,54 +3,201 @@
 use bench::calls::{Call, CHECK, FIRST_OUTSIDE};
 use bench::ffi::LIBRARY;
 use bench::guarded::Guarded;
-use bench::program::gtsrun;
-use bench::stored::{self, Lent, ListCase, CALL_FILES, PROGRAM_FILES};
+use bench::program::{gtsrun, gtswide};
+use bench::stored::old::{self, refusal_of_file, rewritten_file};
+use bench::stored::{self, CheckCase, Lent, ListCase, ProgramCase, TextCase, ValuesCase};
 
-use crate::tally::{Tally, JOIN, TEXT};
+use crate::tally::{Tally, JOIN, REWRITE, TEXT};
 use crate::Pair;
 
 pub fn compare(tally: &mut Tally) {
     let checks = checks(tally);
-    let lists: usize = CALL_FILES.map(|file| lists(tally, file)).iter().sum();
-    let programs: usize = PROGRAM_FILES.map(|file| programs(tally, file)).iter().sum();
+    let lists = lists(tally);
+    let programs = programs(tally);
+    let wide_runs = wide_runs(tally);
     let texts = texts(tally);
     let values = values(tally);
     let joins = joins(tally);
     println!(
-        "stored: {checks} checks, {lists} lists of calls with their twins, {programs} programs, {texts} texts, {values} values slices, {joins} joins: {} calls, {} differ",
+        "stored: {checks} checks, {lists} lists of calls with their twins, {programs} programs, {wide_runs} runs of gtswide, {texts} texts, {values} values slices, {joins} joins: {} calls, {} differ",
         tally.calls, tally.differ
     );
+    let old = compare_old(tally);
+    println!(
+        "stored with old files: {old} of them rewritten: {} calls, {} differ",
+        tally.calls, tally.differ
+    );
+}
+
+/// The stored cases with old files: rewritten by the library, or refused by it as stored; gives how many were rewritten.
+fn compare_old(tally: &mut Tally) -> usize {
+    let lists = old::CALL_FILES.map(|file| old_lists(tally, file));
+    let programs = old::PROGRAM_FILES.map(|file| old_programs(tally, file));
+    let others = [
+        old_checks(tally),
+        old_texts(tally),
+        old_values(tally),
+        old_joins(tally),
+    ];
+    lists.iter().chain(&programs).chain(&others).sum()
+}
+
+/// The file that the library writes for an old one; what is wrong is reported.
+fn rewritten(tally: &mut Tally, name: &str, old: &[u8], refused: Option<u8>) -> Option<Vec<u8>> {
+    tally.count(REWRITE, refused.unwrap_or(0));
+    match rewritten_file(&LIBRARY, old, refused) {
+        Ok(found) => found,
+        Err(wrong) => {
+            tally.report(name, &[wrong]);
+            None
+        }
+    }
+}
+
+fn old_checks(tally: &mut Tally) -> usize {
+    let mut count = 0;
+    let checks = stored::checks(&stored::text("old/checks.txt"));
+    for (place, mut case) in checks.into_iter().enumerate() {
+        let name = format!("old/checks.txt, check {place}");
+        if let Some(model) = rewritten(tally, &name, &case.model, case.want.err()) {
+            case.model = model;
+            compare_check(tally, &name, &case);
+            count += 1;
+        }
+    }
+    count
+}
+
+fn old_texts(tally: &mut Tally) -> usize {
+    let mut count = 0;
+    let texts = stored::texts(&stored::text("old/texts.txt"));
+    for (place, mut case) in texts.into_iter().enumerate() {
+        let name = format!("old/texts.txt, text {place}");
+        let refused = refusal_of_file(case.want);
+        if let Some(model) = rewritten(tally, &name, &case.model, refused) {
+            case.model = model;
+            compare_text(tally, &name, &case);
+            count += 1;
+        }
+    }
+    count
+}
+
+fn old_values(tally: &mut Tally) -> usize {
+    let mut count = 0;
+    let values = stored::values(&stored::text("old/values.txt"));
+    for (place, mut case) in values.into_iter().enumerate() {
+        let name = format!("old/values.txt, values {place}");
+        let refused = refusal_of_file(case.want);
+        if let Some(model) = rewritten(tally, &name, &case.model, refused) {
+            case.model = model;
+            compare_values(tally, &name, &case);
+            count += 1;
+        }
+    }
+    count
+}
+
+fn old_lists(tally: &mut Tally, file: &str) -> usize {
+    let mut count = 0;
+    for (place, mut case) in stored::lists(&stored::text(file)).into_iter().enumerate() {
+        let name = format!("{file}, list {place}");
+        let refused = case.refused();
+        let model = rewritten(tally, &name, &case.model, refused);
+        let twin = rewritten(tally, &name, &case.twin, refused);
+        if let (Some(model), Some(twin)) = (model, twin) {
+            (case.model, case.twin) = (model, twin);
+            compare_both(tally, &name, &case);
+            count += 2;
+        }
+    }
+    count
+}
+
+fn old_programs(tally: &mut Tally, file: &str) -> usize {
+    let mut count = 0;
+    for (place, mut case) in stored::programs(&stored::text(file))
+        .into_iter()
+        .enumerate()
+    {
+        let name = format!("{file}, program {place}");
+        if let Some(model) = rewritten(tally, &name, &case.model, case.refused()) {
+            case.drop_long_fires();
+            case.model = model;
+            compare_program(tally, &name, &case);
+            count += 1;
+        }
+    }
+    count
+}
+
+/// Joins in the rewritten files, as the Rust implementation makes them: an old limit may have been the reason of a refusal.
+fn old_joins(tally: &mut Tally) -> usize {
+    let mut count = 0;
+    let joins = stored::joins(&stored::text("old/joins.txt"));
+    for (place, case) in joins.iter().enumerate() {
+        let name = format!("old/joins.txt, join {place}");
+        let refused = refusal_of_file(case.want);
+        if let Some(model) = rewritten(tally, &name, &case.model, refused) {
+            crate::joins::perform(tally, &name, &model, &case.lent_wide());
+            count += 1;
+        }
+    }
+    count
+}
+
+fn wide_runs(tally: &mut Tally) -> usize {
+    let runs = stored::wide_runs(&stored::text("gtswide.txt"));
+    for (place, case) in runs.iter().enumerate() {
+        let input = Guarded::new(&case.input);
+        let output = gtswide(&LIBRARY, input.cells());
+        let mut wrong = Vec::new();
+        if output != case.output || input != Guarded::new(&case.input) {
+            wrong.push("another output, or the input was written".to_string());
+        }
+        tally.report(&format!("run {place} of gtswide"), &wrong);
+    }
+    runs.len()
 }
 
 fn checks(tally: &mut Tally) -> usize {
     let checks = stored::checks(&stored::text("checks.txt"));
     for (place, case) in checks.iter().enumerate() {
-        let model = Guarded::new(&case.model);
-        let mut sizes = Guarded::new(&[9; 5]);
-        let answer = (LIBRARY.check)(model.cells(), sizes.cells_mut());
-        tally.count(CHECK, answer);
-        let (number, found) = match case.want {
-            Ok(sizes) => (0, sizes),
-            Err(number) => (number, [9; 5]),
-        };
-        let wanted = (number, Guarded::new(&found), Guarded::new(&case.model));
-        let mut wrong = Vec::new();
-        if (answer, &sizes, &model) != (wanted.0, &wanted.1, &wanted.2) {
-            wrong.push(format!("answers {answer} {:?}", sizes.cells()));
-        }
-        tally.report(&format!("stored check {place}"), &wrong);
+        compare_check(tally, &format!("stored check {place}"), case);
     }
     checks.len()
 }
 
-fn lists(tally: &mut Tally, file: &str) -> usize {
-    let lists = stored::lists(&stored::text(file));
+fn compare_check(tally: &mut Tally, name: &str, case: &CheckCase) {
+    let model = Guarded::new(&case.model);
+    let mut sizes = Guarded::new(&[9; 5]);
+    let answer = (LIBRARY.check)(model.cells(), sizes.cells_mut());
+    tally.count(CHECK, answer);
+    let (number, found) = match case.want {
+        Ok(sizes) => (0, sizes),
+        Err(number) => (number, [9; 5]),
+    };
+    let wanted = (number, Guarded::new(&found), Guarded::new(&case.model));
+    let mut wrong = Vec::new();
+    if (answer, &sizes, &model) != (wanted.0, &wanted.1, &wanted.2) {
+        wrong.push(format!("answers {answer} {:?}", sizes.cells()));
+    }
+    tally.report(name, &wrong);
+}
+
+fn lists(tally: &mut Tally) -> usize {
+    let lists = stored::lists(&stored::text("calls.txt"));
     for (place, case) in lists.iter().enumerate() {
-        for given in [&case.model, &case.twin] {
-            compare_list(tally, &format!("{file}, list {place}"), case, given);
-        }
+        compare_both(tally, &format!("list {place}"), case);
     }
     lists.len()
+}
+
+/// A stored list with its model and with its twin.
+fn compare_both(tally: &mut Tally, name: &str, case: &ListCase) {
+    for given in [&case.model, &case.twin] {
+        compare_list(tally, name, case, given);
+    }
 }
 
 /// A stored list with its model or its twin, up to the first call that differs.
@@ -74,18 +221,22 @@ fn compare_list(tally: &mut Tally, name: &str, case: &ListCase, given: &[u8]) {
     }
 }
 
-fn programs(tally: &mut Tally, file: &str) -> usize {
-    let programs = stored::programs(&stored::text(file));
+fn programs(tally: &mut Tally) -> usize {
+    let programs = stored::programs(&stored::text("programs.txt"));
     for (place, case) in programs.iter().enumerate() {
-        let model = Guarded::new(&case.model);
-        let output = gtsrun(&LIBRARY, model.cells(), &case.input);
-        let mut wrong = Vec::new();
-        if output.as_bytes() != case.output || model != Guarded::new(&case.model) {
-            wrong.push("another output, or the model was written".to_string());
-        }
-        tally.report(&format!("{file}, program {place}"), &wrong);
+        compare_program(tally, &format!("program {place}"), case);
     }
     programs.len()
+}
+
+fn compare_program(tally: &mut Tally, name: &str, case: &ProgramCase) {
+    let model = Guarded::new(&case.model);
+    let output = gtsrun(&LIBRARY, model.cells(), &case.input);
+    let mut wrong = Vec::new();
+    if output.as_bytes() != case.output || model != Guarded::new(&case.model) {
+        wrong.push("another output, or the model was written".to_string());
+    }
+    tally.report(name, &wrong);
 }
 
 /// What is wrong with an answer and a model after the call; the guard cells of the model are compared too.
@@ -103,40 +254,48 @@ fn wrong_answer(wanted: u8, answer: u8, file: &[u8], model: &Guarded<u8>) -> Vec
 fn texts(tally: &mut Tally) -> usize {
     let texts = stored::texts(&stored::text("texts.txt"));
     for (place, case) in texts.iter().enumerate() {
-        let model = Guarded::new(&case.model);
-        let mut found = case.lent.clone();
-        let answer = found.perform(&LIBRARY, model.cells());
-        tally.count(TEXT, answer);
-        let mut wrong = wrong_answer(case.want, answer, &case.model, &model);
-        wrong.extend(case.after.differences(&found));
-        if !found.intact() {
-            wrong.push("guard cells were written".to_string());
-        }
-        let text = case.lent.text.cells().escape_ascii();
-        tally.report(&format!("stored text {place}, {text}"), &wrong);
+        compare_text(tally, &format!("stored text {place}"), case);
     }
     texts.len()
 }
 
+fn compare_text(tally: &mut Tally, name: &str, case: &TextCase) {
+    let model = Guarded::new(&case.model);
+    let mut found = case.lent.clone();
+    let answer = found.perform(&LIBRARY, model.cells());
+    tally.count(TEXT, answer);
+    let mut wrong = wrong_answer(case.want, answer, &case.model, &model);
+    wrong.extend(case.after.differences(&found));
+    if !found.intact() {
+        wrong.push("guard cells were written".to_string());
+    }
+    let text = case.lent.text.cells().escape_ascii();
+    tally.report(&format!("{name}, {text}"), &wrong);
+}
+
 fn values(tally: &mut Tally) -> usize {
     let cases = stored::values(&stored::text("values.txt"));
+    for (place, case) in cases.iter().enumerate() {
+        compare_values(tally, &format!("stored values {place}"), case);
+    }
+    cases.len()
+}
+
+fn compare_values(tally: &mut Tally, name: &str, case: &ValuesCase) {
     let call = Call {
         row: FIRST_OUTSIDE,
         number: 0,
     };
-    for (place, case) in cases.iter().enumerate() {
-        let model = Guarded::new(&case.model);
-        let mut found = case.lent.clone();
-        let answer = call.perform(&LIBRARY, model.cells(), &mut found);
-        tally.count_call(call.row, answer, &found);
-        let mut wrong = wrong_answer(case.want, answer, &case.model, &model);
-        wrong.extend(case.after.differences(&found));
-        if !found.intact() {
-            wrong.push("guard cells were written".to_string());
-        }
-        tally.report(&format!("stored values {place}"), &wrong);
+    let model = Guarded::new(&case.model);
+    let mut found = case.lent.clone();
+    let answer = call.perform(&LIBRARY, model.cells(), &mut found);
+    tally.count_call(call.row, answer, &found);
+    let mut wrong = wrong_answer(case.want, answer, &case.model, &model);
+    wrong.extend(case.after.differences(&found));
+    if !found.intact() {
+        wrong.push("guard cells were written".to_string());
     }
-    cases.len()
+    tally.report(name, &wrong);
 }
 
 fn joins(tally: &mut Tally) -> usize {

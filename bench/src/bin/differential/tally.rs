@@ -5,18 +5,19 @@ use bench::calls::{Store, FIRST_OUTSIDE, TABLE};
 /// How many differences are printed in full.
 const PRINTED: usize = 10;
 
-/// The columns of the calls on texts and of joins, after those of the table.
+/// The columns of the calls on texts, of joins and of rewritings, after those of the table.
 pub const TEXT: usize = TABLE.len();
 pub const JOIN: usize = TABLE.len() + 1;
-const COLUMNS: usize = TABLE.len() + 2;
+pub const REWRITE: usize = TABLE.len() + 2;
+const COLUMNS: usize = TABLE.len() + 3;
 
 /// The answers are below this.
-const ANSWERS: usize = 37;
+const ANSWERS: usize = 38;
 
 pub struct Tally {
     pub calls: usize,
     pub differ: usize,
-    /// For each row of the table, then for texts and for joins, how often each number was answered.
+    /// For each row of the table, then for texts, for joins and for rewritings, how often each number was answered.
     answers: [[usize; ANSWERS]; COLUMNS],
     /// How often `first_outside` found a variable.
     outside: usize,
@@ -72,7 +73,7 @@ impl Tally {
         for row in &TABLE {
             print!(" {} |", row.name);
         }
-        println!(" text | join |\n|{}", "---|".repeat(COLUMNS + 1));
+        println!(" text | join | rewrite |\n|{}", "---|".repeat(COLUMNS + 1));
         for answer in 0..ANSWERS {
             if self.answers.iter().all(|column| column[answer] == 0) {
                 continue;

@@ -13,7 +13,7 @@ variables-requires c =
     let sizes : Sizes = c.in_ok-sizes.sizes in
     let used : SortsInUse c.args.model.now sizes
     c.sorts_of.new.sorts =
-    sorts_in_use c.args.model.now c.shared_slice_known-1.given _ c.sorts_of.new.sorts sizes
+    sorts_in_use c.args.model.now _ c.sorts_of.new.sorts sizes
     c.sorts_of.result c.sorts_of.ensures c.in_ok-sizes.was in
     omega (arith, used.few)
 
@@ -22,7 +22,7 @@ slice_bounds-sorts-end c =
     let sizes : Sizes = c.in_ok-sizes.sizes in
     let used : SortsInUse c.args.model.now sizes
     c.sorts_of.new.sorts =
-    sorts_in_use c.args.model.now c.shared_slice_known-1.given _ c.sorts_of.new.sorts sizes
+    sorts_in_use c.args.model.now _ c.sorts_of.new.sorts sizes
     c.sorts_of.result c.sorts_of.ensures c.in_ok-sizes.was in
     rw c.variables.ensures (part_within _ c.sorts_of.new.sorts used.part)
 
@@ -31,7 +31,7 @@ slice_bounds-check_over_sorts-end c =
     let sizes : Sizes = c.in_ok-sizes.sizes in
     let used : SortsInUse c.args.model.now sizes
     c.sorts_of.new.sorts =
-    sorts_in_use c.args.model.now c.shared_slice_known-1.given _ c.sorts_of.new.sorts sizes
+    sorts_in_use c.args.model.now _ c.sorts_of.new.sorts sizes
     c.sorts_of.result c.sorts_of.ensures c.in_ok-sizes.was in
     rw c.variables.ensures used.part
 
@@ -50,7 +50,7 @@ returns c =
     c.sorts_of.new.sorts =
     let read = c in
     let known = read in
-    sorts_in_use known.args.model.now known.shared_slice_known-1.given _ read.sorts_of.new.sorts sizes
+    sorts_in_use known.args.model.now _ read.sorts_of.new.sorts sizes
     read.sorts_of.result read.sorts_of.ensures c.in_ok-sizes.was in
     let read = c in
     let given = read.args in

@@ -15,7 +15,7 @@ pub overflow_cast-history : goal.overflow_cast-history
 overflow_cast-history c =
     let start = c.args in
     let called = c.advance in
-    let fits : (c.args.transition < 256) × (c.args.n.now < length c.args.history.now) =
+    let fits : (c.args.transition < 65536) × (c.args.n.now < length c.args.history.now) =
     fire_allowed start.model.now c.type_inv.model
     start.values.now start.marks.now start.history.now start.n.now start.transition called.result called.new.run.values.now called.new.run.marks.now
     c.in_ok-rounds.rounds c.in_ok-rounds.was called.ensures.moved in
@@ -25,17 +25,27 @@ pub bounds-history-count : goal.bounds-history-count
 bounds-history-count c =
     let start = c.args in
     let called = c.advance in
-    let fits : (c.args.transition < 256) × (c.args.n.now < length c.args.history.now) =
+    let fits : (c.args.transition < 65536) × (c.args.n.now < length c.args.history.now) =
     fire_allowed start.model.now c.type_inv.model
     start.values.now start.marks.now start.history.now start.n.now start.transition called.result called.new.run.values.now called.new.run.marks.now
     c.in_ok-rounds.rounds c.in_ok-rounds.was called.ensures.moved in
     omega (arith, fits.1)
 
+pub offset_bounds-history-count : goal.offset_bounds-history-count
+offset_bounds-history-count c =
+    let start = c.args in
+    let called = c.advance in
+    let fits : (c.args.transition < 65536) × (c.args.n.now < length c.args.history.now) =
+    fire_allowed start.model.now c.type_inv.model
+    start.values.now start.marks.now start.history.now start.n.now start.transition called.result called.new.run.values.now called.new.run.marks.now
+    c.in_ok-rounds.rounds c.in_ok-rounds.was called.ensures.moved in
+    record { fits = omega (arith, fits.1, c.well_formed) }
+
 pub overflow_add-n : goal.overflow_add-n
 overflow_add-n c =
     let start = c.args in
     let called = c.advance in
-    let fits : (c.args.transition < 256) × (c.args.n.now < length c.args.history.now) =
+    let fits : (c.args.transition < 65536) × (c.args.n.now < length c.args.history.now) =
     fire_allowed start.model.now c.type_inv.model
     start.values.now start.marks.now start.history.now start.n.now start.transition called.result called.new.run.values.now called.new.run.marks.now
     c.in_ok-rounds.rounds c.in_ok-rounds.was called.ensures.moved in

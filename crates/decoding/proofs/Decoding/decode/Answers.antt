@@ -6,13 +6,14 @@ use lib.ListN.{length, drop, length-append, length-drop}
 use lib.Seq.{length-take-le}
 use Rattle.std.proofs.Common.{rules}
 use Rattle.decoding.specs.Decoding.{arrays_in, arrays}
+use Rattle.model.specs.Sizes.{file_layout}
 use Rattle.model.proofs.Encoding.{SizedAs}
 use Rattle.decoding.proofs.Preparing.{answer_sizes, lent_kinds, lent_parameters, steps_decoded}
 use Rattle.decoding.proofs.Decoding.decode.Goals as goal
 
 pub invariant_of-tree : goal.invariant_of-tree
 invariant_of-tree g c =
-    let sizes : SizedAs c.args.file.now.bytes.now c.args.file.now.sizes = answer_sizes _ _ c.args.file.now.accepted in
+    let sizes : SizedAs file_layout c.args.file.now.bytes.now c.args.file.now.sizes = answer_sizes _ _ c.args.file.now.accepted in
     record {
       whole =
           lent_parameters c.args.file.now.bytes.now c.args.file.now.sizes _ c.kinds_of.ensures c.decode_variables-transitions.new.parameters sizes
@@ -21,17 +22,17 @@ invariant_of-tree g c =
 
 pub next_places-requires : goal.next_places-requires
 next_places-requires g c =
-    let sizes : SizedAs c.args.file.now.bytes.now c.args.file.now.sizes = answer_sizes _ _ c.args.file.now.accepted in
+    let sizes : SizedAs file_layout c.args.file.now.bytes.now c.args.file.now.sizes = answer_sizes _ _ c.args.file.now.accepted in
     let many = lent_kinds c.args.file.now.bytes.now c.args.file.now.sizes _ c.kinds_of.ensures sizes in
     let long : length c.args.self.now.nexts ≡ g.row.NODES = search rules in
-    (omega (arith, sizes, many), length-take-le c.args.file.now.sizes.nodes c.args.self.now.nexts (omega (arith, c.requires, long)) ∙ sym many)
+    (omega (arith, sizes, many), length-take-le c.args.file.now.sizes.nodes c.args.self.now.nexts (omega (arith, c.requires.0.for_nodes, long)) ∙ sym many)
 
 pub guard_places-assertion-requires : goal.guard_places-assertion-requires
 guard_places-assertion-requires g c =
     let long : length c.args.self.now.nexts ≡ g.row.NODES = search rules in
-    let guards : length c.args.self.now.guards ≡ 255 = search rules in (
-      omega (arith, c.requires.2, guards),
-      omega (arith, c.requires.0, c.requires.3, long, c.next_places.auto.nexts, length-append c.next_places.new.nexts (drop c.args.file.now.sizes.nodes c.args.self.now.nexts), length-take-le c.args.file.now.sizes.nodes c.args.self.now.nexts (omega (arith, c.requires.0, long)), length-drop c.args.file.now.sizes.nodes c.args.self.now.nexts),
+    let guards : length c.args.self.now.guards ≡ g.row.TRANSITIONS = search rules in (
+      omega (arith, c.requires.1, guards),
+      omega (arith, c.requires.0.for_nodes, c.requires.0.most_nodes, long, c.next_places.auto.nexts, length-append c.next_places.new.nexts (drop c.args.file.now.sizes.nodes c.args.self.now.nexts), length-take-le c.args.file.now.sizes.nodes c.args.self.now.nexts (omega (arith, c.requires.0.for_nodes, long)), length-drop c.args.file.now.sizes.nodes c.args.self.now.nexts),
     )
 
 pub returns-clause-decoded : goal.returns-clause-decoded
@@ -49,6 +50,6 @@ returns-clause-decoded g c =
       declared = declared.ensures;
       filling = nexts.ensures;
       nexts = refl;
-      long = omega (arith, c.requires.0, long);
+      long = omega (arith, c.requires.0.for_nodes, long);
       guards = guards.ensures;
     })

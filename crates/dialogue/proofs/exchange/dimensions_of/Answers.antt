@@ -1,4 +1,4 @@
--- By the check; at most 255 of states, flows and transitions each.
+-- By the check, which keeps the limits.
 use mathlib.Core.Path.{◌≡◌, sym, ◌∙◌}
 use native.Mathlib.Omega.{arith}
 use Rattle.std.proofs.Common.{Ok}
@@ -9,7 +9,7 @@ use Rattle.dialogue.proofs.exchange.dimensions_of.Goals as goal
 pub variables-requires : goal.variables-requires
 variables-requires c =
     let accepts : answer_of (verdict c.args.model.now) ≡ Ok c.in-Ok.sizes = sym c.check.ensures ∙ c.in-Ok.is in
-    omega (arith, (few_cells c.in-Ok.sizes c.args.model.now (λ i b. (c.shared_slice_known-1.given i).fits) accepts).0)
+    omega (arith, (few_cells c.in-Ok.sizes c.args.model.now accepts).0)
 
 pub returns-in-Err : goal.returns-in-Err
 returns-in-Err c =
@@ -22,5 +22,5 @@ returns-in-Err c =
 pub returns-in-Ok : goal.returns-in-Ok
 returns-in-Ok c =
     let accepts : answer_of (verdict c.args.model.now) ≡ Ok c.in-Ok.sizes = sym c.check.ensures ∙ c.in-Ok.is in
-    let few = few_cells c.in-Ok.sizes c.args.model.now (λ i b. (c.shared_slice_known-1.given i).fits) accepts in
+    let few = few_cells c.in-Ok.sizes c.args.model.now accepts in
     rw c.variables.ensures record { value = known_dimensions c.in-Ok.sizes c.args.bytes (verdict c.args.model.now) accepts; variables_le_max_variables = few }

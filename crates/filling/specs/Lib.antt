@@ -1,0 +1,2 @@
+-- Definitions of crate `filling`: how the code goes about it.
+pub mod Filled
