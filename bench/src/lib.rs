@@ -2,6 +2,7 @@
 //! that implementation with the C calls of libcapi.a and to time both.
 
 pub mod calls;
+pub mod example;
 pub mod guarded;
 pub mod joined;
 pub mod limits;

@@ -211,9 +211,7 @@ fn sizes<'a>(words: impl Iterator<Item = &'a str>) -> [u32; 5] {
 }
 
 pub fn checks(text: &str) -> Vec<CheckCase> {
-    let mut source = Source::new(text);
-    let mut cases = Vec::new();
-    while !source.ended() {
+    all(text, |source| {
         let model = source.list("model");
         let mut words = source.words("want");
         let want = match words.next() {
@@ -223,15 +221,14 @@ pub fn checks(text: &str) -> Vec<CheckCase> {
         };
         let mut expressions = Vec::new();
         while source.sees("kinds") {
-            expressions.push(expression(&mut source));
+            expressions.push(expression(source));
         }
-        cases.push(CheckCase {
+        CheckCase {
             model,
             want,
             expressions,
-        });
-    }
-    cases
+        }
+    })
 }
 
 fn expression(source: &mut Source) -> ExpressionCase {
@@ -324,41 +321,46 @@ fn want(source: &mut Source) -> Want {
     }
 }
 
-pub fn programs(text: &str) -> Vec<ProgramCase> {
+/// All cases of a text, one after another.
+fn all<C>(text: &str, mut next: impl FnMut(&mut Source) -> C) -> Vec<C> {
     let mut source = Source::new(text);
     let mut cases = Vec::new();
     while !source.ended() {
-        cases.push(ProgramCase {
-            model: source.list("model"),
-            input: source.list("input"),
-            output: source.list("output"),
-        });
+        cases.push(next(&mut source));
     }
     cases
+}
+
+/// All cases of a text in which a model stands before its cases, each of which begins with this word.
+fn beside_models<C>(text: &str, word: &str, next: impl Fn(&mut Source, &[u8]) -> C) -> Vec<C> {
+    let groups = all(text, |source| {
+        let model: Vec<u8> = source.list("model");
+        let mut cases = Vec::new();
+        while source.sees(word) {
+            cases.push(next(source, &model));
+        }
+        cases
+    });
+    groups.into_iter().flatten().collect()
+}
+
+pub fn programs(text: &str) -> Vec<ProgramCase> {
+    all(text, |source| ProgramCase {
+        model: source.list("model"),
+        input: source.list("input"),
+        output: source.list("output"),
+    })
 }
 
 pub fn wide_runs(text: &str) -> Vec<WideCase> {
-    let mut source = Source::new(text);
-    let mut cases = Vec::new();
-    while !source.ended() {
-        cases.push(WideCase {
-            input: source.list("input"),
-            output: source.list("output"),
-        });
-    }
-    cases
+    all(text, |source| WideCase {
+        input: source.list("input"),
+        output: source.list("output"),
+    })
 }
 
 pub fn texts(text: &str) -> Vec<TextCase> {
-    let mut source = Source::new(text);
-    let mut cases = Vec::new();
-    while !source.ended() {
-        let model: Vec<u8> = source.list("model");
-        while source.sees("text") {
-            cases.push(text_case(&mut source, &model));
-        }
-    }
-    cases
+    beside_models(text, "text", text_case)
 }
 
 fn text_case(source: &mut Source, model: &[u8]) -> TextCase {
@@ -390,15 +392,7 @@ fn text_case(source: &mut Source, model: &[u8]) -> TextCase {
 }
 
 pub fn values(text: &str) -> Vec<ValuesCase> {
-    let mut source = Source::new(text);
-    let mut cases = Vec::new();
-    while !source.ended() {
-        let model: Vec<u8> = source.list("model");
-        while source.sees("values") {
-            cases.push(values_case(&mut source, &model));
-        }
-    }
-    cases
+    beside_models(text, "values", values_case)
 }
 
 fn values_case(source: &mut Source, model: &[u8]) -> ValuesCase {
@@ -436,15 +430,7 @@ fn values_case(source: &mut Source, model: &[u8]) -> ValuesCase {
 }
 
 pub fn joins(text: &str) -> Vec<JoinCase> {
-    let mut source = Source::new(text);
-    let mut cases = Vec::new();
-    while !source.ended() {
-        let model: Vec<u8> = source.list("model");
-        while source.sees("mandatory") {
-            cases.push(join_case(&mut source, &model));
-        }
-    }
-    cases
+    beside_models(text, "mandatory", join_case)
 }
 
 fn join_case(source: &mut Source, model: &[u8]) -> JoinCase {

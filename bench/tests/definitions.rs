@@ -2,6 +2,7 @@
 //! hand.
 
 use bench::calls::{Call, Store, FIRE, MARKS, PICK, UNDO, VALUE};
+use bench::example;
 use bench::program::gtsrun;
 use bench::reference::{self, Refusal, ENGINE};
 use bench::tree;
@@ -26,29 +27,7 @@ fn run(sizes: [u16; 4], nodes: &[(u8, i32)], input: &str) -> String {
 
 /// The example in full.
 fn example() -> Vec<u8> {
-    let nodes = [
-        (1, 1),
-        (1, 0),
-        (1, 0),
-        (5, 0),
-        (34, 0),
-        (17, 0),
-        (33, 0),
-        (5, 1),
-        (35, 0),
-        (34, 0),
-        (17, 0),
-        (33, 1),
-        (19, 2),
-        (17, 2),
-        (46, 0),
-        (34, 0),
-        (34, 1),
-        (33, 0),
-        (17, 1),
-        (33, 1),
-    ];
-    file([1, 2, 2, 2], &nodes)
+    file(example::SIZES, &example::NODES)
 }
 
 #[test]

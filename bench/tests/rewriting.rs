@@ -3,6 +3,7 @@
 use std::collections::BTreeMap;
 
 use bench::calls::Rewriting;
+use bench::example;
 use bench::model_gen::{self, OldFile};
 use bench::program::{gtsrun, gtswide};
 use bench::random::Random;
@@ -40,31 +41,9 @@ fn text(old: &[u8]) -> String {
     String::from_utf8_lossy(&gtswide(&ENGINE, old)).into_owned()
 }
 
-/// The scope document's example, of 20 nodes.
+/// The scope document's example, as an old file.
 fn example() -> Vec<u8> {
-    const NODES: [Node; 20] = [
-        (1, 1),
-        (1, 0),
-        (1, 0),
-        (5, 0),
-        (34, 0),
-        (17, 0),
-        (33, 0),
-        (5, 1),
-        (35, 0),
-        (34, 0),
-        (17, 0),
-        (33, 1),
-        (19, 2),
-        (17, 2),
-        (46, 0),
-        (34, 0),
-        (34, 1),
-        (33, 0),
-        (17, 1),
-        (33, 1),
-    ];
-    file([1, 2, 2, 2], &NODES)
+    file(example::SIZES, &example::NODES)
 }
 
 #[test]

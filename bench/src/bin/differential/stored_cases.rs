@@ -54,48 +54,54 @@ fn rewritten(tally: &mut Tally, name: &str, old: &[u8], refused: Option<u8>) -> 
     }
 }
 
-fn old_checks(tally: &mut Tally) -> usize {
+/// Each case whose old file is rewritten, run with the new file; gives how many. Of a case its old file is told, and what refuses that.
+fn rewritten_cases<C>(
+    tally: &mut Tally,
+    cases: Vec<C>,
+    name: &str,
+    old: impl Fn(&C) -> (&[u8], Option<u8>),
+    mut run: impl FnMut(&mut Tally, &str, C, Vec<u8>),
+) -> usize {
     let mut count = 0;
-    let checks = stored::checks(&stored::text("old/checks.txt"));
-    for (place, mut case) in checks.into_iter().enumerate() {
-        let name = format!("old/checks.txt, check {place}");
-        if let Some(model) = rewritten(tally, &name, &case.model, case.want.err()) {
-            case.model = model;
-            compare_check(tally, &name, &case);
+    for (place, case) in cases.into_iter().enumerate() {
+        let name = format!("{name} {place}");
+        let (model, refused) = old(&case);
+        if let Some(model) = rewritten(tally, &name, model, refused) {
+            run(tally, &name, case, model);
             count += 1;
         }
     }
     count
+}
+
+fn old_checks(tally: &mut Tally) -> usize {
+    rewritten_cases(
+        tally,
+        stored::checks(&stored::text("old/checks.txt")),
+        "old/checks.txt, check",
+        |case| (&case.model[..], case.want.err()),
+        |tally, name, case, model| compare_check(tally, name, &CheckCase { model, ..case }),
+    )
 }
 
 fn old_texts(tally: &mut Tally) -> usize {
-    let mut count = 0;
-    let texts = stored::texts(&stored::text("old/texts.txt"));
-    for (place, mut case) in texts.into_iter().enumerate() {
-        let name = format!("old/texts.txt, text {place}");
-        let refused = refusal_of_file(case.want);
-        if let Some(model) = rewritten(tally, &name, &case.model, refused) {
-            case.model = model;
-            compare_text(tally, &name, &case);
-            count += 1;
-        }
-    }
-    count
+    rewritten_cases(
+        tally,
+        stored::texts(&stored::text("old/texts.txt")),
+        "old/texts.txt, text",
+        |case| (&case.model[..], refusal_of_file(case.want)),
+        |tally, name, case, model| compare_text(tally, name, &TextCase { model, ..case }),
+    )
 }
 
 fn old_values(tally: &mut Tally) -> usize {
-    let mut count = 0;
-    let values = stored::values(&stored::text("old/values.txt"));
-    for (place, mut case) in values.into_iter().enumerate() {
-        let name = format!("old/values.txt, values {place}");
-        let refused = refusal_of_file(case.want);
-        if let Some(model) = rewritten(tally, &name, &case.model, refused) {
-            case.model = model;
-            compare_values(tally, &name, &case);
-            count += 1;
-        }
-    }
-    count
+    rewritten_cases(
+        tally,
+        stored::values(&stored::text("old/values.txt")),
+        "old/values.txt, values",
+        |case| (&case.model[..], refusal_of_file(case.want)),
+        |tally, name, case, model| compare_values(tally, name, &ValuesCase { model, ..case }),
+    )
 }
 
 fn old_lists(tally: &mut Tally, file: &str) -> usize {
@@ -115,35 +121,30 @@ fn old_lists(tally: &mut Tally, file: &str) -> usize {
 }
 
 fn old_programs(tally: &mut Tally, file: &str) -> usize {
-    let mut count = 0;
-    for (place, mut case) in stored::programs(&stored::text(file))
-        .into_iter()
-        .enumerate()
-    {
-        let name = format!("{file}, program {place}");
-        if let Some(model) = rewritten(tally, &name, &case.model, case.refused()) {
+    rewritten_cases(
+        tally,
+        stored::programs(&stored::text(file)),
+        &format!("{file}, program"),
+        |case| (&case.model[..], case.refused()),
+        |tally, name, mut case, model| {
             case.drop_long_fires();
             case.model = model;
-            compare_program(tally, &name, &case);
-            count += 1;
-        }
-    }
-    count
+            compare_program(tally, name, &case);
+        },
+    )
 }
 
 /// Joins in the rewritten files, as the Rust implementation makes them: an old limit may have been the reason of a refusal.
 fn old_joins(tally: &mut Tally) -> usize {
-    let mut count = 0;
-    let joins = stored::joins(&stored::text("old/joins.txt"));
-    for (place, case) in joins.iter().enumerate() {
-        let name = format!("old/joins.txt, join {place}");
-        let refused = refusal_of_file(case.want);
-        if let Some(model) = rewritten(tally, &name, &case.model, refused) {
-            crate::joins::perform(tally, &name, &model, &case.lent_wide());
-            count += 1;
-        }
-    }
-    count
+    rewritten_cases(
+        tally,
+        stored::joins(&stored::text("old/joins.txt")),
+        "old/joins.txt, join",
+        |case| (&case.model[..], refusal_of_file(case.want)),
+        |tally, name, case, model| {
+            crate::joins::perform(tally, name, &model, &case.lent_wide());
+        },
+    )
 }
 
 fn wide_runs(tally: &mut Tally) -> usize {
