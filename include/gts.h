@@ -2,7 +2,7 @@
  *
  * A model is a file of S states, F flows, E events, T transitions and N nodes, lent as bytes to every call. A run is
  *   values   int32_t, at least S + F of them: states, then flows; a Boolean is 0 or 1
- *   marks    uint8_t, at least T of them: for each transition 1 if its guard is true, 0 false, 2 failed
+ *   marks    uint8_t, at least T of them: for each transition 1 if its guard is true, 0 false, 2 failed, whatever the reason
  *   history  uint16_t, a place for each recorded transition; its length is how many steps can be recorded
  *   n        how many are recorded
  * A caller keeps them from one call to the next. Any content will do: a call that cannot go on from it refuses. gts_start
@@ -26,8 +26,8 @@
  * Each call answers 0 and its results, or one of the numbers below, and then nothing that was lent has changed, results
  * included. Cells past those in use are neither looked at nor written, but for place n of the history, which gts_fire
  * writes. If several refusals apply, the one that is named first at the call is answered; but among 4 to 7 the first
- * offending node decides (at one node the lowest number), and among 28 to 30 the first round with a fault (in one round
- * the lowest number).
+ * offending node decides (at one node the lowest number), and among 28, 40, 29, 30 the first round with a fault (in one
+ * round the one that is named first).
  *
  * No two buffers or cells of one call may overlap, and no pointer may be NULL, also where its length is 0. Lengths are
  * counted in elements, not in bytes. No call keeps a pointer, holds state, takes memory from the heap or does not end. */
@@ -51,8 +51,9 @@ extern "C" {
  * may be others. 3.0: a call on a run needs more stack (GTS_STACK_BYTES); no call and no answer changed. 4.0: a model's
  * sizes S, F, E, T take two bytes each, and a cell of the history is a uint16_t: gts_fire, gts_undo, gts_marks, gts_value and
  * gts_pick are lent it so. An old file goes through gts_rewrite first. Models may be larger (the GTS_MAX_ constants, 1, 2, 3
- * and 36), and are refused by 37 too; a call on a run and a join need more stack (GTS_STACK_BYTES, GTS_SYNCHRONISE_STACK_BYTES). */
-#define GTS_VERSION_MAJOR 4
+ * and 36), and are refused by 37 too; a call on a run and a join need more stack (GTS_STACK_BYTES, GTS_SYNCHRONISE_STACK_BYTES).
+ * 5.0: 24, 25 and 28 are a divisor of 0 alone, by new names; a number beyond 32 bits is 38, 39 or 40. */
+#define GTS_VERSION_MAJOR 5
 #define GTS_VERSION_MINOR 0
 
 /* The largest model. */
@@ -70,12 +71,12 @@ extern "C" {
 #define GTS_SIZES 5        /* of `sizes`; of `values` it is S + F, of `marks` and `buffer` T, of `history` none */
 #define GTS_TEXT_NODES 400 /* of `kinds` and of `parameters`: no text has more nodes */
 
-/* The stack that a call on a run, gts_check or gts_rewrite needs, in bytes: the most that was measured is 318,752 (README),
+/* The stack that a call on a run, gts_check or gts_rewrite needs, in bytes: the most that was measured is 319,216 (README),
  * rounded up. A thread whose stack is smaller must not make the call. The arrays have fixed sizes, and recursion goes by
  * depth, at most GTS_MAX_DEPTH. */
 #define GTS_STACK_BYTES 327680
 
-/* The stack that gts_synchronise needs: the most that was measured is 196,624 (README), rounded up. Recursion goes by
+/* The stack that gts_synchronise needs: the most that was measured is 196,848 (README), rounded up. Recursion goes by
  * depth, at most GTS_MAX_DEPTH. */
 #define GTS_SYNCHRONISE_STACK_BYTES 204800
 
@@ -109,11 +110,14 @@ enum gts_refusal {
     GTS_NOTHING_TO_UNDO = 22,    /* n is 0 */
     /* the step */
     GTS_GUARD_FALSE = 23,
-    GTS_GUARD_FAILED = 24,       /* a divisor is 0, or a number is beyond 32 bits */
-    GTS_ACTION_FAILED = 25,
+    GTS_GUARD_ZERO_DIVISOR = 24, /* a divisor is 0 */
+    GTS_GUARD_TOO_LARGE = 38,    /* a number is beyond 32 bits */
+    GTS_ACTION_ZERO_DIVISOR = 25,
+    GTS_ACTION_TOO_LARGE = 39,
     GTS_ACTION_OUTSIDE = 26,     /* a value outside its variable's ends */
     GTS_ACTION_CONFLICT = 27,    /* two different values for one variable */
-    GTS_ASSERTION_FAILED = 28,
+    GTS_ASSERTION_ZERO_DIVISOR = 28,
+    GTS_ASSERTION_TOO_LARGE = 40,
     GTS_ASSERTION_OUTSIDE = 29,
     GTS_ASSERTION_CONFLICT = 30,
     GTS_REPLAY_REFUSED = 31,     /* start, or one of the first n - 1 entries, cannot be fired again */
@@ -131,11 +135,12 @@ enum gts_refusal {
 uint8_t gts_check(const uint8_t *model, size_t len, uint32_t *sizes, size_t sizes_len);
 
 /* The states take their initial values, then the assertion gives the flows theirs; the marks become those of the guards, n
- * becomes 0. `rounds` is how many rounds the assertion took, at most F + 1. Refuses by 1, 2, 37, 3 to 8, 9, 10, 28 to 30. */
+ * becomes 0. `rounds` is how many rounds the assertion took, at most F + 1. Refuses by 1, 2, 37, 3 to 8, 9, 10, 28, 40, 29, 30. */
 uint8_t gts_start(const uint8_t *model, size_t len, int32_t *values, size_t values_len, uint8_t *marks, size_t marks_len, size_t *n, size_t *rounds);
 
 /* Guard, action, assertion, then the transition at place n of the history, n one higher; the marks become those of the
- * guards over the new values. Refuses by 1, 2, 37, 3 to 8, 9, 10, 11, 20, 21, 23 to 30. */
+ * guards over the new values. Refuses by 1, 2, 37, 3 to 8, 9, 10, 11, 20, 21, 23, 24, 38, then 25, 39,
+ * 26, 27, then 28, 40, 29, 30. */
 uint8_t gts_fire(const uint8_t *model, size_t len, int32_t *values, size_t values_len, uint8_t *marks, size_t marks_len, uint16_t *history, size_t history_len, size_t *n, size_t transition, size_t *rounds);
 
 /* The values become those of a start and of the first n - 1 entries of the history fired again, the marks those of the

@@ -1,6 +1,7 @@
-//! The stored cases under cases/: checks.txt, calls.txt, programs.txt, gtswide.txt, texts.txt, values.txt, joins.txt; and
-//! those with old files, under cases/old/. Each line is a word and decimal numbers.
+//! The stored cases under cases/: checks.txt, calls.txt, programs.txt, gtswide.txt, texts.txt, values.txt, joins.txt; those
+//! from before A8; and those with old files, under cases/old/. Each line is a word and decimal numbers.
 
+pub mod manners;
 pub mod old;
 
 use std::iter::Peekable;

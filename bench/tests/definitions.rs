@@ -84,14 +84,14 @@ fn rows_d_to_g() {
     assert_eq!(operation(45, 7, -2), "ok 2 1\n");
     assert_eq!(operation(44, -7, 2), "ok 2 -3\n");
     assert_eq!(operation(45, -7, 2), "ok 2 -1\n");
-    assert_eq!(operation(44, i32::MIN, -1), "no 28\n");
+    assert_eq!(operation(44, i32::MIN, -1), "no 40\n");
     assert_eq!(operation(45, i32::MIN, -1), "ok 2 0\n");
     assert_eq!(operation(43, 46_340, 46_340), "ok 2 2147395600\n");
-    assert_eq!(operation(43, 46_341, 46_341), "no 28\n");
+    assert_eq!(operation(43, 46_341, 46_341), "no 40\n");
     assert_eq!(operation(44, 1, 0), "no 28\n");
     assert_eq!(operation(45, 1, 0), "no 28\n");
-    assert_eq!(operation(41, i32::MAX, 1), "no 28\n");
-    assert_eq!(operation(42, i32::MIN, 1), "no 28\n");
+    assert_eq!(operation(41, i32::MAX, 1), "no 40\n");
+    assert_eq!(operation(42, i32::MIN, 1), "no 40\n");
     assert_eq!(operation(42, -1, i32::MAX), "ok 2 -2147483648\n");
 }
 

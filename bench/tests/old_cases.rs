@@ -1,10 +1,11 @@
-//! The stored cases with old files: the refused ones through gtswide, the others rewritten, with the old answers.
+//! The stored cases with old files: the refused ones through gtswide, the others rewritten, with the old answers. Failures have
+//! today's numbers.
 
 use bench::calls::{Call, FIRST_OUTSIDE};
 use bench::program::gtsrun;
 use bench::reference::{self, ENGINE};
 use bench::stored::old::{refusal_of_file, rewritten_file, widened, CALL_FILES, PROGRAM_FILES};
-use bench::stored::{self, JoinCase, Lent, ListCase};
+use bench::stored::{self, manners, JoinCase, Lent, ListCase};
 
 /// The rewritten file, or none where the old check refuses the old one by this number.
 fn rewritten(old: &[u8], refused: Option<u8>) -> Option<Vec<u8>> {
@@ -52,7 +53,7 @@ fn follow(case: &ListCase, model: &[u8]) -> usize {
 
 /// How many lists there are, how many of them have an accepted model, and how many calls these have.
 fn lists_as_stored(name: &str) -> [usize; 3] {
-    let cases = stored::lists(&stored::text(name));
+    let cases = manners::lists(name);
     let (mut accepted, mut calls) = (0, 0);
     for case in &cases {
         for old in [&case.model, &case.twin] {
@@ -77,7 +78,7 @@ fn lists_of_calls() {
 /// How many runs there are, how many of them have an accepted model, and how many lines of `f` with 4 or 5 digits were left
 /// out of these.
 fn programs_as_stored(name: &str) -> [usize; 3] {
-    let mut cases = stored::programs(&stored::text(name));
+    let mut cases = manners::programs(name);
     let (mut accepted, mut dropped) = (0, 0);
     for case in &mut cases {
         if let Some(model) = rewritten(&case.model, case.refused()) {

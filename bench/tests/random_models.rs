@@ -40,10 +40,12 @@ fn models_of_every_shape_are_accepted() {
 /// Each call's answers to models that are accepted.
 const ANSWERS: [(&str, &[u8]); 8] = [
     ("check", &[0, 10]),
-    ("start", &[0, 9, 10, 28, 29, 30]),
+    ("start", &[0, 9, 10, 28, 29, 30, 40]),
     (
         "fire",
-        &[0, 9, 10, 11, 20, 21, 23, 24, 25, 26, 27, 28, 29, 30],
+        &[
+            0, 9, 10, 11, 20, 21, 23, 24, 25, 26, 27, 28, 29, 30, 38, 39, 40,
+        ],
     ),
     ("undo", &[0, 9, 10, 20, 22, 31]),
     ("marks", &[0, 9, 10, 20]),

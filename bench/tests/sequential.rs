@@ -2,20 +2,19 @@
 //! assertion carried out by single assignments in any order, marks and pick. All must end as the reference
 //! implementation does.
 
+mod common;
+
+use std::collections::BTreeMap;
+
 use bench::calls::{FIRE, MARKS, START, UNDO};
 use bench::model_gen::{self, Shape};
 use bench::random::Random;
 use bench::reference::{self, Refusal, ENGINE};
 use bench::tree::{Expr, Instr, Model, Operator, Transition, Variable};
 
-#[derive(Clone, Copy, PartialEq, Debug)]
-enum Evaluation {
-    Unknown,
-    Failed,
-    Value(i64),
-}
-
+use common::{equals, too_large, zero_divisor, Evaluation, Manner};
 use Evaluation::{Failed, Unknown, Value};
+use Manner::{TooLarge, ZeroDivisor};
 
 type Valuation = Vec<Option<i32>>;
 
@@ -25,9 +24,9 @@ fn all_known(values: &[i32]) -> Valuation {
 
 fn evaluate(expr: &Expr, over: &Valuation) -> Evaluation {
     match expr {
-        Expr::Number(number) => Value(i64::from(*number)),
-        Expr::Boolean(value) => Value(i64::from(*value)),
-        Expr::Variable(variable) => over[*variable].map_or(Unknown, |value| Value(value.into())),
+        Expr::Number(number) => Value(*number),
+        Expr::Boolean(value) => Value(i32::from(*value)),
+        Expr::Variable(variable) => over[*variable].map_or(Unknown, Value),
         Expr::Not(operand) => match evaluate(operand, over) {
             Value(value) => Value(1 - value),
             other => other,
@@ -53,10 +52,11 @@ fn evaluate(expr: &Expr, over: &Valuation) -> Evaluation {
             if both.contains(&Unknown) {
                 return Unknown;
             }
-            let [Value(left), Value(right)] = both else {
-                return Failed;
-            };
-            calculate(*operator, left, right)
+            match both {
+                [Value(left), Value(right)] => calculate(*operator, left, right),
+                _ if both.contains(&Failed(ZeroDivisor)) => Failed(ZeroDivisor),
+                _ => Failed(TooLarge),
+            }
         }
     }
 }
@@ -65,13 +65,14 @@ fn evaluate(expr: &Expr, over: &Valuation) -> Evaluation {
 fn without_choice(condition: Evaluation, branches: [Evaluation; 2]) -> Evaluation {
     match branches {
         [Value(one), Value(two)] if one == two => Value(one),
-        _ if condition == Unknown || branches.contains(&Unknown) => Unknown,
-        _ => Failed,
+        _ if branches.contains(&Unknown) => Unknown,
+        _ => condition,
     }
 }
 
-fn calculate(operator: Operator, left: i64, right: i64) -> Evaluation {
+fn calculate(operator: Operator, left: i32, right: i32) -> Evaluation {
     use Operator::*;
+    let [left, right] = [left, right].map(i64::from);
     let number = match operator {
         And => left * right,
         Or => left.max(right),
@@ -81,67 +82,93 @@ fn calculate(operator: Operator, left: i64, right: i64) -> Evaluation {
         Plus => left + right,
         Minus => left - right,
         Times => left * right,
-        Div | Mod if right == 0 => return Failed,
+        Div | Mod if right == 0 => return Failed(ZeroDivisor),
         Div => left / right,
         Mod => left % right,
     };
-    if i32::try_from(number).is_ok() {
-        Value(number)
-    } else {
-        Failed
-    }
+    i32::try_from(number).map_or(Failed(TooLarge), Value)
 }
 
-/// The active assignments with a value, or none if a reached condition or an active expression failed.
-fn active(instr: &Instr, over: &Valuation) -> Option<Vec<(usize, i64)>> {
+/// What an instruction comes to.
+#[derive(Clone, Copy, PartialEq, Debug)]
+enum Effect {
+    /// A reached condition or an active expression failed.
+    Fails(Manner),
+    /// An active assignment has a value.
+    Gives(usize, i32),
+}
+
+fn effects(instr: &Instr, over: &Valuation) -> Vec<Effect> {
     match instr {
-        Instr::Skip => Some(vec![]),
+        Instr::Skip => vec![],
         Instr::Assign(target, value) => match evaluate(value, over) {
-            Unknown => Some(vec![]),
-            Failed => None,
-            Value(value) => Some(vec![(*target, value)]),
+            Unknown => vec![],
+            Failed(manner) => vec![Effect::Fails(manner)],
+            Value(value) => vec![Effect::Gives(*target, value)],
         },
         Instr::When(condition, body) => match evaluate(condition, over) {
-            Value(1) => active(body, over),
-            Failed => None,
-            _ => Some(vec![]),
+            Value(1) => effects(body, over),
+            Failed(manner) => vec![Effect::Fails(manner)],
+            _ => vec![],
         },
         Instr::Block(branches) => {
-            let each: Option<Vec<_>> = branches.iter().map(|branch| active(branch, over)).collect();
-            each.map(|each| each.concat())
+            let each = branches.iter().flat_map(|branch| effects(branch, over));
+            each.collect()
         }
     }
 }
 
-/// The lowest of 0 (failed), 1 (outside its ends), 2 (conflict), or the assignments.
+/// The numbers of a zero divisor, a number that is too large, a value outside its ends and a conflict, in their order.
+const OF_ACTION: [u8; 4] = [25, 39, 26, 27];
+const OF_ASSERTION: [u8; 4] = [28, 40, 29, 30];
+
+/// The assignments, or the first of these numbers that is due. With `against_known`, known values count as assigned.
 fn faultless(
     instr: &Instr,
     variables: &[Variable],
     over: &Valuation,
+    numbers: [u8; 4],
     against_known: bool,
 ) -> Result<Vec<(usize, i32)>, u8> {
-    let given = active(instr, over).ok_or(0)?;
-    let outside = |&(target, value): &(usize, i64)| {
-        let (low, high) = variables[target].ends();
-        value < low.into() || i64::from(high) < value
-    };
-    if given.iter().any(outside) {
-        return Err(1);
+    let effects = effects(instr, over);
+    for (manner, number) in [ZeroDivisor, TooLarge].into_iter().zip(numbers) {
+        if effects.contains(&Effect::Fails(manner)) {
+            return Err(number);
+        }
     }
-    let conflict = |&(target, value): &(usize, i64)| {
+    let value = |effect| match effect {
+        Effect::Gives(target, value) => Some((target, value)),
+        Effect::Fails(_) => None,
+    };
+    let given: Vec<(usize, i32)> = effects.into_iter().filter_map(value).collect();
+    let outside = |&(target, value): &(usize, i32)| !is_within(&variables[target], value);
+    if given.iter().any(outside) {
+        return Err(numbers[2]);
+    }
+    let conflict = |&(target, value): &(usize, i32)| {
         let known = over[target].filter(|_| against_known);
-        known.is_some_and(|known| i64::from(known) != value)
-            || given
-                .iter()
-                .any(|&(other, another)| other == target && another != value)
+        let others = given.iter().filter(|&&(other, _)| other == target);
+        let mut others = known.into_iter().chain(others.map(|&(_, another)| another));
+        others.any(|another| another != value)
     };
     if given.iter().any(conflict) {
-        return Err(2);
+        return Err(numbers[3]);
     }
-    Ok(given
-        .iter()
-        .map(|&(target, value)| (target, value as i32))
-        .collect())
+    Ok(given)
+}
+
+/// The same for one reading of the assertion.
+fn of_assertion(
+    model: &Model,
+    variables: &[Variable],
+    known: &Valuation,
+) -> Result<Vec<(usize, i32)>, u8> {
+    faultless(&model.assertion, variables, known, OF_ASSERTION, true)
+}
+
+fn is_within(variable: &Variable, value: i32) -> bool {
+    let (low, high) = variable.ends();
+    (low..=high).contains(&value)
 }
 
 /// States known, flows unknown.
@@ -160,7 +187,7 @@ fn by_rounds(model: &Model, states: &[i32]) -> Outcome {
     let mut known = beginning(model, states);
     let mut rounds = 0;
     loop {
-        let given = faultless(&model.assertion, &variables, &known, true).map_err(|f| 28 + f)?;
+        let given = of_assertion(model, &variables, &known)?;
         rounds += 1;
         let before = known.clone();
         for (flow, value) in given {
@@ -178,7 +205,7 @@ fn one_by_one(model: &Model, states: &[i32], random: &mut Random) -> Option<Vec<
     let variables: Vec<Variable> = model.variables().copied().collect();
     let mut known = beginning(model, states);
     loop {
-        let mut ready = faultless(&model.assertion, &variables, &known, true).ok()?;
+        let mut ready = of_assertion(model, &variables, &known).ok()?;
         ready.retain(|&(flow, _)| known[flow].is_none());
         if ready.is_empty() {
             break;
@@ -202,7 +229,7 @@ fn reset(model: &Model, variables: &[Variable], mut known: Valuation) -> Result<
     for (cell, variable) in known.iter_mut().zip(variables) {
         cell.get_or_insert(first(variable));
     }
-    faultless(&model.assertion, variables, &known, true).map_err(|fault| 28 + fault)?;
+    of_assertion(model, variables, &known)?;
     Ok(known.into_iter().flatten().collect())
 }
 
@@ -213,11 +240,12 @@ fn fired(model: &Model, old: &[i32], transition: usize) -> Outcome {
     let transition = &model.transitions[transition];
     match evaluate(&transition.guard, &over) {
         Value(1) => {}
-        Value(_) => return Err(23),
-        _ => return Err(24),
+        Failed(ZeroDivisor) => return Err(24),
+        Failed(TooLarge) => return Err(38),
+        _ => return Err(23),
     }
-    let given =
-        faultless(&transition.action, &variables, &over, false).map_err(|fault| 25 + fault)?;
+    // The old values may change.
+    let given = faultless(&transition.action, &variables, &over, OF_ACTION, false)?;
     let mut states = old[..model.states.len()].to_vec();
     for (state, value) in given {
         states[state] = value;
@@ -311,18 +339,18 @@ const BRANCH: usize = 1;
 const CONDITION: usize = 2;
 const EARLIER: usize = 3;
 
-/// A flow by if-then-else, of any two of four branches, under a condition that becomes known, that fails or that is the
-/// flow's own.
+/// A flow by if-then-else, of any two of five branches, under a condition that becomes known, that fails in either manner
+/// or that is the flow's own.
 fn conditional_models() -> Vec<Model> {
     let number = Expr::Number;
-    let failed = Expr::binary(Operator::Div, number(1), number(0));
-    let is_four = |expr| Expr::binary(Operator::EqualNumbers, expr, number(4));
     let conditions = [
         Expr::Variable(CONDITION),
-        is_four(failed.clone()),
-        is_four(Expr::Variable(RESULT)),
+        equals(zero_divisor(), 4),
+        equals(too_large(), 4),
+        equals(Expr::Variable(RESULT), 4),
     ];
-    let branches = [Expr::Variable(BRANCH), number(4), number(7), failed];
+    let known_or_later = [Expr::Variable(BRANCH), number(4), number(7)];
+    let branches = [&known_or_later[..], &[zero_divisor(), too_large()]].concat();
     let mut models = Vec::new();
     for condition in &conditions {
         for chosen in &branches {
@@ -404,13 +432,44 @@ fn compare_fire(model: &Model, values: &mut [i32], marks: &mut [u8], transition:
 
 fn are_within_ends(model: &Model, values: &[i32]) -> bool {
     let mut cells = values.iter().zip(model.variables());
-    cells.all(|(value, variable)| (variable.ends().0..=variable.ends().1).contains(value))
+    cells.all(|(&value, variable)| is_within(variable, value))
+}
+
+/// How fires ended; and of how many the guard or the action has branches that agree, or the action fails in both manners.
+#[derive(Debug, Default)]
+struct Fires {
+    accepted: usize,
+    refused: BTreeMap<u8, usize>,
+    agreeing: usize,
+    mixed: usize,
+}
+
+impl Fires {
+    /// A fire of any transition from these values, which must be as defined.
+    fn compare(
+        &mut self,
+        model: &Model,
+        values: &mut [i32],
+        marks: &mut [u8],
+        random: &mut Random,
+    ) {
+        let transition = random.below(model.transitions.len());
+        let over = all_known(values);
+        let Transition { guard, action, .. } = &model.transitions[transition];
+        self.agreeing += usize::from(agrees(guard, &over) || agrees_in(action, &over));
+        let fails = |manner| effects(action, &over).contains(&Effect::Fails(manner));
+        self.mixed += usize::from(fails(ZeroDivisor) && fails(TooLarge));
+        match compare_fire(model, values, marks, transition) {
+            Ok(_) => self.accepted += 1,
+            Err(number) => *self.refused.entry(number).or_default() += 1,
+        }
+    }
 }
 
 #[test]
 fn starts_and_fires_are_as_defined() {
     let mut random = Random::new(12);
-    let (mut fires, mut refused, mut agreeing) = (0, 0, 0);
+    let mut fires = Fires::default();
     for _ in 0..4_000 {
         let model = small_model(&mut random);
         let initial: Vec<i32> = model.states.iter().map(first).collect();
@@ -426,21 +485,15 @@ fn starts_and_fires_are_as_defined() {
             if random.chance(1, 3) {
                 values = any_values(&mut random, model.variables());
             }
-            if !are_within_ends(&model, &values) {
-                continue;
-            }
-            let transition = random.below(model.transitions.len());
-            let over = all_known(&values);
-            let Transition { guard, action, .. } = &model.transitions[transition];
-            agreeing += usize::from(agrees(guard, &over) || agrees_in(action, &over));
-            match compare_fire(&model, &mut values, &mut marks, transition) {
-                Ok(_) => fires += 1,
-                Err(_) => refused += 1,
+            if are_within_ends(&model, &values) {
+                fires.compare(&model, &mut values, &mut marks, &mut random);
             }
         }
     }
-    println!("{fires} fires, {refused} refused; {agreeing} with branches that agree");
-    assert!(fires > 10_000 && refused > 3_000 && agreeing > 500);
+    println!("{fires:?}");
+    assert!(fires.accepted > 10_000 && fires.agreeing > 500 && fires.mixed > 100);
+    assert_eq!(fires.refused.len(), 11);
+    assert!(fires.refused.values().all(|&times| times > 100));
 }
 
 /// The mark of each guard over these values.

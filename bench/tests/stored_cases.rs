@@ -4,7 +4,7 @@ use bench::calls::{Call, FIRST_OUTSIDE};
 use bench::program::{gtsrun, gtswide};
 use bench::reference::{self, ENGINE};
 use bench::stored::old::widened;
-use bench::stored::{self, Lent};
+use bench::stored::{self, manners, Lent, ListCase, ProgramCase};
 
 #[test]
 fn checks() {
@@ -33,12 +33,14 @@ fn checks() {
 
 #[test]
 fn lists_of_calls() {
-    assert_eq!(lists_as_stored("calls.txt"), (200, 2 * 2908));
+    let cases = stored::lists(&stored::text("calls.txt"));
+    assert_eq!(lists_as_stored(&cases), (220, 2 * 3175));
+    let earlier = manners::lists(manners::CALLS);
+    assert_eq!(lists_as_stored(&earlier), (200, 2 * 2908));
 }
 
-/// Every list of a file, with its model and with its twin; gives how many lists and calls there are.
-fn lists_as_stored(name: &str) -> (usize, usize) {
-    let cases = stored::lists(&stored::text(name));
+/// Every list, with its model and with its twin; gives how many lists and calls there are.
+fn lists_as_stored(cases: &[ListCase]) -> (usize, usize) {
     let mut calls = 0;
     for (place, case) in cases.iter().enumerate() {
         for model in [&case.model, &case.twin] {
@@ -69,12 +71,14 @@ fn lists_as_stored(name: &str) -> (usize, usize) {
 
 #[test]
 fn programs() {
-    assert_eq!(programs_as_stored("programs.txt"), 200);
+    let cases = stored::programs(&stored::text("programs.txt"));
+    assert_eq!(programs_as_stored(&cases), 200);
+    let earlier = manners::programs(manners::PROGRAMS);
+    assert_eq!(programs_as_stored(&earlier), 200);
 }
 
-/// Every run of a file; gives how many there are.
-fn programs_as_stored(name: &str) -> usize {
-    let cases = stored::programs(&stored::text(name));
+/// Every run; gives how many there are.
+fn programs_as_stored(cases: &[ProgramCase]) -> usize {
     for (place, case) in cases.iter().enumerate() {
         let output = gtsrun(&ENGINE, &case.model, &case.input);
         assert_eq!(

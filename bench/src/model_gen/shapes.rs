@@ -354,7 +354,7 @@ fn faulty_value(random: &mut Random) -> Expr {
         1 => Expr::Number(3),
         2 => Expr::Number(0),
         3 => Expr::Variable(random.below(4)),
-        4 => Expr::binary(Operator::Times, Expr::Variable(3), failed()),
+        4 => Expr::binary(Operator::Times, Expr::Variable(3), failed(random)),
         5..=10 => {
             let condition = undecided_condition(random);
             let chosen = faulty_branch(random);
@@ -367,7 +367,7 @@ fn faulty_value(random: &mut Random) -> Expr {
 /// Such a value; more of these fail or wait.
 fn faulty_branch(random: &mut Random) -> Expr {
     match random.below(6) {
-        0 | 1 => failed(),
+        0 | 1 => failed(random),
         2 => Expr::Variable(random.between(2, 3)),
         _ => faulty_value(random),
     }
@@ -377,7 +377,7 @@ fn faulty_branch(random: &mut Random) -> Expr {
 fn undecided_condition(random: &mut Random) -> Expr {
     match random.below(4) {
         0 => edge_condition(random),
-        1 => Expr::binary(Operator::Less, failed(), Expr::Number(0)),
+        1 => Expr::binary(Operator::Less, failed(random), Expr::Number(0)),
         _ => is_one(random.between(2, 3)),
     }
 }

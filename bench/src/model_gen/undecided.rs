@@ -67,11 +67,12 @@ fn constant(random: &mut Random, is_boolean: bool) -> Expr {
     }
 }
 
-fn failed_leaf(is_boolean: bool) -> Expr {
+fn failed_leaf(random: &mut Random, is_boolean: bool) -> Expr {
+    let number = failed(random);
     if is_boolean {
-        Expr::binary(Operator::EqualNumbers, failed(), Expr::Number(1))
+        Expr::binary(Operator::EqualNumbers, number, Expr::Number(1))
     } else {
-        failed()
+        number
     }
 }
 
@@ -82,7 +83,7 @@ fn leaf(random: &mut Random, is_boolean: bool) -> Expr {
         false => (NUMBER, NUMBERS),
     };
     match random.below(7) {
-        0 => failed_leaf(is_boolean),
+        0 => failed_leaf(random, is_boolean),
         1..=3 => Expr::Variable(*random.one(&flows)),
         4 => Expr::Variable(state),
         _ => constant(random, is_boolean),

@@ -87,7 +87,10 @@ impl Writer<'_> {
             return self.conditional(readable, false, below);
         }
         if (self.ends && self.random.chance(1, 4)) || self.is_wild() {
-            return edge(self.random);
+            return match self.random.chance(1, 3) {
+                true => failed(self.random),
+                false => edge(self.random),
+            };
         }
         let operator = *self
             .random
@@ -364,9 +367,35 @@ pub fn edge(random: &mut Random) -> Expr {
     Expr::binary(operator, Expr::Number(left), Expr::Number(right))
 }
 
-/// An operation that fails.
-pub fn failed() -> Expr {
-    Expr::binary(Operator::Div, Expr::Number(1), Expr::Number(0))
+/// An operation that fails, in either manner, or over operands of which one or both fail.
+pub fn failed(random: &mut Random) -> Expr {
+    use Operator::*;
+    const ZERO_DIVISORS: [(Operator, i32, i32); 3] = [(Div, 1, 0), (Mod, 1, 0), (Div, 0, 0)];
+    const TOO_LARGE: [(Operator, i32, i32); 5] = [
+        (Plus, i32::MAX, 1),
+        (Minus, i32::MIN, 1),
+        (Times, 46_341, 46_341),
+        (Times, 65_536, -65_536),
+        (Div, i32::MIN, -1),
+    ];
+    if random.chance(1, 6) {
+        let operator = *random.one(&[Plus, Minus, Times, Div, Mod]);
+        let one = failed(random);
+        let two = if random.coin() {
+            failed(random)
+        } else {
+            edge(random)
+        };
+        return match random.coin() {
+            true => Expr::binary(operator, one, two),
+            false => Expr::binary(operator, two, one),
+        };
+    }
+    let &(operator, left, right) = match random.coin() {
+        true => random.one(&ZERO_DIVISORS),
+        false => random.one(&TOO_LARGE),
+    };
+    Expr::binary(operator, Expr::Number(left), Expr::Number(right))
 }
 
 /// Whether an operation at an edge is below 0.

@@ -6,8 +6,16 @@ use super::model::{Expr, ExprId, Model, Operator};
 #[derive(Clone, Copy, Debug, PartialEq, Eq)]
 pub enum Evaluation {
     Unknown,
-    Failed,
+    Failed(Failure),
     Value(i32),
+}
+
+/// In which manner an expression failed. Where operands failed in both, the first one here wins.
+#[derive(Clone, Copy, Debug, PartialEq, Eq, PartialOrd, Ord)]
+pub enum Failure {
+    ZeroDivisor,
+    /// A number beyond 32 bits.
+    TooLarge,
 }
 
 use Evaluation::{Failed, Unknown, Value};
@@ -41,14 +49,9 @@ impl Model {
             Expr::Binary(Operator::And, left, right) => self.decide(left, right, 0, valuation),
             Expr::Binary(Operator::Or, left, right) => self.decide(left, right, 1, valuation),
             Expr::Binary(operator, left, right) => {
-                match (
-                    self.evaluate(left, valuation),
-                    self.evaluate(right, valuation),
-                ) {
-                    (Value(left), Value(right)) => calculate(operator, left, right),
-                    (Unknown, _) | (_, Unknown) => Unknown,
-                    _ => Failed,
-                }
+                let left = self.evaluate(left, valuation);
+                let right = self.evaluate(right, valuation);
+                both_known(left, right, |left, right| calculate(operator, left, right))
             }
             Expr::Conditional(condition, chosen, other) => {
                 match self.evaluate(condition, valuation) {
@@ -64,7 +67,7 @@ impl Model {
         }
     }
 
-    /// `and` (decided by 0) and `or` (decided by 1): either operand decides, then unknown comes before failed.
+    /// `and` (decided by 0) and `or` (decided by 1): either operand decides.
     fn decide<V: Valuation + ?Sized>(
         &self,
         left: ExprId,
@@ -77,12 +80,24 @@ impl Model {
             return left;
         }
         let right = self.evaluate(right, valuation);
-        match (left, right) {
-            (_, Value(value)) if value == decisive => right,
-            (Unknown, _) | (_, Unknown) => Unknown,
-            (Failed, _) | (_, Failed) => Failed,
-            _ => Value(1 - decisive),
+        if right == Value(decisive) {
+            return right;
         }
+        both_known(left, right, |_, _| Value(1 - decisive))
+    }
+}
+
+/// What an operator gives for two values. Without these, unknown comes before failed.
+fn both_known(
+    left: Evaluation,
+    right: Evaluation,
+    operate: impl FnOnce(i32, i32) -> Evaluation,
+) -> Evaluation {
+    match (left, right) {
+        (Value(left), Value(right)) => operate(left, right),
+        (Unknown, _) | (_, Unknown) => Unknown,
+        (Failed(one), Failed(two)) => Failed(one.min(two)),
+        (Failed(failure), _) | (_, Failed(failure)) => Failed(failure),
     }
 }
 
@@ -106,9 +121,10 @@ fn calculate(operator: Operator, left: i32, right: i32) -> Evaluation {
         Operator::Plus => left.checked_add(right),
         Operator::Minus => left.checked_sub(right),
         Operator::Times => left.checked_mul(right),
+        Operator::Div | Operator::Mod if right == 0 => return Failed(Failure::ZeroDivisor),
         Operator::Div => left.checked_div(right),
         // The least number mod -1 is 0.
-        Operator::Mod => (right != 0).then(|| left.wrapping_rem(right)),
+        Operator::Mod => Some(left.wrapping_rem(right)),
     };
-    number.map_or(Failed, Value)
+    number.map_or(Failed(Failure::TooLarge), Value)
 }

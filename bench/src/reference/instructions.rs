@@ -1,46 +1,56 @@
 //! Actions and the assertion.
 
-use super::evaluation::{Evaluation, Valuation};
+use super::evaluation::{Evaluation, Failure, Valuation};
 use super::model::{Instr, InstrId, Model};
 use super::Refusal;
 
-/// An expression failed where it counts.
-struct Failure;
+/// What is wrong with an action or with a round, in the order of the refusals.
+#[derive(Clone, Copy, PartialEq, Eq, PartialOrd, Ord)]
+enum Fault {
+    Failed(Failure),
+    /// A value outside its ends.
+    Outside,
+    /// Two values for one variable.
+    Conflict,
+}
 
-/// What is wrong with the values that the active assignments give.
+/// The first fault of all that are met, if any is.
 #[derive(Default)]
-struct Faults {
-    outside: bool,
-    conflict: bool,
+struct Faults(Option<Fault>);
+
+impl Faults {
+    fn meet(&mut self, fault: Fault) {
+        self.0 = Some(self.0.map_or(fault, |first| first.min(fault)));
+    }
 }
 
 impl Model {
-    /// Hands every active assignment that has a value to `give`. Unknown conditions and expressions wait.
+    /// Hands every active assignment that has a value to `each`, and every failure of an active expression or of a reached
+    /// condition. Unknown conditions and expressions wait.
     fn active<V: Valuation + ?Sized>(
         &self,
         id: InstrId,
         valuation: &V,
-        give: &mut impl FnMut(usize, i32),
-    ) -> Result<(), Failure> {
+        each: &mut impl FnMut(Result<(usize, i32), Failure>),
+    ) {
         match self.instr(id) {
             Instr::Skip => {}
             Instr::Assign { target, value } => match self.evaluate(value, valuation) {
                 Evaluation::Unknown => {}
-                Evaluation::Failed => return Err(Failure),
-                Evaluation::Value(value) => give(target as usize, value),
+                Evaluation::Failed(failure) => each(Err(failure)),
+                Evaluation::Value(value) => each(Ok((target as usize, value))),
             },
             Instr::When { condition, body } => match self.evaluate(condition, valuation) {
                 Evaluation::Unknown | Evaluation::Value(0) => {}
-                Evaluation::Failed => return Err(Failure),
-                Evaluation::Value(_) => self.active(body, valuation, give)?,
+                Evaluation::Failed(failure) => each(Err(failure)),
+                Evaluation::Value(_) => self.active(body, valuation, each),
             },
             Instr::Block { first, end } => {
                 for &branch in self.branches(first, end) {
-                    self.active(branch, valuation, give)?;
+                    self.active(branch, valuation, each);
                 }
             }
         }
-        Ok(())
     }
 
     /// Fires a transition on the values of all variables, unrecorded: guard, action, assertion. Gives the round
@@ -50,7 +60,9 @@ impl Model {
         match self.evaluate(transition.guard, values) {
             Evaluation::Value(1) => {}
             Evaluation::Value(_) => return Err(Refusal::GuardFalse),
-            _ => return Err(Refusal::GuardFailed),
+            Evaluation::Failed(Failure::ZeroDivisor) => return Err(Refusal::GuardZeroDivisor),
+            Evaluation::Failed(Failure::TooLarge) => return Err(Refusal::GuardTooLarge),
+            Evaluation::Unknown => unreachable!("all variables are known"),
         }
         let states = self.act(transition.action, values)?;
         let (flows, rounds) = self.propagate(&states)?;
@@ -68,29 +80,32 @@ impl Model {
         Ok((values, rounds))
     }
 
-    /// The states after an action over the old values.
+    /// The states after an action over the old values; the first fault in the order 25, 39, 26, 27 counts.
     fn act(&self, action: InstrId, old: &[i32]) -> Result<Vec<i32>, Refusal> {
         let mut faults = Faults::default();
         let mut given = vec![None; self.sizes.states];
-        self.active(action, old, &mut |state: usize, value| {
-            if !self.variables[state].admits(value) {
-                faults.outside = true;
-            } else if *given[state].get_or_insert(value) != value {
-                faults.conflict = true;
+        self.active(action, old, &mut |active| match active {
+            Err(failure) => faults.meet(Fault::Failed(failure)),
+            Ok((state, value)) if !self.variables[state].admits(value) => {
+                faults.meet(Fault::Outside)
             }
-        })
-        .map_err(|Failure| Refusal::ActionFailed)?;
-        if faults.outside {
-            return Err(Refusal::ActionOutside);
+            Ok((state, value)) => {
+                if *given[state].get_or_insert(value) != value {
+                    faults.meet(Fault::Conflict);
+                }
+            }
+        });
+        match faults.0 {
+            None => Ok(given
+                .iter()
+                .zip(old)
+                .map(|(new, &old)| new.unwrap_or(old))
+                .collect()),
+            Some(Fault::Failed(Failure::ZeroDivisor)) => Err(Refusal::ActionZeroDivisor),
+            Some(Fault::Failed(Failure::TooLarge)) => Err(Refusal::ActionTooLarge),
+            Some(Fault::Outside) => Err(Refusal::ActionOutside),
+            Some(Fault::Conflict) => Err(Refusal::ActionConflict),
         }
-        if faults.conflict {
-            return Err(Refusal::ActionConflict);
-        }
-        Ok(given
-            .iter()
-            .zip(old)
-            .map(|(new, &old)| new.unwrap_or(old))
-            .collect())
     }
 
     /// The flows that the assertion gives over these states, and the round count.
@@ -139,7 +154,7 @@ impl<'m> Round<'m> {
         }
     }
 
-    /// Reads every instruction over what is known; the lowest refusal counts.
+    /// Reads every instruction over what is known; the first fault in the order 28, 40, 29, 30 counts.
     fn read(&mut self, known: &[Option<i32>]) -> Result<(), Refusal> {
         let Round {
             model,
@@ -147,28 +162,27 @@ impl<'m> Round<'m> {
             fresh,
         } = self;
         let mut faults = Faults::default();
-        let give = &mut |flow: usize, value| {
-            if !model.variables[flow].admits(value) {
-                faults.outside = true;
-                return;
+        model.active(model.assertion, known, &mut |active| match active {
+            Err(failure) => faults.meet(Fault::Failed(failure)),
+            Ok((flow, value)) if !model.variables[flow].admits(value) => {
+                faults.meet(Fault::Outside)
             }
-            let old = known[flow].or(given[flow]);
-            if old.is_none() {
-                given[flow] = Some(value);
-                fresh.push(flow);
-            }
-            faults.conflict |= old.is_some_and(|old| old != value);
-        };
-        model
-            .active(model.assertion, known, give)
-            .map_err(|Failure| Refusal::AssertionFailed)?;
-        if faults.outside {
-            return Err(Refusal::AssertionOutside);
+            Ok((flow, value)) => match known[flow].or(given[flow]) {
+                None => {
+                    given[flow] = Some(value);
+                    fresh.push(flow);
+                }
+                Some(old) if old != value => faults.meet(Fault::Conflict),
+                Some(_) => {}
+            },
+        });
+        match faults.0 {
+            None => Ok(()),
+            Some(Fault::Failed(Failure::ZeroDivisor)) => Err(Refusal::AssertionZeroDivisor),
+            Some(Fault::Failed(Failure::TooLarge)) => Err(Refusal::AssertionTooLarge),
+            Some(Fault::Outside) => Err(Refusal::AssertionOutside),
+            Some(Fault::Conflict) => Err(Refusal::AssertionConflict),
         }
-        if faults.conflict {
-            return Err(Refusal::AssertionConflict);
-        }
-        Ok(())
     }
 
     /// Sets what the round gave, and makes ready for the next one.

@@ -21,11 +21,11 @@ pub enum Refusal {
     HistoryFull = 21,
     NothingToUndo = 22,
     GuardFalse = 23,
-    GuardFailed = 24,
-    ActionFailed = 25,
+    GuardZeroDivisor = 24,
+    ActionZeroDivisor = 25,
     ActionOutside = 26,
     ActionConflict = 27,
-    AssertionFailed = 28,
+    AssertionZeroDivisor = 28,
     AssertionOutside = 29,
     AssertionConflict = 30,
     ReplayRefused = 31,
@@ -38,6 +38,9 @@ pub enum Refusal {
     NewModelTooLarge = 36,
     /// S + F above 4,000.
     TooManyVariables = 37,
+    GuardTooLarge = 38,
+    ActionTooLarge = 39,
+    AssertionTooLarge = 40,
 }
 
 impl Refusal {

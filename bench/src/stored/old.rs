@@ -1,5 +1,5 @@
 //! The stored cases with old files, under cases/old/: the old check's refusals are those of gtswide, and the rewritten files
-//! give the old answers.
+//! give the old answers, but for the numbers of failures (manners.rs).
 
 use super::{JoinCase, ListCase, ProgramCase, Want};
 use crate::calls::{Engine, Join};

@@ -1,5 +1,5 @@
--- The sizes of what the program keeps, each named once. In the code struct `Program` has `places`, `file_bytes`, `kept_bytes` and
--- `line_bytes`, struct `Model` the most variables and transitions.
+-- The sizes of what the program keeps, each named once. In the code struct `Program` has `PLACES`, `FILE_BYTES`, `KEPT_BYTES` and
+-- `LINE_BYTES`, struct `Model` `MAX_VARIABLES` and `MAX_TRANSITIONS`.
 use Rattle.std.specs.Prelude.{ℕ, suc}
 use Rattle.model.specs.Sizes.{max_variables, file_layout, longest}
 use Rattle.commands.specs.Commands.{too_long}

@@ -81,7 +81,7 @@ module _ (m : Meaning) (k : ℕ) (old : List ℤ) where
   pub left_over : (x : Evaluation) (r : NotFired) → Err r ≡ admission x → answered (Err r) old ≡ left_by_guard m k old x
   unfolding admission left_by_guard
   left_over Unknown r e = let f : r ≡ Disabled = cc in rw f
-  left_over Failed r e = let f : r ≡ GuardFailed = cc in rw f
+  left_over (Failed manner) r e = let f : r ≡ GuardFailed manner = cc in rw f
   left_over (Value v) r e = by_value (eq_z v (boolean true)) r _ e
 
   by_true_lem : (b : Bool) (l : Left) → IsByTruth (Ok tt) b → l ≡ cond b l (answered (Err Disabled) old)
@@ -92,7 +92,7 @@ module _ (m : Meaning) (k : ℕ) (old : List ℤ) where
       → left_by_acting m old (m.action k (take (length m.declarations) old)) ≡ left_by_guard m k old x
   unfolding admission left_by_guard
   left_open Unknown e = let z : true ≡ false = cc in absurd (true≢false z)
-  left_open Failed e = let z : true ≡ false = cc in absurd (true≢false z)
+  left_open (Failed manner) e = let z : true ≡ false = cc in absurd (true≢false z)
   left_open (Value v) e = by_true_lem (eq_z v (boolean true)) _ e
 
 pub not_unknown : Ok tt ≡ admission Unknown → ⊥

@@ -22,7 +22,7 @@ pub record AllHeld (count : ℕ) (values : List ℤ) (cells : List (Option ℤ))
 -- by the guard: why nothing is fired where it is not true
 unfoldable pub admission : Evaluation → Result (Unit {0}) NotFired
 admission Unknown = Err Disabled
-admission Failed = Err GuardFailed
+admission (Failed m) = Err (GuardFailed m)
 admission (Value v) = cond (eq_z v (boolean true)) (Ok tt) (Err Disabled)
 
 -- by guard and action: what the firing leaves where it is over, with no states made, and where it goes on what the assertion

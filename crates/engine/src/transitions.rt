@@ -45,7 +45,7 @@ fn admit(guard: Evaluation) -> Result<(), NotFired>
 {
     match guard {
         guard if guard.is_true() => Ok(()),
-        Evaluation::Failed => Err(NotFired::GuardFailed),
+        Evaluation::Failed(manner) => Err(NotFired::GuardFailed(manner)),
         _ => Err(NotFired::Disabled),
     }
 }

@@ -7,11 +7,13 @@ use lib.Dec.{eqb, eqb-zero-suc, eqb-suc-zero, eqb-suc-suc}
 use lib.IntN.{ℤ, pos, negsuc, +ℤ_comm, *ℤ_comm}
 use Rattle.evaluation.specs.declared.Evaluation.{Evaluation}
 use Rattle.evaluation.specs.declared.Evaluation.TheVariants.{Unknown, Failed, Value}
+use Rattle.evaluation.specs.declared.Manner.{Manner}
+use Rattle.evaluation.specs.declared.Manner.TheVariants.{ZeroDivisor, TooLarge}
 use Rattle.evaluation.specs.declared.Operator.{Operator}
 use Rattle.evaluation.specs.declared.Operator.TheVariants.{Conjunction, Disjunction, Equality, Less, LessOrEqual, Sum, Difference, Product, Quotient, Remainder, Equivalence}
 use Rattle.evaluation.specs.Numbers.{checked, eq_z, boolean}
-use Rattle.evaluation.specs.Meaning.{operated, negated, chosen, symmetric, decides, is_unknown, is_failed, number, calculated, agree}
-use Rattle.evaluation.specs.Laws.{EndsExact, OperandsExchange, Grows, OperatorsGrow}
+use Rattle.evaluation.specs.Meaning.{operated, negated, chosen, symmetric, decides, decisive, is_unknown, same_manner, failed_in, number, calculated, divided, agree}
+use Rattle.evaluation.specs.Laws.{EndsExact, OperandsExchange, Grows, OperatorsGrow, ZeroDivides, MannersPass}
 use Rattle.evaluation.specs.Laws.Grows.{stays, known}
 
 pub ends_exact : EndsExact
@@ -75,7 +77,8 @@ operands_exchange op s a b =
     rw (
       or_comm (decides op a) (decides op b),
       or_comm (is_unknown a) (is_unknown b),
-      or_comm (is_failed a) (is_failed b),
+      or_comm (failed_in ZeroDivisor a) (failed_in ZeroDivisor b),
+      or_comm (failed_in TooLarge a) (failed_in TooLarge b),
       calculated_comm op s (number a) (number b),
     )
 
@@ -119,23 +122,23 @@ cond_grows false a a' b b' h k = k
 agree_same : (a b : Evaluation) → agree a b ≡ true → a ≡ b
 unfolding agree
 agree_same Unknown b e = absurd (false≢true e)
-agree_same Failed b e = absurd (false≢true e)
+agree_same (Failed m) b e = absurd (false≢true e)
 agree_same (Value v) Unknown e = absurd (false≢true e)
-agree_same (Value v) Failed e = absurd (false≢true e)
+agree_same (Value v) (Failed m) e = absurd (false≢true e)
 agree_same (Value v) (Value w) e = ap Value (eq_z_true v w e)
 
 -- an unknown second branch leaves 46 unknown, whatever the first is
-pub unknown_branch : (a : Evaluation) → (chosen Unknown a Unknown ≡ Unknown) × (chosen Failed a Unknown ≡ Unknown)
+pub unknown_branch : (m : Manner) (a : Evaluation) → (chosen Unknown a Unknown ≡ Unknown) × (chosen (Failed m) a Unknown ≡ Unknown)
 unfolding chosen agree is_unknown
-unknown_branch Unknown = (refl, refl)
-unknown_branch Failed = (refl, refl)
-unknown_branch (Value v) = (refl, refl)
+unknown_branch m Unknown = (refl, refl)
+unknown_branch m (Failed n) = (refl, refl)
+unknown_branch m (Value v) = (refl, refl)
 
 -- where the branches agree, the condition does not matter
 agreed : (c a b : Evaluation) → agree a b ≡ true → chosen c a b ≡ a
 unfolding chosen
 agreed Unknown a b e = rw e
-agreed Failed a b e = rw e
+agreed (Failed m) a b e = rw e
 agreed (Value v) a b e = cond_keeps (λ x. x ≡ a) (eq_z v (boolean true)) a b refl (sym (agree_same a b e))
 
 -- an unknown condition becomes known
@@ -152,10 +155,10 @@ branches_grow : (c a a' b b' : Evaluation) → Grows a a' → Grows b b' → Gro
 unfolding chosen agree is_unknown
 branches_grow Unknown a a' b b' stays stays = stays
 branches_grow Unknown a a' b b' known k = known
-branches_grow Unknown a a' b b' stays known = rw (unknown_branch a).0 known
-branches_grow Failed a a' b b' stays stays = stays
-branches_grow Failed a a' b b' known k = known
-branches_grow Failed a a' b b' stays known = rw (unknown_branch a).1 known
+branches_grow Unknown a a' b b' stays known = rw (unknown_branch ZeroDivisor a).0 known
+branches_grow (Failed m) a a' b b' stays stays = stays
+branches_grow (Failed m) a a' b b' known k = known
+branches_grow (Failed m) a a' b b' stays known = rw (unknown_branch m a).1 known
 branches_grow (Value v) a a' b b' h k = cond_grows (eq_z v (boolean true)) a a' b b' h k
 
 grows_trans : {a b c : Evaluation} → Grows a b → Grows b c → Grows a c
@@ -169,11 +172,34 @@ chosen_grows c c' a a' b b' known h k = grows_trans (condition_grows c' a b) (br
 pub operators_grow : OperatorsGrow
 operators_grow = (grows, negated_grows, chosen_grows)
 
+-- ---- the manner of what failed
+
+pub zero_divides : ZeroDivides
+unfolding operated decides decisive is_unknown failed_in number calculated divided eq_z
+zero_divides v = (refl, refl)
+
+pub zero_divisor_wins : (op : Operator) (m : Manner)
+    → (operated op (Failed ZeroDivisor) (Failed m) ≡ Failed ZeroDivisor) × (operated op (Failed m) (Failed ZeroDivisor) ≡ Failed ZeroDivisor)
+unfolding operated decides is_unknown failed_in same_manner
+zero_divisor_wins op ZeroDivisor = (refl, refl)
+zero_divisor_wins op TooLarge = (refl, refl)
+
+-- one operand failed, the other has a value
+pub failed_beside : (op : Operator) (m : Manner) (v : ℤ) → decisive op v ≡ false
+    → (operated op (Failed m) (Value v) ≡ Failed m) × (operated op (Value v) (Failed m) ≡ Failed m)
+unfolding operated decides is_unknown failed_in same_manner
+failed_beside op ZeroDivisor v e = (rw e, rw e)
+failed_beside op TooLarge v e = (rw e, rw e)
+
+pub manners_pass : MannersPass
+unfolding operated decides is_unknown failed_in same_manner negated chosen agree
+manners_pass = (zero_divisor_wins, λ op. refl, failed_beside, λ m. refl, λ m n o. refl)
+
 -- ---- what holds of unknown, of failed and of both branches holds of 46
 
-pub chosen_keeps : (P : Evaluation → Type 0) → P Unknown → P Failed → (c a b : Evaluation) → P a → P b → P (chosen c a b)
+pub chosen_keeps : (P : Evaluation → Type 0) → P Unknown → ((m : Manner) → P (Failed m)) → (c a b : Evaluation) → P a → P b → P (chosen c a b)
 unfolding chosen
 chosen_keeps P u f Unknown a b h k = cond_keeps P (agree a b) a Unknown h u
-chosen_keeps P u f Failed a b h k =
-    cond_keeps P (agree a b) a _ h (cond_keeps P (is_unknown a || is_unknown b) Unknown Failed u f)
+chosen_keeps P u f (Failed m) a b h k =
+    cond_keeps P (agree a b) a _ h (cond_keeps P (is_unknown a || is_unknown b) Unknown (Failed m) u (f m))
 chosen_keeps P u f (Value v) a b h k = cond_keeps P (eq_z v (boolean true)) a b h k

@@ -2,7 +2,7 @@
 -- width's power.
 use mathlib.Core.Path.{◌≡◌, refl, sym, ap, ◌∙◌}
 use mathlib.Core.Bool.{Bool, true, false, true≢false}
-use Prim.Native.Nat.{ℕ, zero, suc, ◌<◌, ◌^◌}
+use Prim.Native.Nat.{◌<◌, ◌^◌}
 use native.Mathlib.Omega.{arith}
 use borrow.Author.Tests.{eq-eqb, ne_eqb, le-leb, lt-leb}
 use lib.Dec.{eqb}
@@ -16,6 +16,7 @@ use Rattle.std.specs.Option.{SomeIff}
 use Rattle.std.specs.Int.{CanDivide}
 use Rattle.evaluation.specs.declared.Evaluation.{Evaluation}
 use Rattle.evaluation.specs.declared.Evaluation.TheVariants.{Failed, Value}
+use Rattle.evaluation.specs.declared.Manner.TheVariants.{ZeroDivisor, TooLarge}
 use Rattle.evaluation.specs.Numbers.{checked, eq_z}
 use Rattle.evaluation.specs.Meaning.{divided}
 use Rattle.evaluation.proofs.Laws.{eq_z_refl, eq_z_true}
@@ -64,7 +65,7 @@ one_fits = record { sfits = omega arith }
 
 -- ---- `checked`
 
-checked_beyond : (z : ℤ) → (SFits w32 z → ⊥) → checked z ≡ Failed
+checked_beyond : (z : ℤ) → (SFits w32 z → ⊥) → checked z ≡ Failed TooLarge
 unfolding checked
 checked_beyond (pos n) e =
     let beyond : n < 2147483648 → ⊥ = λ h. e (record { sfits = h }) in rw (lt-leb n 2147483647 (omega arith))
@@ -78,7 +79,7 @@ checked_fits (negsuc n) f = rw (le-leb n 2147483647 (omega (arith, f.sfits)))
 
 -- what `held` makes of a number or nothing, as a checked operator of the library answers
 abbrev pub Held : Option ℤ → Evaluation → Type 0
-Held v r = MatchOption v (r ≡ Failed) (λ x. r ≡ Value x)
+Held v r = MatchOption v (r ≡ Failed TooLarge) (λ x. r ≡ Value x)
 
 pub held_checked : (op : ℤ → ℤ → ℤ) {x y : ℤ} → SFits w32 x → SFits w32 y → (v : Option ℤ)
     → SomeIff v (SFits w32 (op (stored x) (stored y))) (op (stored x) (stored y)) → {r : Evaluation} → Held v r → r ≡ checked (op x y)
@@ -90,7 +91,7 @@ held_checked op {x} {y} f g v s {r} m = by v s m ∙ read_both (λ a b. checked 
 
 -- ---- division
 
-pub divided_by_zero : (op : ℤ → ℤ → ℤ) (x : ℤ) {y : ℤ} → SFits w32 y → of_z w32 y ≡ 0 → Failed ≡ divided op x y
+pub divided_by_zero : (op : ℤ → ℤ → ℤ) (x : ℤ) {y : ℤ} → SFits w32 y → of_z w32 y ≡ 0 → Failed ZeroDivisor ≡ divided op x y
 unfolding divided
 divided_by_zero op x {y} g b = rw (equal_bits w32 g zero_fits b)
 
@@ -100,14 +101,13 @@ unfolding divided
 divided_other op x g n = rw (other_bits w32 g zero_fits n)
 
 module _ {x y : ℤ} (f : SFits w32 x) (g : SFits w32 y) where
-  pub quotient_held : (v : Option ℤ) → SomeIff v (CanDivide w32 (stored x) (stored y)) (quot_z (stored x) (stored y))
+  pub quotient_held : (of_z w32 y ≡ 0 → ⊥) → (v : Option ℤ) → SomeIff v (CanDivide w32 (stored x) (stored y)) (quot_z (stored x) (stored y))
       → {r : Evaluation} → Held v r → r ≡ divided quot_z x y
-  quotient_held v s {r} m = by v (of_z w32 y) refl (rw (to_z-of_z w32 x f, to_z-of_z w32 y g) at s) m
+  quotient_held n v s {r} m = by v (rw (to_z-of_z w32 x f, to_z-of_z w32 y g) at s) m ∙ sym (divided_other quot_z x g n)
     where
-      by : (v : Option ℤ) (b : ℕ) → of_z w32 y ≡ b → SomeIff v (CanDivide w32 x y) (quot_z x y) → Held v r → r ≡ divided quot_z x y
-      by None zero e n m = m ∙ divided_by_zero quot_z x g e
-      by None (suc b) e n m = m ∙ sym (divided_other quot_z x g (λ z. omega arith) ∙ checked_beyond (quot_z x y) (λ h. n (omega arith, h)))
-      by (Some q) b e s m = m ∙ ap Value s.1 ∙ sym (divided_other quot_z x g (λ z. omega (arith, s.0)) ∙ checked_fits (quot_z x y) s.0.1)
+      by : (v : Option ℤ) → SomeIff v (CanDivide w32 x y) (quot_z x y) → Held v r → r ≡ checked (quot_z x y)
+      by None u m = m ∙ sym (checked_beyond (quot_z x y) (λ h. u (omega (arith, n), h)))
+      by (Some q) s m = m ∙ ap Value s.1 ∙ sym (checked_fits (quot_z x y) s.0.1)
 
   remainder_fits : SFits w32 (rem_z x y)
   remainder_fits = record { sfits = omega (arith, mag_rem x y, f.sfits) }

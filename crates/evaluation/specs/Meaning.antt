@@ -1,15 +1,17 @@
--- 01, "Meaning of an expression", and 02, A6: what the operators make of their operands' evaluations (01: readings).
+-- 01, "Meaning of an expression", and 02, A6 and A8: what the operators make of their operands' evaluations (01: readings).
 use Rattle.std.specs.Prelude.{Bool, true, false, cond, ◌||◌, ℤ, pos, ◌+ℤ◌, ◌-ℤ◌, ◌*ℤ◌}
 use Rattle.std.specs.Int.Signed.{lt_z, le_z, quot_z, rem_z}
 use Rattle.evaluation.specs.declared.Evaluation.{Evaluation}
 use Rattle.evaluation.specs.declared.Evaluation.TheVariants.{Unknown, Failed, Value}
+use Rattle.evaluation.specs.declared.Manner.{Manner}
+use Rattle.evaluation.specs.declared.Manner.TheVariants.{ZeroDivisor, TooLarge}
 use Rattle.evaluation.specs.declared.Operator.{Operator}
 use Rattle.evaluation.specs.declared.Operator.TheVariants.{Conjunction, Disjunction, Equality, Less, LessOrEqual, Sum, Difference, Product, Quotient, Remainder, Equivalence}
 use Rattle.evaluation.specs.Numbers.{checked, eq_z, boolean}
 
--- 01: "a divisor is 0"
+-- 01: "a divisor is 0"; 02, A8: "a division by zero"
 unfoldable pub divided : (ℤ → ℤ → ℤ) → ℤ → ℤ → Evaluation
-divided f a b = cond (eq_z b (pos 0)) Failed (checked (f a b))
+divided f a b = cond (eq_z b (pos 0)) (Failed ZeroDivisor) (checked (f a b))
 
 -- the value of an operator at two values; of and, or: where neither operand decides
 unfoldable pub calculated : Operator → ℤ → ℤ → Evaluation
@@ -55,59 +57,70 @@ decision Equivalence = boolean false
 
 unfoldable pub decides : Operator → Evaluation → Bool
 decides op Unknown = false
-decides op Failed = false
+decides op (Failed m) = false
 decides op (Value v) = decisive op v
 
 unfoldable pub is_unknown : Evaluation → Bool
 is_unknown Unknown = true
-is_unknown Failed = false
+is_unknown (Failed m) = false
 is_unknown (Value v) = false
 
-unfoldable pub is_failed : Evaluation → Bool
-is_failed Unknown = false
-is_failed Failed = true
-is_failed (Value v) = false
+-- are they one and the same?
+unfoldable pub same_manner : Manner → Manner → Bool
+same_manner ZeroDivisor ZeroDivisor = true
+same_manner ZeroDivisor TooLarge = false
+same_manner TooLarge ZeroDivisor = false
+same_manner TooLarge TooLarge = true
+
+-- did it fail in this manner?
+unfoldable pub failed_in : Manner → Evaluation → Bool
+failed_in m Unknown = false
+failed_in m (Failed n) = same_manner m n
+failed_in m (Value v) = false
 
 -- is it a value, and true?
 unfoldable pub is_true : Evaluation → Bool
 is_true Unknown = false
-is_true Failed = false
+is_true (Failed m) = false
 is_true (Value v) = eq_z v (boolean true)
 
 -- the value, where there is one
 unfoldable pub number : Evaluation → ℤ
 number Unknown = pos 0
-number Failed = pos 0
+number (Failed m) = pos 0
 number (Value v) = v
 
 -- 01: kinds 36 to 45 and 47. "And: false if an operand is false; else unknown if one is unknown; else failed if one is
--- failed; else true. [..] Every other operator but 46: unknown if an operand is; else failed if one is; else its value."
+-- failed; else true. [..] Every other operator but 46: unknown if an operand is; else failed if one is; else its value." 02, A8: "where
+-- operands failed in both manners, zero divisor wins".
 unfoldable pub operated : Operator → Evaluation → Evaluation → Evaluation
 operated op a b =
     cond (decides op a || decides op b) (Value (decision op))
     (cond (is_unknown a || is_unknown b) Unknown
-    (cond (is_failed a || is_failed b) Failed
-    (calculated op (number a) (number b))))
+    (cond (failed_in ZeroDivisor a || failed_in ZeroDivisor b) (Failed ZeroDivisor)
+    (cond (failed_in TooLarge a || failed_in TooLarge b) (Failed TooLarge)
+    (calculated op (number a) (number b)))))
 
 -- 01: kind 35, not
 unfoldable pub negated : Evaluation → Evaluation
 negated Unknown = Unknown
-negated Failed = Failed
+negated (Failed m) = Failed m
 negated (Value v) = Value (boolean (eq_z v (boolean false)))
 
 -- 02, A6: "both branches have one and the same value"
 unfoldable pub agree : Evaluation → Evaluation → Bool
 agree Unknown b = false
-agree Failed b = false
+agree (Failed m) b = false
 agree (Value v) Unknown = false
-agree (Value v) Failed = false
+agree (Value v) (Failed m) = false
 agree (Value v) (Value w) = eq_z v w
 
 -- Kind 46. 01: "unknown [..] as its condition is, else the chosen branch". 02, A6: "If the condition is unknown and both branches have
 -- one and the same value, that is its value. If the condition failed: that value likewise; unknown if a branch is unknown; else failed."
+-- 02, A8: "a failed condition of if-then-else passes its own on".
 unfoldable pub chosen : Evaluation → Evaluation → Evaluation → Evaluation
 chosen Unknown a b = cond (agree a b) a Unknown
-chosen Failed a b = cond (agree a b) a (cond (is_unknown a || is_unknown b) Unknown Failed)
+chosen (Failed m) a b = cond (agree a b) a (cond (is_unknown a || is_unknown b) Unknown (Failed m))
 chosen (Value v) a b = cond (eq_z v (boolean true)) a b
 
 -- 01: "Symmetric operators: 36, 37, 38, 41, 43, 47."

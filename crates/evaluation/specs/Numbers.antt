@@ -4,6 +4,7 @@ use Rattle.std.specs.Prelude.{Bool, true, false, cond, ◌&&◌, ℤ, pos, negsu
 use Rattle.std.specs.Int.Signed.{le_z}
 use Rattle.evaluation.specs.declared.Evaluation.{Evaluation}
 use Rattle.evaluation.specs.declared.Evaluation.TheVariants.{Failed, Value}
+use Rattle.evaluation.specs.declared.Manner.TheVariants.{TooLarge}
 
 -- 01: "−2,147,483,648 to 2,147,483,647"
 abbrev pub least : ℤ
@@ -15,9 +16,9 @@ greatest = pos 2147483647
 abbrev pub representable : ℤ → Bool
 representable v = le_z least v && le_z v greatest
 
--- 01: "Failed if the value leaves −2,147,483,648 to 2,147,483,647"
+-- 01: "Failed if the value leaves −2,147,483,648 to 2,147,483,647"; 02, A8: "a number beyond 32 bits"
 unfoldable pub checked : ℤ → Evaluation
-checked v = cond (representable v) (Value v) Failed
+checked v = cond (representable v) (Value v) (Failed TooLarge)
 
 unfoldable pub eq_z : ℤ → ℤ → Bool
 eq_z (pos a) (pos b) = eqb a b

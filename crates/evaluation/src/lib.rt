@@ -7,11 +7,18 @@ ghost use Rattle.std.specs.Int.Signed.{lt_z, le_z, quot_z, rem_z};
 ghost use Rattle.evaluation.specs.Numbers.{checked, eq_z, boolean};
 ghost use Rattle.evaluation.specs.Meaning.{divided, is_true};
 
+// Why an expression failed (02, A8: its manner): a divisor is 0, or a number is beyond 32 bits.
+#[derive(Clone, Copy, PartialEq, Eq, Debug)]
+pub enum Manner {
+    ZeroDivisor,
+    TooLarge,
+}
+
 // What an expression evaluates to; a Boolean is 0 or 1. These are three, and a Result of an Option would say no more.
 #[derive(Clone, Copy, PartialEq, Eq, Debug)]
 pub enum Evaluation {
     Unknown,
-    Failed,
+    Failed(Manner),
     Value(i32),
 }
 
@@ -41,11 +48,14 @@ pub enum Operator {
     Equivalence,
 }
 
-// What a checked operator made of two numbers, or failed.
+// What dividing by 0 comes to.
+const BY_ZERO: Evaluation = Evaluation::Failed(Manner::ZeroDivisor);
+
+// What a checked operator made of two numbers, or too large.
 fn held(v: Option<i32>) -> Evaluation
-    ensures { MatchOption v (result ≡ Evaluation.Failed) (λ x. result ≡ Evaluation.Value x) }
+    ensures { MatchOption v (result ≡ Evaluation.Failed Manner.TooLarge) (λ x. result ≡ Evaluation.Value x) }
 {
-    v.map_or(Evaluation::Failed, Evaluation::Value)
+    v.map_or(Evaluation::Failed(Manner::TooLarge), Evaluation::Value)
 }
 
 // A Boolean is 0 or 1.
@@ -94,10 +104,13 @@ pub fn product(x: i32, y: i32) -> Evaluation
     held(x.checked_mul(y))
 }
 
-// By 0, and of the least number by -1, it failed.
+// By 0 it failed; of the least number by -1 it is too large.
 pub fn quotient(x: i32, y: i32) -> Evaluation
     ensures { result ≡ divided quot_z x y }
 {
+    if y == 0 {
+        return BY_ZERO;
+    }
     held(x.checked_div(y))
 }
 
@@ -106,7 +119,7 @@ pub fn remainder(x: i32, y: i32) -> Evaluation
     ensures { result ≡ divided rem_z x y }
 {
     if y == 0 {
-        return Evaluation::Failed;
+        return BY_ZERO;
     }
     Evaluation::Value(x.wrapping_rem(y))
 }

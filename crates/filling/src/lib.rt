@@ -9,7 +9,8 @@ ghost use Rattle.filling.specs.Filled.{count_of};
 use std::io::Read;
 
 // Reads until the slice is full or the source ends; how many bytes were read, which stand in the first cells. As an error, where a read
-// failed after so many.
+// failed after so many; that an error comes of a failed read alone is not promised, since std's contracts have no word for it. The cells
+// past the count are the source's to write.
 #[tactic(auto, unfolding(crate::specs::Filled::count_of))]
 pub fn fill<R: Read>(source: &mut R, bytes: &mut [u8]) -> Result<usize, usize>
     ensures within { count_of result ≤ length bytes.new }

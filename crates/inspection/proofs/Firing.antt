@@ -1,11 +1,10 @@
 -- Theorem PickedFires: what pick answers, fire does not refuse by its guard.
-use mathlib.Core.Path.{◌≡◌, sym}
+use mathlib.Core.Path.{◌≡◌, sym, subst}
 use mathlib.Core.Bool.{true, false, not}
 use mathlib.Core.List.{List}
 use mathlib.Core.Logic.{◌⊎◌, inl, inr}
 use Rattle.std.specs.Prelude.{Some}
-use Prim.Native.Nat.{ℕ, ◌≤◌, ◌<◌}
-use native.Mathlib.Omega.{arith}
+use Prim.Native.Nat.{ℕ, ◌<◌}
 use borrow.Author.Tests.{lt-ltb, not-false}
 use lib.Dec.{eqb}
 use lib.IntN.{ℤ}
@@ -23,26 +22,26 @@ use Rattle.standing.specs.Runs.Answer.{refused, picked}
 use Rattle.standing.specs.Holding.{too_short, too_few, holds}
 use Rattle.steps.specs.Calls.{answer_of, fire}
 use Rattle.replaying.proofs.Tests.{clash, by_test}
-use Rattle.steps.proofs.FaultNumbers.{action_number, assertion_number}
+use Rattle.steps.proofs.FaultNumbers.{FaultNumber, action_number, assertion_number}
 use Rattle.inspection.specs.Queries.{pick}
 use Rattle.inspection.specs.Theorems.{PickedFires}
 use Rattle.inspection.proofs.Lowest.{pick_lowest, fireable_exact}
 
 -- a refusal is one of those that are left
 abbrev Later : Answer → Type 0
-Later a = (k : ℕ) → a ≡ refused k → (k ≡ 21) ⊎ ((25 ≤ k) × (k ≤ 30))
+Later a = (k : ℕ) → a ≡ refused k → (k ≡ 21) ⊎ FaultNumber k
 
-later_refusal : (n : ℕ) → 25 ≤ n → n ≤ 30 → Later (refused n)
-later_refusal n low high k e = let same : n ≡ k = cc in inr (omega arith)
+fault_later : (n : ℕ) → FaultNumber n → Later (refused n)
+fault_later n f k e = let same : n ≡ k = cc in inr (subst FaultNumber same f)
 
 settling_later : (old : List ℤ) (s : Settled) → Later (answer_of (left_by_settling old s).answer)
 unfolding left_by_settling answer_of
-settling_later old (unsettled f) = later_refusal _ (omega (arith, assertion_number f)) (omega (arith, assertion_number f))
+settling_later old (unsettled f) = fault_later _ (assertion_number f)
 settling_later old (settled n new) = λ k e. clash cc
 
 acting_later : (m : Meaning) (old : List ℤ) (a : Acted) → Later (answer_of (left_by_acting m old a).answer)
 unfolding left_by_acting answer_of
-acting_later m old (faulty f) = later_refusal _ (omega (arith, action_number f)) (omega (arith, action_number f))
+acting_later m old (faulty f) = fault_later _ (action_number f)
 acting_later m old (states ss) = settling_later old (m.propagate ss)
 
 module _ (m : Meaning) (r : Run) where

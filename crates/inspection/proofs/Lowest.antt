@@ -69,7 +69,7 @@ mark_at m values t (suc n) (suc k) i h e = mark_at m values (suc t) n k i (omega
 marked_true : (g : Evaluation) → mark_of g ≡ 1 → g ≡ Value (boolean true)
 unfolding mark_of
 marked_true Unknown e = absurd (omega arith)
-marked_true Failed e = absurd (omega arith)
+marked_true (Failed manner) e = absurd (omega arith)
 marked_true (Value v) e = go (eq_z v (boolean true)) refl e
   where
     go : (t : Bool) → eq_z v (boolean true) ≡ t → ◌≡◌ {A = ℕ} (cond t 1 0) 1 → Value v ≡ Value (boolean true)

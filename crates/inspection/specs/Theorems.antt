@@ -31,12 +31,12 @@ PickLowest =
     × ((pick m r ≡ picked None) ↔ ((t : ℕ) → Fireable m r.values t → ⊥))
 
 -- Pick and fire agree on what is fireable: fire of the transition picked is refused neither for the run (9, 10, 20) nor for its number (11)
--- nor by its guard (23, 24). What may still refuse it is a full history, its action and the assertion. 01: 23, 24 "guard
--- false, guard failed".
+-- nor by its guard (23, 24; 02, A8: 38). What may still refuse it is a full history (21), its action and the assertion (25 to 30; A8: 39,
+-- 40). 01: 23, 24 "guard false, guard failed".
 abbrev pub PickedFires : Type 0
 PickedFires =
     (m : Meaning) (r : Run) (t : ℕ) → pick m r ≡ picked (Some t)
-    → (k : ℕ) → (fire m t r).answer ≡ refused k → (k ≡ 21) ⊎ ((25 ≤ k) × (k ≤ 30))
+    → (k : ℕ) → (fire m t r).answer ≡ refused k → (k ≡ 21) ⊎ (((25 ≤ k) × (k ≤ 30)) ⊎ ((39 ≤ k) × (k ≤ 40)))
 
 -- the value of a variable lies within its ends: not below its low end, not above its high end
 abbrev pub InRangeOver : List Variable → List ℤ → ℕ → Type 0

@@ -40,8 +40,9 @@ fn declarations<'a, const NODES: usize>(
 }
 
 // 9, 10 for the marks held and for the slice lent, 20, then the marks that the run holds, copied: of an accepted model of these sizes, here
-// and in the next two.
+// and in the next two. None is inlined: the arrays of all three sizes would stand on the stack at once.
 #[tactic(auto, using(steps::proofs::Declarations::rows_declared), unfolding(steps::specs::Answers::on_file, crate::specs::Queries::marks, results::specs::Refusals::number_of))]
+#[inline(never)]
 fn marks_in<const NODES: usize, const VARIABLES: usize>(
     model: &[u8],
     sizes: Sizes,
@@ -67,6 +68,7 @@ fn marks_in<const NODES: usize, const VARIABLES: usize>(
 
 // 9, 10, 12, 20, then the value of a variable.
 #[tactic(auto, using(steps::proofs::Declarations::rows_declared), unfolding(steps::specs::Answers::on_file_answer, crate::specs::Queries::value, results::specs::Refusals::number_of))]
+#[inline(never)]
 fn value_in<const NODES: usize, const VARIABLES: usize>(
     model: &[u8],
     sizes: Sizes,
@@ -89,6 +91,7 @@ fn value_in<const NODES: usize, const VARIABLES: usize>(
 
 // 9, then the first variable outside its ends, or none.
 #[tactic(auto, using(standing::proofs::Holding::outside_rows), unfolding(steps::specs::Answers::on_file_answer, crate::specs::Queries::range_check, results::specs::Refusals::number_of))]
+#[inline(never)]
 fn first_outside_in<const NODES: usize, const VARIABLES: usize>(
     model: &[u8],
     sizes: Sizes,

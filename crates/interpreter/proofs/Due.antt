@@ -58,7 +58,7 @@ size_positive (block is) = omega arith
 branch_size : (v : Evaluation) (i : Instruction) → size_of_all (chosen_branch v i) ≤ size_of i
 unfolding chosen_branch size_of_all
 branch_size Unknown i = omega arith
-branch_size Failed i = omega arith
+branch_size (Failed m) i = omega arith
 branch_size (Value v) i = by (eq_z v (boolean true))
   where
     by : (t : Bool) → size_of_all (cond t (more i none) none) ≤ size_of i
@@ -85,7 +85,7 @@ due_targets σ (if_then c i) n h = by (evaluate c σ)
 
     by : (v : Evaluation) → AllTargetsBelow (chosen_branch v i) n
     by Unknown = tt
-    by Failed = tt
+    by (Failed m) = tt
     by (Value v) = chosen (eq_z v (boolean true))
 due_targets σ (block is) n h = h
 
@@ -127,6 +127,6 @@ module _ (ks : List ℕ) (ps : List ℤ) where
       by : (v : Evaluation)
           → InstructionsAt ks ps (chosen_branch v i) (at + suc (size_of_expression c + size_of i) - size_of_all (chosen_branch v i))
       by Unknown = tt
-      by Failed = tt
+      by (Failed m) = tt
       by (Value v) = chosen (eq_z v (boolean true))
   due_stand σ (block is) at h = moved is (omega arith) h.1

@@ -30,7 +30,7 @@ module _ (lows highs : List ℤ) (given : List (Optional ℤ)) (x : ℕ) {v : �
   inside = told ∙ read_one (within_ends lows highs x) f
 
   pub keeps : (c : Optional ℤ) → get_or given x None ≡ c → (c ≡ None → ⊥) → {t : Bool} → t ≡ not (option_eq int_eq c (Some (to_z w32 (of_z w32 v))))
-      → gathering (record { failed = found.failed; outside = found.outside || not within; conflict = found.conflict || t; fresh = found.fresh }) given
+      → gathering (record { zero_divisor = found.zero_divisor; too_large = found.too_large; outside = found.outside || not within; conflict = found.conflict || t; fresh = found.fresh }) given
       ≡ gather lows highs (gives x v) (gathering found given)
   unfolding gather taken
   keeps None e n t = absurd (n refl)

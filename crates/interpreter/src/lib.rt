@@ -8,22 +8,25 @@ ghost use Rattle.interpreter.specs.Instructions.Effect.{gives};
 ghost use Rattle.interpreter.specs.Gathering as specs;
 ghost use Rattle.interpreter.specs.Gathering.{gathering, failing};
 
+use evaluation::Manner;
 use variables::VariableRow;
 
-// The three classes of fault, the one with the lowest number first.
+// The classes of fault, in the order in which they count: something failed, a zero divisor before what is too large; a value is outside its
+// ends; two values of one variable differ.
 #[derive(Clone, Copy, PartialEq, Eq, Debug)]
 pub enum Fault {
-    Failure,
+    Failure(Manner),
     Outside,
     Conflict,
 }
 
-// What was found in going over an instruction, nothing by default; `fresh`: a variable without a value was given one. Each class of fault has
-// its flag, which is set without asking what was found before: of one Option of the lowest class each fault would be compared with the last,
-// and the definitions, which tell of each class, would stand further from the code.
+// What was found in going over an instruction, nothing by default; `fresh`: a variable without a value was given one. Each class of fault
+// has its flag, and each manner of failure. It is set without asking what was found before: of one Option of the first class each fault
+// would be compared with the last, and the definitions, which tell of each class, would stand further from the code.
 #[derive(Clone, Copy, PartialEq, Eq, Debug, Default)]
 pub struct Gathered {
-    pub failed: bool,
+    pub zero_divisor: bool,
+    pub too_large: bool,
     pub outside: bool,
     pub conflict: bool,
     pub fresh: bool,
@@ -31,10 +34,14 @@ pub struct Gathered {
 
 impl Gathered {
     // Something failed.
-    pub fn fail(&mut self)
-        ensures { self.new ≡ failing self.old }
+    #[tactic(auto, unfolding(evaluation::specs::Meaning::same_manner))]
+    pub fn fail(&mut self, manner: Manner)
+        ensures { self.new ≡ failing manner self.old }
     {
-        self.failed = true;
+        match manner {
+            Manner::ZeroDivisor => self.zero_divisor = true,
+            Manner::TooLarge => self.too_large = true,
+        }
     }
 
     // An active assignment gives the variable a value.

@@ -58,7 +58,7 @@ fn advance_decoded<const NODES: usize, const VARIABLES: usize>(
 }
 
 // Decodes an accepted model of these sizes, and makes the move on it. The file is made here: of a slice in a struct that is lent it is not
-// told that each cell is a byte. Not inlined: the arrays of both sizes would stand on the stack at once.
+// told that each cell is a byte. Not inlined: the arrays of all three sizes would stand on the stack at once.
 #[tactic(auto, using(decoding::proofs::InUse::decoded_used, decoding::proofs::InUse::kinds_lent, decoding::proofs::InUse::rows_lent))]
 #[inline(never)]
 pub fn advance_in<const NODES: usize, const VARIABLES: usize, const TRANSITIONS: usize>(

@@ -10,6 +10,7 @@ use lib.ListN.{length, get_or, take, drop, set, replicate, length-replicate, len
 use lib.Seq.{length-take-le, set_at, drop-cons, append_snoc}
 use mir.Val.{bool_byte}
 use Rattle.evaluation.specs.declared.Evaluation.{Evaluation}
+use Rattle.evaluation.specs.declared.Manner.{Manner}
 use Rattle.evaluation.specs.declared.Evaluation.TheVariants.{Unknown, Failed, Value}
 use Rattle.evaluation.specs.Numbers.{eq_z, boolean}
 use Rattle.evaluation.specs.Meaning.{is_true}
@@ -35,10 +36,10 @@ byte true = refl
 byte false = refl
 
 -- where the guard did not fail
-pub marked_by_truth : {b : Bool} {n : ℕ} (g : Evaluation) → (g ≡ Failed → ⊥) → b ≡ is_true g → n ≡ bool_byte b → n ≡ mark_of g
+pub marked_by_truth : {b : Bool} {n : ℕ} (g : Evaluation) → ((m : Manner) → g ≡ Failed m → ⊥) → b ≡ is_true g → n ≡ bool_byte b → n ≡ mark_of g
 unfolding mark_of is_true
 marked_by_truth Unknown f t h = h ∙ ap bool_byte t
-marked_by_truth Failed f t h = absurd (f refl)
+marked_by_truth (Failed manner) f t h = absurd (f manner refl)
 marked_by_truth (Value v) f t h = h ∙ ap bool_byte t ∙ byte (eq_z v (boolean true))
 
 -- ---- the marks, one after another

@@ -20,7 +20,7 @@ use Rattle.marking.proofs.MarksWritten.{length_marks}
 mark_below : (g : Evaluation) → mark_of g < 3
 unfolding mark_of
 mark_below Unknown = omega arith
-mark_below Failed = omega arith
+mark_below (Failed manner) = omega arith
 mark_below (Value v) = go (eq_z v (boolean true))
   where
     go : (b : Bool) → cond b 1 0 < 3

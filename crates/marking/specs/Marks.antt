@@ -6,10 +6,10 @@ use Rattle.evaluation.specs.Numbers.{eq_z, boolean}
 use Rattle.semantics.specs.Meanings.{Meaning}
 use Rattle.standing.specs.Runs.{Run, with_values, with_marks}
 
--- "for each transition 1 if its guard is true, 0 false, 2 failed"
+-- "for each transition 1 if its guard is true, 0 false, 2 failed", in either manner
 unfoldable pub mark_of : Evaluation → ℕ
 mark_of Unknown = 0
-mark_of Failed = 2
+mark_of (Failed m) = 2
 mark_of (Value v) = cond (eq_z v (boolean true)) 1 0
 
 unfoldable pub marks_from : Meaning → List ℤ → ℕ → ℕ → List ℕ

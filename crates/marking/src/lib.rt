@@ -16,7 +16,7 @@ pub fn mark_of(guard: Evaluation) -> u8
     ensures { result ≡ mark_of guard }
 {
     match guard {
-        Evaluation::Failed => 2,
+        Evaluation::Failed(_) => 2,
         _ => u8::from(guard.is_true()),
     }
 }

@@ -26,16 +26,18 @@ CheckExact =
     (m : List ℕ) → Bytes m → (s : Sizes) (t : System)
     → (verdict m ≡ accepted s t) ↔ ((m ≡ encode t) × (s ≡ sizes_of t) × WellFormed t)
 
--- the same of every layout whose S, F, E and T take one byte each or two, and whose most nodes fit N's two
+-- S, F, E and T take one byte each or two, and the most nodes fit N's two
 pub record Sound (l : Layout) : Type 0 where
   pub widths : (1 ≤ l.width) × (l.width ≤ 2)
   pub nodes : l.max_nodes < 65536
 
+-- the same by a layout
 abbrev pub CheckExactIn : Layout → Type 0
 CheckExactIn l =
     (m : List ℕ) → Bytes m → (s : Sizes) (t : System)
     → (verdict_of_layout l m ≡ accepted s t) ↔ ((m ≡ encode_in l t) × (s ≡ sizes_of t) × WellFormedIn l t)
 
+-- and so by every such layout
 abbrev pub LayoutsExact : Type 0
 LayoutsExact = (l : Layout) → Sound l → CheckExactIn l
 
@@ -48,8 +50,8 @@ abbrev pub CheckRefusals : Type 0
 CheckRefusals =
     (m : List ℕ) (r : Refusal) → verdict m ≡ refusal r → ((1 ≤ number_of r) × (number_of r ≤ 8)) ⊎ (r ≡ TooManyVariables)
 
--- the header of a file that every call reads is refused as in 02, A7: 1 "under 10 bytes", 2 "N above 12,000", 37 "S+F above 4,000, between 2 and 3", 3 "a length not
--- 10 + 5N"
+-- the header of a file that every call reads is refused as in 02, A7: 1 "under 10 bytes", 2 "N above 12,000", 37 "S+F above 4,000, between
+-- 2 and 3", 3 "a length not 10 + 5N"
 abbrev pub FileHeader : Type 0
 FileHeader =
     (m : List ℕ) → sized file_layout m

@@ -6,7 +6,7 @@ ghost use Rattle.std.specs.Prelude.{◌≡◌, false, cond, ◌||◌, ℤ, Match
 ghost use Rattle.evaluation.specs.Numbers.{eq_z};
 ghost use Rattle.evaluation.specs.Meaning.{calculated, decisive, decision, operated, negated, is_unknown, agree, chosen};
 
-use evaluation::{Evaluation, Operator};
+use evaluation::{Evaluation, Manner, Operator};
 
 // The operator at two values: and, or where neither decides. The one match over all operators, which it is there for.
 fn calculate(op: Operator, x: i32, y: i32) -> Evaluation
@@ -57,17 +57,28 @@ fn at_values(op: Operator, x: i32, y: i32) -> Evaluation
     }
 }
 
+// The manner where both operands failed: a zero divisor wins.
+#[tactic(auto, using(evaluation::proofs::Laws::zero_divisor_wins, crate::proofs::Operators::other_manner))]
+fn winning_manner(m: Manner, n: Manner) -> Manner
+    ensures { (op : Operator) → operated op (Evaluation.Failed m) (Evaluation.Failed n) ≡ Evaluation.Failed result }
+{
+    match m {
+        Manner::ZeroDivisor => Manner::ZeroDivisor,
+        Manner::TooLarge => n,
+    }
+}
+
 // An operator with two operands. Four arms with a value: the checker has no rule for one that reads a value where another takes that operand whole.
 pub fn operate(op: Operator, a: Evaluation, b: Evaluation) -> Evaluation
     ensures { result ≡ operated op a b }
 {
     match (a, b) {
         (Evaluation::Value(x), Evaluation::Value(y)) => at_values(op, x, y),
-        (Evaluation::Value(v), Evaluation::Failed) => beside(op, v, Evaluation::Failed),
-        (Evaluation::Failed, Evaluation::Value(v)) => beside(op, v, Evaluation::Failed),
+        (Evaluation::Value(v), Evaluation::Failed(m)) => beside(op, v, Evaluation::Failed(m)),
+        (Evaluation::Failed(m), Evaluation::Value(v)) => beside(op, v, Evaluation::Failed(m)),
         (Evaluation::Value(v), Evaluation::Unknown) => beside(op, v, Evaluation::Unknown),
         (Evaluation::Unknown, Evaluation::Value(v)) => beside(op, v, Evaluation::Unknown),
-        (Evaluation::Failed, Evaluation::Failed) => Evaluation::Failed,
+        (Evaluation::Failed(m), Evaluation::Failed(n)) => Evaluation::Failed(winning_manner(m, n)),
         _ => Evaluation::Unknown,
     }
 }
@@ -99,7 +110,7 @@ pub fn choose(condition: Evaluation, a: Evaluation, b: Evaluation) -> Evaluation
 {
     match condition {
         Evaluation::Unknown => undecided(a, b, Evaluation::Unknown),
-        Evaluation::Failed => undecided(a, b, Evaluation::Failed),
+        Evaluation::Failed(m) => undecided(a, b, Evaluation::Failed(m)),
         Evaluation::Value(_) => { if condition.is_true() { a } else { b } }
     }
 }

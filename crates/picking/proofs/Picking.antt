@@ -78,13 +78,13 @@ all_marks m values used total e q =
 pub marked_true : (g : Evaluation) → is_true g ≡ true → mark_of g ≡ 1
 unfolding mark_of is_true
 marked_true Unknown e = absurd (true≢false (sym e))
-marked_true Failed e = absurd (true≢false (sym e))
+marked_true (Failed manner) e = absurd (true≢false (sym e))
 marked_true (Value v) e = ap (λ t. cond t 1 0) e
 
 pub marked_other : (g : Evaluation) → is_true g ≡ false → mark_of g ≡ 1 → ⊥
 unfolding mark_of is_true
 marked_other Unknown e h = omega (arith, h)
-marked_other Failed e h = omega (arith, h)
+marked_other (Failed manner) e h = omega (arith, h)
 marked_other (Value v) e h =
     let n : ◌≡◌ {A = ℕ} (cond (eq_z v (boolean true)) 1 0) 0 = ap (λ t. cond t 1 0) e in
     omega (arith, n, h)

@@ -43,7 +43,9 @@ fn pick_loaded(
     Ok(None)
 }
 
-// Decodes an accepted model of these sizes, and works the guards out.
+// Decodes an accepted model of these sizes, and works the guards out. Not inlined: the arrays of all three sizes would stand on the stack
+// at once.
+#[inline(never)]
 fn pick_in<const NODES: usize, const VARIABLES: usize, const TRANSITIONS: usize>(
     model: &[u8],
     sizes: Sizes,

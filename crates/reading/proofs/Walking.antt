@@ -13,6 +13,7 @@ use mir.Val.{to_z, of_z}
 use types.Run.{OneOf, miss}
 use denote.Enum.Declared.{tag_of}
 use Rattle.evaluation.specs.declared.Evaluation.{Evaluation}
+use Rattle.evaluation.specs.declared.Manner.{Manner}
 use Rattle.evaluation.specs.declared.Evaluation.TheVariants.{Unknown, Failed, Value}
 use Rattle.evaluation.specs.Numbers.{eq_z, boolean}
 use Rattle.evaluation.specs.Meaning.{is_true}
@@ -37,9 +38,9 @@ use Rattle.reading.specs.Readings.{found_by, Held, Walked, noted, giving, walked
 abbrev all_but_value : List ℕ
 all_but_value = 0 ∷ 1 ∷ []
 
-no_value : (v : Evaluation) → OneOf all_but_value (tag_of the_type v) → (v ≡ Unknown) ⊎ (v ≡ Failed)
+no_value : (v : Evaluation) → OneOf all_but_value (tag_of the_type v) → (v ≡ Unknown) ⊎ ((m : Manner) × (v ≡ Failed m))
 no_value Unknown h = inl refl
-no_value Failed h = inr refl
+no_value (Failed manner) h = inr (manner, refl)
 no_value (Value v) h = absurd (miss all_but_value 2 tt h)
 
 -- ---- what an assignment and an if-then ask
@@ -88,12 +89,12 @@ module _ (ks : List ℕ) (ps : List ℤ) where
     unfolding walked_by at_once due_after size_of size_of_all count gather_all assigned news_of mark_at_once stamp_of found_by
     assigned_unknown p x e h = rw (noting, p, value x e h p, place x e h, append-nil start.news)
 
-    assigned_failed : r.evaluation ≡ Failed → (x : ℕ) (e : Expression) → InstructionAt ks ps (assign x e) at → Walks now r.next.at 0 (assign x e)
+    assigned_failed : {m : Manner} → r.evaluation ≡ Failed m → (x : ℕ) (e : Expression) → InstructionAt ks ps (assign x e) at → Walks now r.next.at 0 (assign x e)
     unfolding walked_by at_once due_after size_of size_of_all count gather_all gather assigned news_of mark_at_once stamp_of found_by
     assigned_failed p x e h = rw (noting, p, value x e h p, place x e h, append-nil start.news)
 
     pub assigned_nothing : OneOf all_but_value (tag_of the_type r.evaluation) → (x : ℕ) (e : Expression) → InstructionAt ks ps (assign x e) at → Walks now r.next.at 0 (assign x e)
-    assigned_nothing k x e h = ⊎_elim (λ p. assigned_unknown p x e h) (λ p. assigned_failed p x e h) (no_value r.evaluation k)
+    assigned_nothing k x e h = ⊎_elim (λ p. assigned_unknown p x e h) (λ p. assigned_failed p.1 x e h) (no_value r.evaluation k)
 
     pub assigned_value : {v : ℤ} → mag v < 2 ^ 31 → r.evaluation ≡ Value v → mag (get_or ps at (pos 0)) < 2 ^ 31
         → {y : ℕ} → y ≡ nat_abs (to_z w32 (of_z w32 (get_or ps at (pos 0)))) → {after : Held} → after ≡ giving lows highs y (to_z w32 (of_z w32 v)) now
@@ -130,7 +131,7 @@ module _ (ks : List ℕ) (ps : List ℤ) where
       where
         by : (v : Evaluation) → r.evaluation ≡ v → is_true v ≡ true → (c : Expression) (i : Instruction) → InstructionAt ks ps (if_then c i) at → Walks now r.next.at 1 (if_then c i)
         by Unknown p t = absurd (true≢false (sym t))
-        by Failed p t = absurd (true≢false (sym t))
+        by (Failed manner) p t = absurd (true≢false (sym t))
         by (Value v) p t = tested_value p t
 
     module _ (nexts : List ℕ) (places : NextPlaces ks ps nexts) where
@@ -138,7 +139,7 @@ module _ (ks : List ℕ) (ps : List ℤ) where
       unfolding walked_by at_once due_after chosen_branch size_of size_of_all count gather_all under news_of mark_at_once stamp_of found_by
       tested_unknown p c i h = rw (noting, p, condition c i h p, place_past c i h nexts places, append-nil start.news)
 
-      tested_failed : r.evaluation ≡ Failed → (c : Expression) (i : Instruction) → InstructionAt ks ps (if_then c i) at → Walks now (get_or nexts r.next.at 0) 0 (if_then c i)
+      tested_failed : {m : Manner} → r.evaluation ≡ Failed m → (c : Expression) (i : Instruction) → InstructionAt ks ps (if_then c i) at → Walks now (get_or nexts r.next.at 0) 0 (if_then c i)
       unfolding walked_by at_once due_after chosen_branch size_of size_of_all count gather_all gather under news_of mark_at_once stamp_of found_by
       tested_failed p c i h = rw (noting, p, condition c i h p, place_past c i h nexts places, append-nil start.news)
 
@@ -153,7 +154,7 @@ module _ (ks : List ℕ) (ps : List ℤ) where
         where
           by : (v : Evaluation) → r.evaluation ≡ v → is_true v ≡ false → (c : Expression) (i : Instruction) → InstructionAt ks ps (if_then c i) at → Walks now (get_or nexts r.next.at 0) 0 (if_then c i)
           by Unknown p t = tested_unknown p
-          by Failed p t = tested_failed p
+          by (Failed manner) p t = tested_failed p
           by (Value v) p t = tested_false p t
 
   -- ---- any instruction, by its kind

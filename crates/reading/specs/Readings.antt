@@ -20,7 +20,7 @@ use Rattle.reading.specs.declared.Reading.{Reading}
 -- the flags, once an expression came to this
 unfoldable pub found_by : Evaluation → Gathered → Gathered
 found_by Unknown found = found
-found_by Failed found = failing found
+found_by (Failed m) found = failing m found
 found_by (Value v) found = found
 
 -- what a reading changes: the flags and the values given, the flows queued so far, and the marks

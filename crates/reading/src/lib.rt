@@ -69,9 +69,9 @@ impl Gathering<'_> {
     {
         match evaluation {
             Evaluation::Unknown => self.mark(at, round),
-            Evaluation::Failed => {
+            Evaluation::Failed(manner) => {
                 self.mark(at, 0);
-                self.found.fail();
+                self.found.fail(manner);
             }
             Evaluation::Value(_) => self.mark(at, 0),
         }

@@ -2,7 +2,7 @@
 -- values before do.
 use mathlib.Core.Path.{◌≡◌, refl, ap, ◌∙◌}
 use mathlib.Core.Logic.{inl, inr}
-use mathlib.Core.Bool.{Bool, true, false, cond, ◌&&◌, ◌||◌}
+use mathlib.Core.Bool.{Bool, true, false, ◌&&◌, ◌||◌}
 use mathlib.Core.List.{List, [], ◌∷◌, map}
 use mathlib.Core.Option.{Option, some, none, none-ne-some, some-injective}
 use Prim.Native.Nat.{ℕ, zero, suc, ◌+◌, ◌≤◌, ◌<◌}
@@ -18,16 +18,16 @@ use Rattle.evaluation.proofs.Laws.{eq_z_true}
 use Rattle.model.specs.Trees.{Instruction, Variable, System, variables}
 use Rattle.syntax.specs.Readings.{is_truth}
 use Rattle.model.specs.WellFormed.{Declared, All}
-use Rattle.interpreter.specs.declared.Fault.{Fault}
-use Rattle.interpreter.specs.declared.Fault.TheVariants.{Failure, Outside}
 use Rattle.expressions.specs.Expressions.{Valuation, known_from, nothing_known}
-use Rattle.interpreter.specs.Instructions.{Effect, any, effects, is_failure, is_within, is_outside, given_by, fault_of, first_of, given_to}
+use Rattle.interpreter.specs.declared.Fault.{Fault}
+use Rattle.interpreter.specs.Instructions.{Effect, any, effects, is_within, is_outside, given_by, fault_of, first_of, given_to}
 use Rattle.interpreter.specs.Instructions.Effect.{fails, gives}
 use Rattle.semantics.specs.Actions.{value_or0, cells, changed, acted_by, act}
 use Rattle.semantics.specs.Actions.Acted.{states}
 use Rattle.semantics.specs.Propagation.{Reached, is_known, is_new, extended, round_by, rounds, first_value, reset_by, finished_by, finish, settled_from, settle}
 use Rattle.semantics.specs.Propagation.Reached.{stopped, reached}
 use Rattle.semantics.specs.Propagation.Settled.{settled}
+use Rattle.semantics.proofs.Effects.{faultless}
 use Rattle.replaying.proofs.Tests.{clash, by_test, neither, both}
 
 -- what is known lies within the ends of its variable
@@ -82,18 +82,9 @@ known_second (some w) b t = tt
 
 -- ---- the values that effects give
 
-no_outside : (vs : List Variable) (known : Valuation) (es : List Effect) → fault_of vs known es ≡ none → any (is_outside vs) es ≡ false
-unfolding fault_of
-no_outside vs known es = go (any is_failure es) (any (is_outside vs) es) _
-  where
-    go : (a b : Bool) (rest : Option Fault) → cond a (some Failure) (cond b (some Outside) rest) ≡ none → b ≡ false
-    go true b rest e = let q : b ≡ false = cc in q
-    go false true rest e = let q : true ≡ false = cc in q
-    go false false rest e = refl
-
 effect_within : (vs : List Variable) (x : ℕ) (e : Effect) (v : ℤ) → is_outside vs e ≡ false → given_by x e ≡ some v → T (is_within (get_elem? vs x) v)
 unfolding is_outside given_by
-effect_within vs x fails v o g = absurd (none-ne-some v g)
+effect_within vs x (fails manner) v o g = absurd (none-ne-some v g)
 effect_within vs x (gives y w) v o g =
     by_test (λ (o : Option ℤ). o ≡ some v → T (is_within (get_elem? vs x) v)) (eqb x y) (some w) none
     (λ same e. rw (eqb-true x y same, ← some-injective w v e) (rw (not-false (is_within (get_elem? vs y) w) o) tt))
@@ -164,7 +155,7 @@ act_within t i values long within ss = go (fault_of (variables t) nothing_known 
         let q : cells (changed es (known_from values)) (length t.states) 0 ≡ ss = cc in
         rw (← q)
         (cells_within (variables t) (changed es (known_from values)) (length t.states)
-        (changed_within (variables t) es (known_from values) (no_outside (variables t) nothing_known es e) within)
+        (changed_within (variables t) es (known_from values) (faultless (variables t) nothing_known es e).outside within)
         (λ x h. known_second (given_to x es) (get_elem? values x) (known_below values x (omega arith))))
 
 -- ---- the assertion
@@ -221,4 +212,4 @@ settle_within t declared ss within =
   where
     step : (σ : Valuation) → fault_of (variables t) σ (effects t.assertion σ) ≡ none → Within (variables t) σ
         → Within (variables t) (extended (effects t.assertion σ) σ)
-    step σ e p = extended_within (variables t) (effects t.assertion σ) σ (no_outside (variables t) σ (effects t.assertion σ) e) p
+    step σ e p = extended_within (variables t) (effects t.assertion σ) σ (faultless (variables t) σ (effects t.assertion σ) e).outside p

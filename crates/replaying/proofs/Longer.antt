@@ -54,7 +54,7 @@ module _ (m : Meaning) (complete : Complete m) (rest : List ℤ) where
     guard_longer : (t : ℕ) (g : Evaluation) → left_by_guard m t (a ++ rest) g ≡ longer (left_by_guard m t a g)
     unfolding left_by_guard
     guard_longer t Unknown = refl
-    guard_longer t Failed = refl
+    guard_longer t (Failed manner) = refl
     guard_longer t (Value v) = rw used (go (eq_z v (boolean true)))
       where
         go : (b : Bool)

@@ -39,7 +39,7 @@ module _ (m : Meaning) (P : Left → Type 0) (old : List ℤ) (refusal : (f : Fi
     guard_cases : (t : ℕ) (g : Evaluation) → P (left_by_guard m t old g)
     unfolding left_by_guard
     guard_cases t Unknown = refusal (Err Disabled) refl
-    guard_cases t Failed = refusal (Err GuardFailed) refl
+    guard_cases t (Failed manner) = refusal (Err (GuardFailed manner)) refl
     guard_cases t (Value v) =
         by_test P (eq_z v (boolean true)) _ _ (λ e. acting_cases (m.action t (take (length m.declarations) old))) (λ e. refusal (Err Disabled) refl)
 

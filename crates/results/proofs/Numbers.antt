@@ -5,7 +5,7 @@ use native.Mathlib.Omega.{arith}
 use lib.Dec.{eqb}
 use mathlib.Core.Bool.{cond}
 use Rattle.results.specs.declared.refusal.Refusal.{Refusal}
-use Rattle.results.specs.declared.refusal.Refusal.TheVariants.{ShortFile, TooManyNodes, WrongLength, MissingNode, TooDeep, KindNotAllowed, ParameterNotAllowed, NodesLeftOver, ShortValues, ShortSlice, NoSuchTransition, NoSuchVariable, NoCommand, InvalidRun, FullHistory, EmptyHistory, GuardFalse, GuardFailed, ActionFailed, ActionOutside, ActionConflict, AssertionFailed, AssertionOutside, AssertionConflict, NotReplayable, NotInGrammar, TypesDoNotFit, TooLarge, NoMembers, LimitPassed, TooManyVariables}
+use Rattle.results.specs.declared.refusal.Refusal.TheVariants.{ShortFile, TooManyNodes, WrongLength, MissingNode, TooDeep, KindNotAllowed, ParameterNotAllowed, NodesLeftOver, ShortValues, ShortSlice, NoSuchTransition, NoSuchVariable, NoCommand, InvalidRun, FullHistory, EmptyHistory, GuardFalse, GuardZeroDivisor, ActionZeroDivisor, ActionOutside, ActionConflict, AssertionZeroDivisor, AssertionOutside, AssertionConflict, NotReplayable, NotInGrammar, TypesDoNotFit, TextTooLarge, NoMembers, LimitPassed, TooManyVariables, GuardTooLarge, ActionTooLarge, AssertionTooLarge}
 use Rattle.results.specs.Refusals.{number_of, NumbersDiffer}
 
 -- the refusal of a number; of other numbers it has no meaning
@@ -28,20 +28,23 @@ refusal_of n =
     (cond (eqb n 21) FullHistory
     (cond (eqb n 22) EmptyHistory
     (cond (eqb n 23) GuardFalse
-    (cond (eqb n 24) GuardFailed
-    (cond (eqb n 25) ActionFailed
+    (cond (eqb n 24) GuardZeroDivisor
+    (cond (eqb n 25) ActionZeroDivisor
     (cond (eqb n 26) ActionOutside
     (cond (eqb n 27) ActionConflict
-    (cond (eqb n 28) AssertionFailed
+    (cond (eqb n 28) AssertionZeroDivisor
     (cond (eqb n 29) AssertionOutside
     (cond (eqb n 30) AssertionConflict
     (cond (eqb n 31) NotReplayable
     (cond (eqb n 32) NotInGrammar
     (cond (eqb n 33) TypesDoNotFit
-    (cond (eqb n 34) TooLarge
+    (cond (eqb n 34) TextTooLarge
     (cond (eqb n 35) NoMembers
     (cond (eqb n 36) LimitPassed
-    TooManyVariables)))))))))))))))))))))))))))))
+    (cond (eqb n 37) TooManyVariables
+    (cond (eqb n 38) GuardTooLarge
+    (cond (eqb n 39) ActionTooLarge
+    AssertionTooLarge))))))))))))))))))))))))))))))))
 
 found_again : (r : Refusal) → refusal_of (number_of r) ≡ r
 unfolding refusal_of number_of
@@ -62,20 +65,23 @@ found_again InvalidRun = refl
 found_again FullHistory = refl
 found_again EmptyHistory = refl
 found_again GuardFalse = refl
-found_again GuardFailed = refl
-found_again ActionFailed = refl
+found_again GuardZeroDivisor = refl
+found_again ActionZeroDivisor = refl
 found_again ActionOutside = refl
 found_again ActionConflict = refl
-found_again AssertionFailed = refl
+found_again AssertionZeroDivisor = refl
 found_again AssertionOutside = refl
 found_again AssertionConflict = refl
 found_again NotReplayable = refl
 found_again NotInGrammar = refl
 found_again TypesDoNotFit = refl
-found_again TooLarge = refl
+found_again TextTooLarge = refl
 found_again NoMembers = refl
 found_again LimitPassed = refl
 found_again TooManyVariables = refl
+found_again GuardTooLarge = refl
+found_again ActionTooLarge = refl
+found_again AssertionTooLarge = refl
 
 positive : (r : Refusal) → 1 ≤ number_of r
 unfolding number_of
@@ -96,20 +102,23 @@ positive InvalidRun = omega arith
 positive FullHistory = omega arith
 positive EmptyHistory = omega arith
 positive GuardFalse = omega arith
-positive GuardFailed = omega arith
-positive ActionFailed = omega arith
+positive GuardZeroDivisor = omega arith
+positive ActionZeroDivisor = omega arith
 positive ActionOutside = omega arith
 positive ActionConflict = omega arith
-positive AssertionFailed = omega arith
+positive AssertionZeroDivisor = omega arith
 positive AssertionOutside = omega arith
 positive AssertionConflict = omega arith
 positive NotReplayable = omega arith
 positive NotInGrammar = omega arith
 positive TypesDoNotFit = omega arith
-positive TooLarge = omega arith
+positive TextTooLarge = omega arith
 positive NoMembers = omega arith
 positive LimitPassed = omega arith
 positive TooManyVariables = omega arith
+positive GuardTooLarge = omega arith
+positive ActionTooLarge = omega arith
+positive AssertionTooLarge = omega arith
 
 pub numbers_differ : NumbersDiffer
 numbers_differ = (positive, λ r r' e. sym (found_again r) ∙ (ap refusal_of e ∙ found_again r'))

@@ -2,7 +2,7 @@
 -- 02's requests. Of 1, 2 and 3 the words are those of A7; of an old file they say 6 bytes, 4,000 nodes and 6 + 5N.
 use Rattle.std.specs.Prelude.{◌≡◌, ℕ, ◌≤◌}
 use Rattle.results.specs.declared.refusal.Refusal.{Refusal}
-use Rattle.results.specs.declared.refusal.Refusal.TheVariants.{ShortFile, TooManyNodes, WrongLength, MissingNode, TooDeep, KindNotAllowed, ParameterNotAllowed, NodesLeftOver, ShortValues, ShortSlice, NoSuchTransition, NoSuchVariable, NoCommand, InvalidRun, FullHistory, EmptyHistory, GuardFalse, GuardFailed, ActionFailed, ActionOutside, ActionConflict, AssertionFailed, AssertionOutside, AssertionConflict, NotReplayable, NotInGrammar, TypesDoNotFit, TooLarge, NoMembers, LimitPassed, TooManyVariables}
+use Rattle.results.specs.declared.refusal.Refusal.TheVariants.{ShortFile, TooManyNodes, WrongLength, MissingNode, TooDeep, KindNotAllowed, ParameterNotAllowed, NodesLeftOver, ShortValues, ShortSlice, NoSuchTransition, NoSuchVariable, NoCommand, InvalidRun, FullHistory, EmptyHistory, GuardFalse, GuardZeroDivisor, ActionZeroDivisor, ActionOutside, ActionConflict, AssertionZeroDivisor, AssertionOutside, AssertionConflict, NotReplayable, NotInGrammar, TypesDoNotFit, TextTooLarge, NoMembers, LimitPassed, TooManyVariables, GuardTooLarge, ActionTooLarge, AssertionTooLarge}
 
 unfoldable pub number_of : Refusal → ℕ
 -- "under 10 bytes"
@@ -39,16 +39,16 @@ number_of FullHistory = 21
 number_of EmptyHistory = 22
 -- "guard false"
 number_of GuardFalse = 23
--- "guard failed"
-number_of GuardFailed = 24
+-- "guard failed"; A8: 24, 25, 28 "keep the zero divisor"
+number_of GuardZeroDivisor = 24
 -- "a reached condition or active expression failed"
-number_of ActionFailed = 25
+number_of ActionZeroDivisor = 25
 -- "an active value is outside its variable's ends"
 number_of ActionOutside = 26
 -- "two active assignments give one variable different values"
 number_of ActionConflict = 27
 -- "28, 29, 30 are as 25, 26, 27"
-number_of AssertionFailed = 28
+number_of AssertionZeroDivisor = 28
 number_of AssertionOutside = 29
 number_of AssertionConflict = 30
 -- "start is refused, or the first n − 1 entries can't be fired again"
@@ -58,13 +58,17 @@ number_of NotInGrammar = 32
 -- "types that don't fit"
 number_of TypesDoNotFit = 33
 -- "text over 200 bytes [..] or nodes deeper than 32"
-number_of TooLarge = 34
+number_of TextTooLarge = 34
 -- "both lists empty"
 number_of NoMembers = 35
 -- "the result would pass a limit of sizes, nodes or depth, or the slice lent for it"
 number_of LimitPassed = 36
 -- "S+F above 4,000"
 number_of TooManyVariables = 37
+-- "too large in a guard, an action, the assertion, each right after 24, 25, 28"
+number_of GuardTooLarge = 38
+number_of ActionTooLarge = 39
+number_of AssertionTooLarge = 40
 
 -- 0 is no refusal's number, and no two refusals have one number. Proved in proofs/Numbers.antt.
 abbrev pub NumbersDiffer : Type 0

@@ -40,16 +40,16 @@ pub enum Refusal {
     EmptyHistory = 22,
     // The guard is false.
     GuardFalse = 23,
-    // The guard failed.
-    GuardFailed = 24,
-    // A condition or an expression of the action failed.
-    ActionFailed = 25,
+    // The guard failed: a divisor is 0.
+    GuardZeroDivisor = 24,
+    // A condition or an expression of the action failed: a divisor is 0.
+    ActionZeroDivisor = 25,
     // The action gives a value outside its variable's ends.
     ActionOutside = 26,
     // The action gives one variable different values.
     ActionConflict = 27,
-    // A condition or an expression of the assertion failed.
-    AssertionFailed = 28,
+    // A condition or an expression of the assertion failed: a divisor is 0.
+    AssertionZeroDivisor = 28,
     // The assertion gives a value outside its variable's ends.
     AssertionOutside = 29,
     // The assertion gives one variable different values, or one that differs from its known value.
@@ -61,13 +61,19 @@ pub enum Refusal {
     // The types of the text do not fit.
     TypesDoNotFit = 33,
     // The text is over 200 bytes, or its nodes are deeper than 32.
-    TooLarge = 34,
+    TextTooLarge = 34,
     // Both lists of transitions to join are empty.
     NoMembers = 35,
     // The model joined would pass a limit of sizes, nodes or depth, or the slice lent for it.
     LimitPassed = 36,
     // S+F is above 4,000.
     TooManyVariables = 37,
+    // The guard failed: a number is beyond 32 bits.
+    GuardTooLarge = 38,
+    // A condition or an expression of the action failed: a number is beyond 32 bits.
+    ActionTooLarge = 39,
+    // A condition or an expression of the assertion failed: a number is beyond 32 bits.
+    AssertionTooLarge = 40,
 }
 
 impl Refusal {

@@ -32,7 +32,8 @@ use Rattle.semantics.specs.Theorems.{Extends}
 use Rattle.semantics.specs.Counting.{unknowns}
 use Rattle.semantics.specs.Propagation.{is_new, extended, rounds, round_by}
 use Rattle.semantics.specs.Propagation.Reached.{reached}
-use Rattle.semantics.proofs.Alike.{Alike, faults_alike, given_alike, no_conflict}
+use Rattle.semantics.proofs.Effects.{faultless}
+use Rattle.semantics.proofs.Alike.{Alike, faults_alike, given_alike}
 use Rattle.semantics.proofs.Rounds.{round_falls, assertion_targets}
 use Rattle.waiting.specs.Waiting.{waiting, effects_of_each}
 use Rattle.waiting.specs.Spots.{Spot, spots, instructions_of}
@@ -81,7 +82,7 @@ module _ (vs : List Variable) (i : Instruction) (σ τ : Valuation) (n : fault_o
 
   read_extended : fault_of vs τ (effects i τ) ≡ none → extended (effects_of_each read τ) τ ≡ extended (effects i τ) τ
   read_extended f =
-      fun_ext (λ x. ap (first_of (τ x)) (sym (given_alike same τ (no_conflict vs τ (effects_of_each (waiting i σ) τ) (faults_alike same vs τ ∙ read_fault ∙ f)) x)))
+      fun_ext (λ x. ap (first_of (τ x)) (sym (given_alike same τ (faultless vs τ (effects_of_each (waiting i σ) τ) (faults_alike same vs τ ∙ read_fault ∙ f)).conflict x)))
       ∙ subst (λ ρ. fault_of vs ρ (effects i ρ) ≡ none → extended (effects_of_each (waiting i σ) ρ) ρ ≡ extended (effects i ρ) ρ) (sym q) (λ g. sym (extended_same vs i σ n g)) f
 
 -- ---- the effects of what was read are admissible

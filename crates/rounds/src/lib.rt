@@ -14,6 +14,7 @@ ghost use Rattle.rounds.specs.Cells.{ending, finding_of, reached_in};
 ghost use Rattle.rounds.specs.Rounds.{Pending, Queued, Done};
 ghost use Rattle.rounds.specs.Lent.{AssertionHeld, IndexHeld, FittingIn, UnderWay, StillWakingIn, PassedIn, RestingIn, TurnIn, ReadyIn, SomeReadyIn};
 
+use evaluation::Manner;
 use interpreter::{Fault, Gathered};
 use reading::{Gathering, Reading};
 use tables::{Index, Tables};
@@ -34,13 +35,16 @@ struct IndexedReading<'a> {
     ghost held: { IndexHeld reading.tables.now index.now },
 }
 
-// The fault found, the lowest class first.
+// The fault found: a zero divisor, too large, outside, a conflict, in this order.
 #[tactic(auto, unfolding(crate::specs::Cells::finding_of, interpreter::specs::Gathering::fault_in))]
 pub fn fault_in(found: Gathered) -> Result<(), Fault>
     ensures { result ≡ finding_of (fault_in found) }
 {
-    if found.failed {
-        return Err(Fault::Failure);
+    if found.zero_divisor {
+        return Err(Fault::Failure(Manner::ZeroDivisor));
+    }
+    if found.too_large {
+        return Err(Fault::Failure(Manner::TooLarge));
     }
     if found.outside {
         return Err(Fault::Outside);

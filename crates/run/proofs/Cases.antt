@@ -23,7 +23,7 @@ use Rattle.inspection.specs.Queries.{marks, value, first_fireable, pick, range_c
 use Rattle.steps.specs.Calls.{answer_of, fired_into, start, fire, undone_by, undo}
 use Rattle.replaying.specs.Replays.{initial, replay}
 use Rattle.replaying.proofs.Tests.{by_test}
-use Rattle.steps.proofs.FaultNumbers.{action_number, assertion_number}
+use Rattle.steps.proofs.FaultNumbers.{guard_numbered, action_number, assertion_number}
 
 -- the number of a refusal is neither 20 nor 31, nor 0
 abbrev pub Other : ℕ → Type 0
@@ -44,7 +44,7 @@ module _ (m : Meaning) (r : Run) (P : Done Run → Type 0) (refusal : (k : ℕ) 
   firing_cases : (new : Run) (f : Firing) → ((n : ℕ) → f ≡ Ok n → P (answered (rounds n) new)) → P (fired_into r new f)
   unfolding answer_of
   firing_cases new (Err Disabled) g = refusal 23 (omega arith)
-  firing_cases new (Err GuardFailed) g = refusal 24 (omega arith)
+  firing_cases new (Err (GuardFailed manner)) g = refusal _ (omega (arith, guard_numbered manner))
   firing_cases new (Err (ActionFault x)) g = refusal _ (omega (arith, action_number x))
   firing_cases new (Err (AssertionFault x)) g = refusal _ (omega (arith, assertion_number x))
   firing_cases new (Ok n) g = g n refl

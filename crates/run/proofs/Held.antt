@@ -125,7 +125,7 @@ module _ (m : Meaning) (kept : EndsKept m) where
   guard_within_lem : (t : ℕ) (old : List ℤ) → InEnds m.declarations old → (g : Evaluation) → LeftWithin (left_by_guard m t old g)
   unfolding left_by_guard
   guard_within_lem t old h Unknown = λ n a. clash cc
-  guard_within_lem t old h Failed = λ n a. clash cc
+  guard_within_lem t old h (Failed manner) = λ n a. clash cc
   guard_within_lem t old h (Value v) =
       by_test LeftWithin (eq_z v (boolean true)) _ _
       (λ e. acting_within t old h (m.action t (take (length m.declarations) old)) refl)

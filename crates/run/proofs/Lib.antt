@@ -12,4 +12,5 @@ pub mod Refused
 pub mod Replay
 pub mod Replayed
 pub mod Rows
+pub mod MannerRows
 pub mod Seen

@@ -27,7 +27,7 @@ goes_on P next other l vs f e = go l.answer f e
     go : (a : Firing) → ((n : ℕ) → a ≡ Ok n → next l.left ≡ some vs → P (other l.left))
         → cond (is_fired a) (next l.left) none ≡ some vs → P (cond (is_fired a) (other l.left) none)
     go (Err Disabled) f e = absurd (none-ne-some vs e)
-    go (Err GuardFailed) f e = absurd (none-ne-some vs e)
+    go (Err (GuardFailed manner)) f e = absurd (none-ne-some vs e)
     go (Err (ActionFault x)) f e = absurd (none-ne-some vs e)
     go (Err (AssertionFault x)) f e = absurd (none-ne-some vs e)
     go (Ok n) f e = f n refl e

@@ -1,9 +1,9 @@
 -- The rows of specs/Rows.antt.
 use mathlib.Core.Path.{refl}
 use Rattle.evaluation.specs.Numbers.{eq_z}
-use Rattle.evaluation.specs.Meaning.{operated, decides, decisive, decision, is_unknown, is_failed, number, calculated, divided, agree, chosen}
+use Rattle.evaluation.specs.Meaning.{operated, decides, decisive, decision, is_unknown, same_manner, failed_in, number, calculated, divided, agree, chosen}
 use Rattle.expressions.specs.Expressions.{evaluate, evaluation_of}
-use Rattle.interpreter.specs.Instructions.{assigned, effects, effects_of_all, any, is_failure, is_within, is_outside, differs, given_by, conflicts_with, fault_of, first_of, given_to, fault_number}
+use Rattle.interpreter.specs.Instructions.{assigned, effects, effects_of_all, any, is_failure, is_within, is_outside, differs, given_by, conflicts_with, fault_of, first_of, given_to, guard_number, fault_number}
 use Rattle.semantics.specs.Actions.{value_or0, cells, acted_by, act}
 use Rattle.semantics.specs.Propagation.{is_known, is_new, round_by, rounds, finished_by, finish, settled_from, settle, first_value}
 use Rattle.semantics.specs.Meanings.{guard_in, action_in, meaning_of}
@@ -14,5 +14,5 @@ use Rattle.steps.specs.Calls.{answer_of, start, fire}
 use Rattle.run.specs.Rows.{AgreementRows}
 
 pub agreement_rows : AgreementRows
-unfolding evaluate evaluation_of assigned effects effects_of_all any is_failure is_within is_outside differs given_by conflicts_with fault_of first_of given_to fault_number value_or0 cells eq_z operated decides decisive decision is_unknown is_failed number calculated divided agree chosen is_known is_new round_by rounds finished_by finish settled_from settle first_value meaning_of left_by_settling answer_of acted_by act guard_in action_in left_by_acting left_by_guard fired first_outside mark_of marks_from fire begun start
+unfolding evaluate evaluation_of assigned effects effects_of_all any is_failure is_within is_outside differs given_by conflicts_with fault_of first_of given_to guard_number fault_number value_or0 cells eq_z operated decides decisive decision is_unknown same_manner failed_in number calculated divided agree chosen is_known is_new round_by rounds finished_by finish settled_from settle first_value meaning_of left_by_settling answer_of acted_by act guard_in action_in left_by_acting left_by_guard fired first_outside mark_of marks_from fire begun start
 agreement_rows = ((refl, refl), (refl, refl), (refl, refl, refl, refl), (refl, refl), (refl, refl))

@@ -14,6 +14,7 @@ use Rattle.run.specs.declared.Answer.TheVariants.{Rounds, Done, Number, Sizes, P
 use Rattle.standing.specs.Runs.{Answer}
 use Rattle.standing.specs.Runs.Answer.{refused, rounds, done, number, sizes, picked, outside}
 use Rattle.replaying.proofs.Tests.{clash}
+use Rattle.steps.proofs.NumbersApart.{refused_same}
 use Rattle.run.specs.Promises.{told}
 use Rattle.run.specs.Theorems.{Distinct, SeenDistinct}
 
@@ -46,16 +47,13 @@ not_refused (Sizes z) n e = clash cc
 not_refused (Picked o) n e = clash cc
 not_refused (Outside c) n e = clash cc
 
-same_number : (n k : ℕ) → refused n ≡ refused k → n ≡ k
-same_number n k e = cc
-
 -- results of two kinds of values, told apart by what has the value back from what is told
 module _ {A : Type 0} (f : A → Answer) (back : Answer → A) (has_back : (a : A) → back (f a) ≡ a) (no_refusal : (a : A) (n : ℕ) → f a ≡ refused n → ⊥) where
   distinct : Distinct f
   distinct (Ok a) (Ok b) e = ap Ok (sym (has_back a) ∙ ap back e ∙ has_back b)
   distinct (Ok a) (Err r) e = absurd (no_refusal a (number_of r) e)
   distinct (Err r) (Ok b) e = absurd (no_refusal b (number_of r) (sym e))
-  distinct (Err r) (Err r') e = ap Err (numbers_differ.1 r r' (same_number (number_of r) (number_of r') e))
+  distinct (Err r) (Err r') e = ap Err (numbers_differ.1 r r' (refused_same e))
 
 -- the value of each kind of answer; of the others it has no meaning
 count_in : Answer → ℕ

@@ -8,3 +8,4 @@ pub mod Promises
 -- statements:
 pub mod Theorems
 pub mod Rows
+pub mod MannerRows

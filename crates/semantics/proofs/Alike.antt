@@ -8,13 +8,13 @@ use Prim.Native.Nat.{ℕ}
 use borrow.Author.Tests.{eqb-true}
 use lib.Dec.{eqb}
 use lib.IntN.{ℤ}
+use Rattle.evaluation.specs.declared.Manner.TheVariants.{ZeroDivisor, TooLarge}
 use Rattle.evaluation.specs.Numbers.{eq_z}
 use Rattle.evaluation.proofs.Laws.{eq_z_refl, eq_z_true}
 use Rattle.model.specs.Trees.{Variable}
 use Rattle.expressions.specs.Expressions.{Valuation}
 use Rattle.interpreter.specs.Instructions.{Effect, any, is_failure, is_outside, differs, given_by, conflicts_with, fault_of, first_of, given_to}
 use Rattle.interpreter.specs.Instructions.Effect.{fails, gives}
-use Rattle.interpreter.specs.declared.Fault.TheVariants.{Failure as failure, Outside as outside, Conflict as conflict}
 use Rattle.semantics.specs.Propagation.{is_known}
 
 -- ---- tests
@@ -47,13 +47,13 @@ pub record Alike (l m : List Effect) : Type 0 where
 module _ {l m : List Effect} (h : Alike l m) where
   conflicts_alike : (known : Valuation) (e : Effect) → conflicts_with known l e ≡ conflicts_with known m e
   unfolding conflicts_with
-  conflicts_alike known fails = refl
+  conflicts_alike known (fails manner) = refl
   conflicts_alike known (gives x v) = ap (λ t. differs v (known x) || t) (h.tests _)
 
   pub faults_alike : (vs : List Variable) (known : Valuation) → fault_of vs known l ≡ fault_of vs known m
   unfolding fault_of
   faults_alike vs known =
-      rw (h.tests is_failure, h.tests (is_outside vs), h.tests (conflicts_with known l), fun_ext (conflicts_alike known))
+      rw (h.tests (is_failure ZeroDivisor), h.tests (is_failure TooLarge), h.tests (is_outside vs), h.tests (conflicts_with known l), fun_ext (conflicts_alike known))
 
 -- ---- values given
 
@@ -95,7 +95,7 @@ value_of false u v h = absurd (false≢true h)
 module _ (known : Valuation) (l : List Effect) (x : ℕ) (v : ℤ) (d : any (λ e. differs v (given_by x e)) l ≡ true) where
   conflict_at : (e : Effect) → is_value v (given_by x e) ≡ true → conflicts_with known l e ≡ true
   unfolding conflicts_with given_by is_value
-  conflict_at fails h = h
+  conflict_at (fails manner) h = h
   conflict_at (gives y u) h = go (value_of (eqb x y) u v h)
     where
       go : (eqb x y ≡ true) × (v ≡ u) → (differs u (known y) || any (λ e. differs u (given_by y e)) l) ≡ true
@@ -106,16 +106,6 @@ two_values : (known : Valuation) (l : List Effect) (x : ℕ) (v w : ℤ) → eq_
     → any (λ e. is_value v (given_by x e)) l ≡ true → any (λ e. is_value w (given_by x e)) l ≡ true → any (conflicts_with known l) l ≡ true
 two_values known l x v w n h k =
     any_mono _ _ (conflict_at known l x v (any_mono _ _ (λ e. value_differs v w (given_by x e) n) l k)) l h
-
-fault_none : (a b c : Bool) → cond a (some failure) (cond b (some outside) (cond c (some conflict) none)) ≡ none → c ≡ false
-fault_none true b c h = cc
-fault_none false true c h = cc
-fault_none false false true h = cc
-fault_none false false false h = refl
-
-pub no_conflict : (vs : List Variable) (known : Valuation) (l : List Effect) → fault_of vs known l ≡ none → any (conflicts_with known l) l ≡ false
-unfolding fault_of
-no_conflict vs known l h = fault_none (any is_failure l) (any (is_outside vs) l) (any (conflicts_with known l) l) h
 
 module _ {l m : List Effect} (h : Alike l m) (known : Valuation) (n : any (conflicts_with known l) l ≡ false) where
   pub given_alike : (x : ℕ) → given_to x l ≡ given_to x m

@@ -18,8 +18,10 @@ use Rattle.evaluation.specs.declared.Evaluation.{Evaluation}
 use Rattle.evaluation.specs.declared.Evaluation.TheVariants.{Unknown, Failed, Value}
 use Rattle.evaluation.specs.declared.Operator.{Operator}
 use Rattle.evaluation.specs.declared.Operator.TheVariants.{Conjunction, Disjunction, Equality, Less, LessOrEqual, Sum, Difference, Product, Quotient, Remainder, Equivalence}
+use Rattle.evaluation.specs.declared.Manner.{Manner}
+use Rattle.evaluation.specs.declared.Manner.TheVariants.{ZeroDivisor, TooLarge}
 use Rattle.evaluation.specs.Numbers.{eq_z, boolean}
-use Rattle.evaluation.specs.Meaning.{operated, negated, calculated, decides, decision, is_unknown, is_failed, number}
+use Rattle.evaluation.specs.Meaning.{operated, negated, calculated, decides, decision, is_unknown, failed_in, number}
 use Rattle.evaluation.proofs.Laws.{eq_z_true, cond_keeps, chosen_keeps}
 use Rattle.kinds.specs.declared.Sort.{Sort}
 use Rattle.kinds.specs.Kinds.{boolean_sort, kind_of, result_of}
@@ -43,7 +45,7 @@ use Rattle.semantics.proofs.Knowing.{element_below, element_all, all_known, know
 -- a value is 0 or 1
 unfoldable Truthful : Evaluation → Type 0
 Truthful Unknown = Unit {0}
-Truthful Failed = Unit {0}
+Truthful (Failed manner) = Unit {0}
 Truthful (Value v) = T (is_truth v)
 
 truthful_boolean : (t : Bool) → Truthful (Value (boolean t))
@@ -84,12 +86,13 @@ unfolding operated Truthful
 truthful_operated op e a b =
     cond_keeps Truthful (decides op a || decides op b) (Value (decision op)) _ (truthful_decision op)
     (cond_keeps Truthful (is_unknown a || is_unknown b) Unknown _ tt
-    (cond_keeps Truthful (is_failed a || is_failed b) Failed _ tt (truthful_calculated op e (number a) (number b))))
+    (cond_keeps Truthful (failed_in ZeroDivisor a || failed_in ZeroDivisor b) (Failed ZeroDivisor) _ tt
+    (cond_keeps Truthful (failed_in TooLarge a || failed_in TooLarge b) (Failed TooLarge) _ tt (truthful_calculated op e (number a) (number b)))))
 
 truthful_negated : (a : Evaluation) → Truthful (negated a)
 unfolding negated Truthful
 truthful_negated Unknown = tt
-truthful_negated Failed = tt
+truthful_negated (Failed manner) = tt
 truthful_negated (Value v) = truthful_boolean (eq_z v (boolean false))
 
 module _ (sorts : List Sort) (σ : Valuation) (booleans : (x : ℕ) → x < length sorts → slice_get sorts x ≡ boolean_sort → Truthful (evaluation_of (σ x))) where
@@ -101,7 +104,7 @@ module _ (sorts : List Sort) (σ : Valuation) (booleans : (x : ℕ) → x < leng
   truthful_expression (negation a) h = truthful_negated (evaluate a σ)
   truthful_expression (binary op a b) h = truthful_operated op h.0 (evaluate a σ) (evaluate b σ)
   truthful_expression (if_then_else c a b) h =
-      chosen_keeps Truthful tt tt (evaluate c σ) (evaluate a σ) (evaluate b σ) (truthful_expression a h.1) (truthful_expression b h.2)
+      chosen_keeps Truthful tt (λ f. tt) (evaluate c σ) (evaluate a σ) (evaluate b σ) (truthful_expression a h.1) (truthful_expression b h.2)
 
 -- ---- values within their ends
 
@@ -147,14 +150,14 @@ booleans_within t w values inside x l b =
 
 -- ---- guards
 
-decided : (g : Evaluation) → is_unknown g ≡ false → Truthful g → (g ≡ Failed) ⊎ ((g ≡ Value (boolean false)) ⊎ (g ≡ Value (boolean true)))
+decided : (g : Evaluation) → is_unknown g ≡ false → Truthful g → ((f : Manner) × (g ≡ Failed f)) ⊎ ((g ≡ Value (boolean false)) ⊎ (g ≡ Value (boolean true)))
 unfolding is_unknown Truthful
 decided Unknown u h = absurd (true≢false u)
-decided Failed u h = inl refl
+decided (Failed manner) u h = inl (manner, refl)
 decided (Value v) u h = by (eq_z v (pos 0)) (eq_z v (pos 1)) refl refl h
   where
     by : (s t : Bool) → eq_z v (pos 0) ≡ s → eq_z v (pos 1) ≡ t → T (s || t)
-        → (Value v ≡ Failed) ⊎ ((Value v ≡ Value (boolean false)) ⊎ (Value v ≡ Value (boolean true)))
+        → ((f : Manner) × (Value v ≡ Failed f)) ⊎ ((Value v ≡ Value (boolean false)) ⊎ (Value v ≡ Value (boolean true)))
     by true t p q k = inr (inl (ap Value (eq_z_true v (pos 0) p)))
     by false true p q k = inr (inr (ap Value (eq_z_true v (pos 1) q)))
     by false false p q k = absurd k
@@ -162,7 +165,7 @@ decided (Value v) u h = by (eq_z v (pos 0)) (eq_z v (pos 1)) refl refl h
 -- any Boolean expression over the variables
 module _ (m : List ℕ) (s : Sizes) (t : System) (b : Bytes m) (e : verdict m ≡ accepted s t) (values : List ℤ) (inside : VariableValues t values) where
   pub expression_decides : (g : Expression) → Sorted (sorts_of (variables t)) boolean_sort g
-      → (evaluate g (known_from values) ≡ Failed)
+      → ((f : Manner) × (evaluate g (known_from values) ≡ Failed f))
       ⊎ ((evaluate g (known_from values) ≡ Value (boolean false)) ⊎ (evaluate g (known_from values) ≡ Value (boolean true)))
   expression_decides g h =
       let w = ((check_exact m b s t).0 e).2 in

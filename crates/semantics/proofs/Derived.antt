@@ -72,7 +72,7 @@ unfolding is_new is_known
 new_value es σ e = let w = witness (is_new σ) es e in go w.0 w.1 w.2
   where
     go : (e : Effect) → Memᴰ e es → is_new σ e ≡ true → NewValue es σ
-    go fails m n = absurd (false≢true n)
+    go (fails manner) m n = absurd (false≢true n)
     go (gives x v) m n = record { to = x; value = v; given = m; unknown = unknown (σ x) n }
       where
         unknown : (o : Option ℤ) → not (is_known o) ≡ true → o ≡ none

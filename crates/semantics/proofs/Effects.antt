@@ -5,13 +5,15 @@ use mathlib.Core.Logic.{⊎_elim}
 use mathlib.Core.Bool.{Bool, true, false, true≢false, false≢true, cond, not, ◌||◌}
 use mathlib.Core.List.Memᴰ
 use mathlib.Core.List.{List, [], ◌∷◌, Memᴰ}
-use mathlib.Core.Option.{Option, some, none}
+use mathlib.Core.Option.{Option, some, none, some-ne-none}
 use Prim.Native.Nat.{ℕ, ◌≤◌, ◌<◌}
 use borrow.Author.Tests.{eqb-true, eq-eqb, not-false}
 use lib.Dec.{eqb}
 use lib.IntN.{ℤ}
 use Rattle.evaluation.specs.declared.Evaluation.{Evaluation}
 use Rattle.evaluation.specs.declared.Evaluation.TheVariants.{Unknown, Failed, Value}
+use Rattle.evaluation.specs.declared.Manner.{Manner}
+use Rattle.evaluation.specs.declared.Manner.TheVariants.{ZeroDivisor, TooLarge}
 use Rattle.evaluation.specs.Numbers.{eq_z, boolean}
 use Rattle.evaluation.proofs.Laws.{eq_z_true}
 use Rattle.model.specs.Trees.{Instruction, Instructions, Variable}
@@ -22,7 +24,6 @@ use Rattle.model.specs.WellFormed.{Scoped, AllScoped}
 use Rattle.expressions.specs.Expressions.{Valuation, evaluate}
 use Rattle.interpreter.specs.Instructions.{Effect, assigned, under, effects, effects_of_all, any, is_failure, is_outside, differs, given_by, conflicts_with, fault_of, given_to, first_of}
 use Rattle.interpreter.specs.Instructions.Effect.{fails, gives}
-use Rattle.interpreter.specs.declared.Fault.{Fault}
 use Rattle.interpreter.specs.declared.Fault.TheVariants.{Failure as failure, Outside as outside, Conflict as conflict}
 use Rattle.semantics.specs.Propagation.{is_new, is_known}
 use Rattle.semantics.specs.Theorems.{Extends}
@@ -68,29 +69,32 @@ module _ {A : Type 0} (p : A → Bool) where
 -- ---- no fault
 
 pub record Faultless (vs : List Variable) (known : Valuation) (es : List Effect) : Type 0 where
-  pub failure : any is_failure es ≡ false
+  pub failure : (m : Manner) → any (is_failure m) es ≡ false
   pub outside : any (is_outside vs) es ≡ false
   pub conflict : any (conflicts_with known es) es ≡ false
 
-abbrev lowest : Bool → Bool → Bool → Option Fault
-lowest a b c = cond a (some failure) (cond b (some outside) (cond c (some conflict) none))
-
-lowest_none : (a b c : Bool) → lowest a b c ≡ none → (a ≡ false) × (b ≡ false) × (c ≡ false)
-lowest_none true b c e = let z : true ≡ false = cc in absurd (true≢false z)
-lowest_none false true c e = let z : true ≡ false = cc in absurd (true≢false z)
-lowest_none false false true e = let z : true ≡ false = cc in absurd (true≢false z)
-lowest_none false false false e = (refl, refl, refl)
+-- none of the tests found one
+none_found : {A : Type 0} (a : A) (t : Bool) (o : Option A) → cond t (some a) o ≡ none → (t ≡ false) × (o ≡ none)
+none_found a true o e = absurd (some-ne-none a e)
+none_found a false o e = (refl, e)
 
 module _ (vs : List Variable) where
   pub faultless : (known : Valuation) (es : List Effect) → fault_of vs known es ≡ none → Faultless vs known es
   unfolding fault_of
   faultless known es e =
-      let h = lowest_none (any is_failure es) (any (is_outside vs) es) (any (conflicts_with known es) es) e in
-      record { failure = h.0; outside = h.1; conflict = h.2 }
+      let z = none_found (failure ZeroDivisor) (any (is_failure ZeroDivisor) es) _ e in
+      let l = none_found (failure TooLarge) (any (is_failure TooLarge) es) _ z.1 in
+      let o = none_found outside (any (is_outside vs) es) _ l.1 in
+      let c = none_found conflict (any (conflicts_with known es) es) none o.1 in
+      record { failure = failed z.0 l.0; outside = o.0; conflict = c.0 }
+    where
+      failed : any (is_failure ZeroDivisor) es ≡ false → any (is_failure TooLarge) es ≡ false → (m : Manner) → any (is_failure m) es ≡ false
+      failed z l ZeroDivisor = z
+      failed z l TooLarge = l
 
   pub no_fault_lem : (known : Valuation) (es : List Effect) → Faultless vs known es → fault_of vs known es ≡ none
   unfolding fault_of
-  no_fault_lem known es f = rw (f.failure, f.outside, f.conflict)
+  no_fault_lem known es f = rw (f.failure ZeroDivisor, f.failure TooLarge, f.outside, f.conflict)
 
   -- a value given is the one known
   pub given_known : (σ : Valuation) (es : List Effect) → fault_of vs σ es ≡ none → (x : ℕ) (v w : ℤ) → Memᴰ (gives x v) es
@@ -116,7 +120,7 @@ module _ (vs : List Variable) where
   conflict_below : (σ τ : Valuation) (es fs : List Effect) → Extends σ τ → Includes es fs → (e : Effect) → conflicts_with τ fs e ≡ false
       → conflicts_with σ es e ≡ false
   unfolding conflicts_with differs
-  conflict_below σ τ es fs h k fails c = refl
+  conflict_below σ τ es fs h k (fails manner) c = refl
   conflict_below σ τ es fs h k (gives x v) c =
       or_both _ _ (known (σ x) refl)
       (any_false (λ e. differs v (given_by x e)) es
@@ -132,7 +136,7 @@ module _ (vs : List Variable) where
       let f = faultless τ fs e in
       no_fault_lem σ es
       (record {
-        failure = any_false is_failure es (λ a m. false_at is_failure fs f.failure a (k a m));
+        failure = λ n. any_false (is_failure n) es (λ a m. false_at (is_failure n) fs (f.failure n) a (k a m));
         outside = any_false (is_outside vs) es (λ a m. false_at (is_outside vs) fs f.outside a (k a m));
         conflict =
             any_false (conflicts_with σ es) es
@@ -144,7 +148,7 @@ module _ (vs : List Variable) where
 pub given_member : (x : ℕ) (es : List Effect) (v : ℤ) → given_to x es ≡ some v → Memᴰ (gives x v) es
 unfolding given_to first_of given_by
 given_member x [] v e = let z : true ≡ false = cc in absurd (true≢false z)
-given_member x (fails ∷ es) v e = Memᴰ.tail (given_member x es v e)
+given_member x (fails manner ∷ es) v e = Memᴰ.tail (given_member x es v e)
 given_member x (gives y w ∷ es) v e = go (eqb x y) refl e (given_member x es v)
   where
     go : (t : Bool) → eqb x y ≡ t → first_of (cond t (some w) none) (given_to x es) ≡ some v
@@ -166,13 +170,13 @@ member_given x v es (Memᴰ.tail {x = e} {xs} m) = go (given_by x e) (member_giv
 assigned_target : (y : ℕ) (a : Evaluation) (x : ℕ) (v : ℤ) → Memᴰ (gives x v) (assigned y a) → x ≡ y
 unfolding assigned
 assigned_target y Unknown x v m = absurd (Memᴰ.not-nil m)
-assigned_target y Failed x v m = let q = Memᴰ.eq_of_singleton m in cc q
+assigned_target y (Failed manner) x v m = let q = Memᴰ.eq_of_singleton m in cc q
 assigned_target y (Value w) x v m = let q = Memᴰ.eq_of_singleton m in cc q
 
 under_target : (c : Evaluation) (es : List Effect) (x : ℕ) (v : ℤ) → Memᴰ (gives x v) (under c es) → Memᴰ (gives x v) es
 unfolding under
 under_target Unknown es x v m = absurd (Memᴰ.not-nil m)
-under_target Failed es x v m = let z : true ≡ false = cc (Memᴰ.eq_of_singleton m) in absurd (true≢false z)
+under_target (Failed manner) es x v m = let z : true ≡ false = cc (Memᴰ.eq_of_singleton m) in absurd (true≢false z)
 under_target (Value w) es x v m = go (eq_z w (boolean true)) m
   where
     go : (t : Bool) → Memᴰ (gives x v) (cond t es []) → Memᴰ (gives x v) es

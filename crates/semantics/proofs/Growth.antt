@@ -54,7 +54,7 @@ cond_includes false es fs h e m = m
 under_includes : (c : Evaluation) (es fs : List Effect) → Includes es fs → Includes (under c es) (under c fs)
 unfolding under
 under_includes Unknown es fs h e m = m
-under_includes Failed es fs h e m = m
+under_includes (Failed manner) es fs h e m = m
 under_includes (Value v) es fs h e m = cond_includes (eq_z v (boolean true)) es fs h e m
 
 under_grows : (c d : Evaluation) (es fs : List Effect) → Grows c d → Includes es fs → Includes (under c es) (under d fs)

@@ -13,8 +13,9 @@ use Rattle.evaluation.specs.declared.Evaluation.{Evaluation}
 use Rattle.evaluation.specs.declared.Evaluation.TheVariants.{Unknown, Failed, Value}
 use Rattle.evaluation.specs.declared.Operator.{Operator}
 use Rattle.evaluation.specs.declared.Operator.TheVariants.{Conjunction, Disjunction, Equality, Less, LessOrEqual, Sum, Difference, Product, Quotient, Remainder, Equivalence}
+use Rattle.evaluation.specs.declared.Manner.TheVariants.{ZeroDivisor, TooLarge}
 use Rattle.evaluation.specs.Numbers.{representable, checked, eq_z, boolean}
-use Rattle.evaluation.specs.Meaning.{operated, negated, agree, chosen, calculated, decides, decision, divided, is_unknown, is_failed, number}
+use Rattle.evaluation.specs.Meaning.{operated, negated, agree, chosen, calculated, decides, decision, divided, is_unknown, failed_in, number}
 use Rattle.evaluation.proofs.Laws.{cond_keeps}
 use Rattle.kinds.specs.declared.Sort.{Sort}
 use Rattle.kinds.specs.Kinds.{boolean_sort}
@@ -52,11 +53,11 @@ Known a = is_unknown a ≡ false
 
 known_checked : (z : ℤ) → Known (checked z)
 unfolding checked is_unknown
-known_checked z = cond_keeps Known (representable z) (Value z) Failed refl refl
+known_checked z = cond_keeps Known (representable z) (Value z) (Failed TooLarge) refl refl
 
 known_divided : (f : ℤ → ℤ → ℤ) (a b : ℤ) → Known (divided f a b)
 unfolding divided is_unknown
-known_divided f a b = cond_keeps Known (eq_z b (pos 0)) Failed (checked (f a b)) refl (known_checked (f a b))
+known_divided f a b = cond_keeps Known (eq_z b (pos 0)) (Failed ZeroDivisor) (checked (f a b)) refl (known_checked (f a b))
 
 known_calculated : (op : Operator) (a b : ℤ) → Known (calculated op a b)
 unfolding calculated is_unknown
@@ -77,18 +78,19 @@ unfolding operated is_unknown
 known_operated op a b h k =
     rw (h, k)
     (cond_keeps Known (decides op a || decides op b) (Value (decision op)) _ refl
-    (cond_keeps Known (is_failed a || is_failed b) Failed (calculated op (number a) (number b)) refl (known_calculated op (number a) (number b))))
+    (cond_keeps Known (failed_in ZeroDivisor a || failed_in ZeroDivisor b) (Failed ZeroDivisor) _ refl
+    (cond_keeps Known (failed_in TooLarge a || failed_in TooLarge b) (Failed TooLarge) _ refl (known_calculated op (number a) (number b)))))
 
 known_negated : (a : Evaluation) → Known a → Known (negated a)
 unfolding negated is_unknown
 known_negated Unknown h = h
-known_negated Failed h = refl
+known_negated (Failed manner) h = refl
 known_negated (Value v) h = refl
 
 known_chosen : (c a b : Evaluation) → Known c → Known a → Known b → Known (chosen c a b)
 unfolding chosen is_unknown
 known_chosen Unknown a b h k l = cond_keeps Known (agree a b) a Unknown k h
-known_chosen Failed a b h k l = rw (k, l) (cond_keeps Known (agree a b) a Failed k refl)
+known_chosen (Failed manner) a b h k l = rw (k, l) (cond_keeps Known (agree a b) a (Failed manner) k refl)
 known_chosen (Value v) a b h k l = cond_keeps Known (eq_z v (boolean true)) a b k l
 
 known_variable : (o : Option ℤ) → is_known o ≡ true → is_unknown (evaluation_of o) ≡ false
@@ -113,7 +115,7 @@ module _ (vs : List Variable) (σ : Valuation) (known : AllKnown vs σ) where
   known_under : (v : Evaluation) (body : Bool) → is_unknown v ≡ false → body ≡ false → waits_under v body ≡ false
   unfolding waits_under is_unknown
   known_under Unknown body h k = h
-  known_under Failed body h k = refl
+  known_under (Failed manner) body h k = refl
   known_under (Value v) body h k = rw k (by (eq_z v (boolean true)))
     where
       by : (t : Bool) → cond t false false ≡ false

@@ -30,7 +30,8 @@ use Rattle.semantics.specs.Propagation.{Reached, is_new, extended, round_by, rou
 use Rattle.semantics.specs.Propagation.Reached.{stopped, reached}
 use Rattle.semantics.specs.Meanings.{guard_in, action_in, meaning_of}
 use Rattle.semantics.specs.Theorems.{ShuffledMeansSame}
-use Rattle.semantics.proofs.Alike.{Alike, any_append, or_exchange, faults_alike, no_conflict, given_alike}
+use Rattle.semantics.proofs.Effects.{faultless}
+use Rattle.semantics.proofs.Alike.{Alike, any_append, or_exchange, faults_alike, given_alike}
 
 -- ---- expressions
 
@@ -56,7 +57,7 @@ cond_alike false h = equal_alike refl
 under_alike : (v : Evaluation) {l m : List Effect} → Alike l m → Alike (under v l) (under v m)
 unfolding under
 under_alike Unknown h = equal_alike refl
-under_alike Failed h = equal_alike refl
+under_alike (Failed manner) h = equal_alike refl
 under_alike (Value v) h = cond_alike (eq_z v (boolean true)) h
 
 chain_alike : {l m n : List Effect} → Alike l m → Alike m n → Alike l n
@@ -101,7 +102,7 @@ acted_alike : (n : ℕ) (values : List ℤ) (vs : List Variable) {l m : List Eff
 unfolding acted_by
 acted_alike n values vs h (some f) e = refl
 acted_alike n values vs {l} h none e =
-    ap (λ τ. states (cells τ n 0)) (fun_ext (λ x. ap (λ g. first_of g (known_from values x)) (given_alike h nothing_known (no_conflict vs nothing_known l e) x)))
+    ap (λ τ. states (cells τ n 0)) (fun_ext (λ x. ap (λ g. first_of g (known_from values x)) (given_alike h nothing_known (faultless vs nothing_known l e).conflict x)))
 
 act_same : (t : System) {i j : Instruction} → Exchanged i j → (values : List ℤ) → act t i values ≡ act t j values
 unfolding act
@@ -118,7 +119,7 @@ round_alike vs e count σ h (some f) q = refl
 round_alike vs e count σ {l} {m} h none q = λ d. cond (h.tests (is_new σ) d) (e d (suc count) (further d)) (reached (suc count) σ)
   where
     further : extended l σ ≡ extended m σ
-    further = fun_ext (λ x. ap (λ g. first_of (σ x) g) (given_alike h σ (no_conflict vs σ l q) x))
+    further = fun_ext (λ x. ap (λ g. first_of (σ x) g) (given_alike h σ (faultless vs σ l q).conflict x))
 
 module _ (vs : List Variable) {i j : Instruction} (h : Exchanged i j) where
   rounds_same : (fuel count : ℕ) (σ : Valuation) → rounds vs i fuel count σ ≡ rounds vs j fuel count σ

@@ -31,7 +31,7 @@ left_by_acting m old (states ss) = left_by_settling old (m.propagate ss)
 
 unfoldable pub left_by_guard : Meaning → ℕ → List ℤ → Evaluation → Left
 left_by_guard m t old Unknown = answered (Err Disabled) old
-left_by_guard m t old Failed = answered (Err GuardFailed) old
+left_by_guard m t old (Failed manner) = answered (Err (GuardFailed manner)) old
 left_by_guard m t old (Value v) =
     cond (eq_z v (boolean true)) (left_by_acting m old (m.action t (take (length m.declarations) old))) (answered (Err Disabled) old)
 

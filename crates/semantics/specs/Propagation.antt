@@ -23,7 +23,7 @@ is_known (some v) = true
 
 -- the effect gives a value to a variable that is unknown
 unfoldable pub is_new : Valuation → Effect → Bool
-is_new σ fails = false
+is_new σ (fails m) = false
 is_new σ (gives x v) = not (is_known (σ x))
 
 -- known variables stay, unknown ones take the value given

@@ -1,6 +1,7 @@
 -- 01, "Rows to prove": "These twelve are shown to hold for the definitions as one collected list".
 use Rattle.std.specs.Prelude.{◌≡◌, List, [], ◌∷◌, T, ℤ, pos}
 use Rattle.std.specs.Int.Signed.{le_z}
+use Rattle.evaluation.specs.declared.Manner.TheVariants.{ZeroDivisor}
 use Rattle.evaluation.specs.declared.Operator.TheVariants.{Quotient}
 use Rattle.evaluation.specs.Rows.{RowA, RowB, RowC, RowD, RowE, RowF, RowG}
 use Rattle.kinds.specs.declared.Sort.TheVariants.{Boolean, Number}
@@ -79,10 +80,10 @@ leaves = assign 1 (numeral (pos 9))
 abbrev pub RowL : Type 0
 RowL =
     (act (of_states (number_variable (pos 0) (pos 5) (pos 0) ∷ number_variable (pos 0) (pos 5) (pos 0) ∷ [])) (both divides leaves) (pos 0 ∷ pos 0 ∷ [])
-    ≡ faulty Failure)
+    ≡ faulty (Failure ZeroDivisor))
     × (act (of_states (number_variable (pos 0) (pos 5) (pos 0) ∷ number_variable (pos 0) (pos 5) (pos 0) ∷ [])) (both leaves divides) (pos 0 ∷ pos 0 ∷ [])
-    ≡ faulty Failure)
-    × (fault_number action Failure ≡ 25)
+    ≡ faulty (Failure ZeroDivisor))
+    × (fault_number action (Failure ZeroDivisor) ≡ 25)
 
 abbrev pub Rows : Type 0
 Rows = RowA × RowB × RowC × RowD × RowE × RowF × RowG × RowH × RowI × RowJ × RowK × RowL

@@ -17,7 +17,8 @@ pub data Ended : Type 0 where
   failed : Ended
   succeeded : List ℤ → Ended
 
--- 01: "Which of 28 to 30 it meets, and its number of steps, are not compared."
+-- 01: "Which of 28 to 30 it meets, and its number of steps, are not compared." 02, A8, of 28, 40, 29, 30: "which of these the slow hand
+-- meets is not compared"
 unfoldable pub end_of : Settled → Ended
 end_of (refused f) = failed
 end_of (settled count values) = succeeded values

@@ -4,6 +4,7 @@ use Rattle.std.proofs.Math.Option.{some}
 use Rattle.std.proofs.Math.ListN.{get_elem?}
 use Rattle.evaluation.specs.declared.Evaluation.{Evaluation}
 use Rattle.evaluation.specs.declared.Evaluation.TheVariants.{Unknown, Failed, Value}
+use Rattle.evaluation.specs.declared.Manner.{Manner}
 use Rattle.evaluation.specs.Numbers.{eq_z, boolean}
 use Rattle.evaluation.specs.Meaning.{is_unknown}
 use Rattle.evaluation.specs.Laws.{Grows}
@@ -59,7 +60,7 @@ SequentialAgrees =
     × ((n : ℕ) (σ : Valuation) → Steps (variables t) t.assertion n (known_from ss) σ
     → (n ≤ length t.flows) × ((e : Ended) × Sequence (variables t) t.assertion σ e × (e ≡ end_of (settle t ss))))
 
--- shuffled models have equal meanings
+-- shuffled models have equal meanings. 02, A8: "Shuffled branches report the same manner": evaluations and faults carry it
 abbrev pub ShuffledMeansSame : Type 0
 ShuffledMeansSame = (t t' : System) → Shuffled t t' → meaning_of t ≡ meaning_of t'
 
@@ -70,7 +71,7 @@ AllKnown vs σ = (x : ℕ) → x < length vs → is_known (σ x) ≡ true
 -- an if-then waits by its condition, or, where that is true, by its body
 unfoldable pub waits_under : Evaluation → Bool → Bool
 waits_under Unknown body = true
-waits_under Failed body = false
+waits_under (Failed m) body = false
 waits_under (Value v) body = cond (eq_z v (boolean true)) body false
 
 -- a reached condition or an active expression is unknown; 01: "Unknown expressions and conditions wait."
@@ -113,4 +114,4 @@ abbrev pub GuardsDecide : Type 0
 GuardsDecide =
     (m : List ℕ) (s : Sizes) (t : System) → Bytes m → verdict m ≡ accepted s t
     → (k : ℕ) → k < length t.transitions → (values : List ℤ) → VariableValues t values
-    → ((meaning_of t).guard k values ≡ Failed) ⊎ (((meaning_of t).guard k values ≡ Value (boolean false)) ⊎ ((meaning_of t).guard k values ≡ Value (boolean true)))
+    → ((manner : Manner) × ((meaning_of t).guard k values ≡ Failed manner)) ⊎ (((meaning_of t).guard k values ≡ Value (boolean false)) ⊎ ((meaning_of t).guard k values ≡ Value (boolean true)))

@@ -3,13 +3,14 @@
 
 #![tactic(auto)]
 
+use evaluation::Manner;
 use interpreter::Fault;
 
 // Why a transition was not fired: its guard is not true, it failed, or there is a fault in the action or in the assertion.
 #[derive(Clone, Copy, PartialEq, Eq, Debug)]
 pub enum NotFired {
     Disabled,
-    GuardFailed,
+    GuardFailed(Manner),
     ActionFault(Fault),
     AssertionFault(Fault),
 }

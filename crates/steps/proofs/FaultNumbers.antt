@@ -1,19 +1,34 @@
--- 25, 26, 27 are the faults of an action, 28, 29, 30 those of the assertion.
-use Prim.Native.Nat.{◌≤◌}
+-- Among which numbers those of guards and of faults are.
+use mathlib.Core.Path.{◌≡◌, refl}
+use mathlib.Core.Logic.{◌⊎◌, inl, inr}
+use Prim.Native.Nat.{ℕ, ◌≤◌}
 use native.Mathlib.Omega.{arith}
+use Rattle.evaluation.specs.declared.Manner.{Manner}
+use Rattle.evaluation.specs.declared.Manner.TheVariants.{ZeroDivisor, TooLarge}
 use Rattle.interpreter.specs.declared.Fault.{Fault}
 use Rattle.interpreter.specs.declared.Fault.TheVariants.{Failure, Outside, Conflict}
-use Rattle.interpreter.specs.Instructions.{fault_number}
+use Rattle.interpreter.specs.Instructions.{guard_number, fault_number}
 use Rattle.interpreter.specs.Instructions.Place.{action, assertion}
 
-pub action_number : (f : Fault) → (25 ≤ fault_number action f) × (fault_number action f ≤ 27)
-unfolding fault_number
-action_number Failure = omega arith
-action_number Outside = omega arith
-action_number Conflict = omega arith
+pub guard_numbered : (m : Manner) → (guard_number m ≡ 24) ⊎ (guard_number m ≡ 38)
+unfolding guard_number
+guard_numbered ZeroDivisor = inl refl
+guard_numbered TooLarge = inr refl
 
-pub assertion_number : (f : Fault) → (28 ≤ fault_number assertion f) × (fault_number assertion f ≤ 30)
+-- the number of a fault of an action or of the assertion
+abbrev pub FaultNumber : ℕ → Type 0
+FaultNumber n = ((25 ≤ n) × (n ≤ 30)) ⊎ ((39 ≤ n) × (n ≤ 40))
+
+pub action_number : (f : Fault) → FaultNumber (fault_number action f)
 unfolding fault_number
-assertion_number Failure = omega arith
-assertion_number Outside = omega arith
-assertion_number Conflict = omega arith
+action_number (Failure ZeroDivisor) = inl (omega arith)
+action_number (Failure TooLarge) = inr (omega arith)
+action_number Outside = inl (omega arith)
+action_number Conflict = inl (omega arith)
+
+pub assertion_number : (f : Fault) → FaultNumber (fault_number assertion f)
+unfolding fault_number
+assertion_number (Failure ZeroDivisor) = inl (omega arith)
+assertion_number (Failure TooLarge) = inr (omega arith)
+assertion_number Outside = inl (omega arith)
+assertion_number Conflict = inl (omega arith)

@@ -3,7 +3,7 @@
 -- their content."
 use Rattle.std.specs.Prelude.{cond, not, List, ℕ, suc, ◌-◌, eqb, ltb, ℤ, length, take, set, Ok, Err}
 use Rattle.std.proofs.Math.Option.{Option, some, none}
-use Rattle.interpreter.specs.Instructions.{fault_number}
+use Rattle.interpreter.specs.Instructions.{guard_number, fault_number}
 use Rattle.interpreter.specs.Instructions.Place.{action, assertion}
 use Rattle.semantics.specs.Firing.{Firing}
 use Rattle.semantics.specs.declared.NotFired.TheVariants.{Disabled, GuardFailed, ActionFault, AssertionFault}
@@ -17,10 +17,10 @@ use Rattle.replaying.specs.Replays.{is_fired, initial, replay}
 use Rattle.replaying.specs.declared.Move.{Move}
 use Rattle.replaying.specs.declared.Move.TheVariants.{Start, Fire, Undo}
 
--- 23, 24 "guard false, guard failed", 25 to 30, or the round count
+-- 23, 24 "guard false, guard failed", 25 to 30, 02's 38 to 40, or the round count
 unfoldable pub answer_of : Firing → Answer
 answer_of (Err Disabled) = refused 23
-answer_of (Err GuardFailed) = refused 24
+answer_of (Err (GuardFailed m)) = refused (guard_number m)
 answer_of (Err (ActionFault f)) = refused (fault_number action f)
 answer_of (Err (AssertionFault f)) = refused (fault_number assertion f)
 answer_of (Ok n) = rounds n

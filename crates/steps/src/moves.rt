@@ -10,30 +10,35 @@ ghost use Rattle.steps.specs.Calls as calls;
 ghost use Rattle.steps.specs.Declarations.{Declares};
 ghost use Rattle.steps.specs.Lent.{refused_at, refused_before, tested, answer_to};
 
+use evaluation::Manner;
 use interpreter::Fault;
 use replaying::Move;
 use results::Refusal;
 use semantics::{Firing, NotFired};
 use standing::{Declared, Run};
 
-// 23 to 30.
-#[tactic(auto, unfolding(crate::specs::Calls::answer_of, results::specs::Refusals::number_of, interpreter::specs::Instructions::fault_number))]
+// 23 to 30, 38 to 40.
+#[tactic(auto, unfolding(crate::specs::Calls::answer_of, results::specs::Refusals::number_of, interpreter::specs::Instructions::guard_number, interpreter::specs::Instructions::fault_number))]
 fn refusal_of(reason: NotFired) -> Refusal
     ensures { refused (number_of result) ≡ calls.answer_of (Err reason) }
 {
     match reason {
         NotFired::Disabled => Refusal::GuardFalse,
-        NotFired::GuardFailed => Refusal::GuardFailed,
-        NotFired::ActionFault(Fault::Failure) => Refusal::ActionFailed,
+        NotFired::GuardFailed(Manner::ZeroDivisor) => Refusal::GuardZeroDivisor,
+        NotFired::GuardFailed(Manner::TooLarge) => Refusal::GuardTooLarge,
+        NotFired::ActionFault(Fault::Failure(Manner::ZeroDivisor)) => Refusal::ActionZeroDivisor,
+        NotFired::ActionFault(Fault::Failure(Manner::TooLarge)) => Refusal::ActionTooLarge,
         NotFired::ActionFault(Fault::Outside) => Refusal::ActionOutside,
         NotFired::ActionFault(Fault::Conflict) => Refusal::ActionConflict,
-        NotFired::AssertionFault(Fault::Failure) => Refusal::AssertionFailed,
+        NotFired::AssertionFault(Fault::Failure(Manner::ZeroDivisor)) =>
+            Refusal::AssertionZeroDivisor,
+        NotFired::AssertionFault(Fault::Failure(Manner::TooLarge)) => Refusal::AssertionTooLarge,
         NotFired::AssertionFault(Fault::Outside) => Refusal::AssertionOutside,
         NotFired::AssertionFault(Fault::Conflict) => Refusal::AssertionConflict,
     }
 }
 
-// The answer to what was fired last: the round count, which means nothing of an undo, or 23 to 30; an undo is refused with 31.
+// The answer to what was fired last: the round count, which means nothing of an undo, or why it was not fired; an undo is refused with 31.
 #[tactic(auto, unfolding(crate::specs::Lent::answer_to, crate::specs::Answers::told_by, crate::specs::Calls::answer_of, results::specs::Refusals::number_of))]
 pub fn answer_to(step: Move, firing: Firing) -> Result<usize, Refusal>
     ensures { seen_as (told_by step) result ≡ answer_to step firing }

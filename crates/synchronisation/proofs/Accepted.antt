@@ -34,7 +34,7 @@ module _ (events : ℕ) (s : Scope) where
   Guarded ts = All (GuardedBy events s) ts
 
   -- guards joined by an operator that makes a Boolean of Booleans
-  pub nested_sorted : (op : Operator) → boolean_sort ≡ result_of (kind_of op) → Some (operand_sort (kind_of op)) ≡ boolean_sort
+  nested_sorted : (op : Operator) → boolean_sort ≡ result_of (kind_of op) → Some (operand_sort (kind_of op)) ≡ boolean_sort
       → (t : Transition) (ts : List Transition) → Guarded (t ∷ ts) → Sorted s.sorts boolean_sort (nested op t ts)
   unfolding nested All Sorted
   nested_sorted op r o t [] h = h.0.guard

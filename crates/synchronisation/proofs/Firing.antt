@@ -40,7 +40,7 @@ module _ (m m' : Meaning) (same : length m'.declarations ≡ length m.declaratio
       → left_by_guard m' k old g ≡ by_guard m old (m'.action k (take (length m'.declarations) old)) g
   unfolding left_by_guard by_guard
   by_guard_lem k old Unknown = refl
-  by_guard_lem k old Failed = refl
+  by_guard_lem k old (Failed manner) = refl
   by_guard_lem k old (Value v) = ap (λ (l : Left). cond (eq_z v (boolean true)) l (answered (Err Disabled) old)) (acting old _)
 
   -- m' fires as m would with the guard and the action of m'

@@ -1,5 +1,5 @@
--- GuardTogether.
-use mathlib.Core.Path.{◌≡◌, refl, ap, ◌∙◌}
+-- GuardJoined, and with it GuardTogether.
+use mathlib.Core.Path.{◌≡◌, refl, ap, ap₂, ◌∙◌}
 use mathlib.Core.Logic.{◌⊎◌}
 use mathlib.Core.Logic.◌⊎◌.{inl, inr}
 use mathlib.Core.Bool.{Bool, true, false, true≢false, cond, ◌||◌, or-true}
@@ -8,150 +8,180 @@ use mathlib.Core.Option.{some}
 use Prim.Native.Nat.{ℕ}
 use lib.Dec.{eqb}
 use lib.IntN.{ℤ, pos}
-use Rattle.std.specs.Prelude.{Some}
 use Rattle.evaluation.specs.declared.Evaluation.{Evaluation}
 use Rattle.evaluation.specs.declared.Evaluation.TheVariants.{Failed, Value}
+use Rattle.evaluation.specs.declared.Manner.{Manner}
+use Rattle.evaluation.specs.declared.Manner.TheVariants.{ZeroDivisor, TooLarge}
 use Rattle.evaluation.specs.declared.Operator.{Operator}
 use Rattle.evaluation.specs.declared.Operator.TheVariants.{Conjunction, Disjunction}
 use Rattle.evaluation.specs.Numbers.{eq_z, boolean}
-use Rattle.evaluation.specs.Meaning.{operated, calculated, decides, decisive, decision, is_unknown, is_failed, number}
-use Rattle.kinds.specs.Kinds.{boolean_sort, kind_of, result_of, operand_sort}
+use Rattle.evaluation.specs.Meaning.{operated, calculated, decides, decisive, decision, is_unknown, same_manner, failed_in, number, negated}
+use Rattle.kinds.specs.Kinds.{boolean_sort}
+use Rattle.model.specs.Theorems.{Bytes}
 use Rattle.model.specs.Trees.{Expression, Transition, System, variables, sorts_of}
 use Rattle.model.specs.WellFormed.{Sorted, All}
 use Rattle.expressions.specs.Expressions.{evaluate, known_from}
 use Rattle.interpreter.specs.Instructions.{any}
+use Rattle.semantics.specs.Theorems.{VariableValues}
 use Rattle.semantics.proofs.Deciding.{expression_decides}
 use Rattle.marking.specs.Marks.{mark_of}
 use Rattle.synchronisation.specs.Synchronisations.{nested, guard_of, together, is_empty}
-use Rattle.synchronisation.specs.Theorems.{SynchronisedFile, all_mark, any_mark, member_marks, together_mark, GuardTogether}
+use Rattle.synchronisation.specs.Theorems.{SynchronisedFile, all_mark, any_mark, member_marks, together_mark, joined_guard, member_guards, together_guard, GuardJoined, GuardTogether}
 use Rattle.synchronisation.proofs.Listed.{no_members}
 use Rattle.synchronisation.proofs.Firing.{new_guard}
-use Rattle.synchronisation.proofs.Accepted.{nested_sorted, MembersGuarded, mandatory_guarded, optional_guarded}
+use Rattle.synchronisation.proofs.Accepted.{MembersGuarded, mandatory_guarded, optional_guarded}
 
 -- what a guard comes to over known values
 data Three : Evaluation → Type 0 where
-  failed : Three Failed
+  failed : (m : Manner) → Three (Failed m)
   no : Three (Value (pos 0))
   yes : Three (Value (pos 1))
 
 -- a guard that failed, is false or is true is one of the three
-three : {a : Evaluation} → (a ≡ Failed) ⊎ ((a ≡ Value (boolean false)) ⊎ (a ≡ Value (boolean true))) → Three a
-three (inl e) = rw e failed
+three : {a : Evaluation} → ((m : Manner) × (a ≡ Failed m)) ⊎ ((a ≡ Value (boolean false)) ⊎ (a ≡ Value (boolean true))) → Three a
+three (inl e) = rw e.1 (failed e.0)
 three (inr (inl e)) = rw e no
 three (inr (inr e)) = rw e yes
 
--- ---- marks of two guards
+-- ---- one guard joined with several
 
--- joined by and: 0 if one is 0, else 2 if one is 2, else 1
-unfoldable both : ℕ → ℕ → ℕ
-both x y = cond (eqb x 0 || eqb y 0) 0 (cond (eqb x 2 || eqb y 2) 2 1)
+-- what not makes of the value that decides
+abbrev other : Operator → ℤ
+other op = boolean (eq_z (decision op) (boolean false))
 
--- joined by or: 1 if one is 1, else 2 if one is 2, else 0
-unfoldable either : ℕ → ℕ → ℕ
-either x y = cond (eqb x 1 || eqb y 1) 1 (cond (eqb x 2 || eqb y 2) 2 0)
+-- what and, or have in common
+record Joins (op : Operator) : Type 0 where
+  decided : decisive op (decision op) ≡ true
+  left_open : decisive op (other op) ≡ false
+  calculated_so : (x y : ℤ) → calculated op x y ≡ Value (other op)
+  of_one : {a : Evaluation} → Three a → a ≡ joined_guard op (a ∷ [])
 
--- the mark of two guards joined by and
-both_mark : {a b : Evaluation} → Three a → Three b → mark_of (operated Conjunction a b) ≡ both (mark_of a) (mark_of b)
-unfolding both mark_of operated calculated decides decisive decision is_unknown is_failed number eq_z
-both_mark failed failed = refl
-both_mark failed no = refl
-both_mark failed yes = refl
-both_mark no failed = refl
-both_mark no no = refl
-both_mark no yes = refl
-both_mark yes failed = refl
-both_mark yes no = refl
-both_mark yes yes = refl
+one_by_and : {a : Evaluation} → Three a → a ≡ joined_guard Conjunction (a ∷ [])
+unfolding joined_guard any decides decisive decision failed_in same_manner negated eq_z
+one_by_and (failed ZeroDivisor) = refl
+one_by_and (failed TooLarge) = refl
+one_by_and no = refl
+one_by_and yes = refl
 
--- the mark of two guards joined by or
-either_mark : {a b : Evaluation} → Three a → Three b → mark_of (operated Disjunction a b) ≡ either (mark_of a) (mark_of b)
-unfolding either mark_of operated calculated decides decisive decision is_unknown is_failed number eq_z
-either_mark failed failed = refl
-either_mark failed no = refl
-either_mark failed yes = refl
-either_mark no failed = refl
-either_mark no no = refl
-either_mark no yes = refl
-either_mark yes failed = refl
-either_mark yes no = refl
-either_mark yes yes = refl
+one_by_or : {a : Evaluation} → Three a → a ≡ joined_guard Disjunction (a ∷ [])
+unfolding joined_guard any decides decisive decision failed_in same_manner negated eq_z
+one_by_or (failed ZeroDivisor) = refl
+one_by_or (failed TooLarge) = refl
+one_by_or no = refl
+one_by_or yes = refl
 
--- ---- marks of several
+conjunction : Joins Conjunction
+unfolding decisive decision calculated eq_z
+conjunction = record { decided = refl; left_open = refl; calculated_so = λ x y. refl; of_one = one_by_and }
 
--- of one guard its own
-all_one : {a : Evaluation} → Three a → mark_of a ≡ all_mark (mark_of a ∷ [])
-unfolding all_mark any mark_of eq_z
-all_one failed = refl
-all_one no = refl
-all_one yes = refl
+disjunction : Joins Disjunction
+unfolding decisive decision calculated eq_z
+disjunction = record { decided = refl; left_open = refl; calculated_so = λ x y. refl; of_one = one_by_or }
 
--- likewise
-any_one : {a : Evaluation} → Three a → mark_of a ≡ any_mark (mark_of a ∷ [])
-unfolding any_mark any mark_of eq_z
-any_one failed = refl
-any_one no = refl
-any_one yes = refl
+not_unknown : {a : Evaluation} → Three a → is_unknown a ≡ false
+unfolding is_unknown
+not_unknown (failed m) = refl
+not_unknown no = refl
+not_unknown yes = refl
 
--- of one more: joined with the rest
-all_more : (x : ℕ) (ks : List ℕ) → both x (all_mark ks) ≡ all_mark (x ∷ ks)
-unfolding both all_mark any
-all_more x ks = by (any (λ k. eqb k 0) ks) (any (λ k. eqb k 2) ks)
+-- by whether one of the others decides, and in which manners they failed
+one_more : (op : Operator) → Joins op → (a : Evaluation) → is_unknown a ≡ false → (x z l : Bool)
+    → operated op a (cond x (Value (decision op)) (cond z (Failed ZeroDivisor) (cond l (Failed TooLarge) (negated (Value (decision op))))))
+    ≡ cond (decides op a || x) (Value (decision op))
+    (cond (failed_in ZeroDivisor a || z) (Failed ZeroDivisor)
+    (cond (failed_in TooLarge a || l) (Failed TooLarge)
+    (negated (Value (decision op)))))
+unfolding operated decides is_unknown failed_in same_manner number negated
+one_more op j a u true z l = rw (j.decided, or-true (decides op a))
+one_more op j a u false true l = rw (u, or-true (failed_in ZeroDivisor a))
+one_more op j a u false false true = rw (u, or-true (failed_in TooLarge a))
+one_more op j a u false false false = rw (j.left_open, u, j.calculated_so (number a) (other op))
+
+-- ---- the marks
+
+-- a mark is 0, 1 or 2 by what the guard is
+mark_decides_and : (a : Evaluation) → Three a → eqb (mark_of a) 0 ≡ decides Conjunction a
+unfolding mark_of decides decisive eq_z
+mark_decides_and _ (failed m) = refl
+mark_decides_and _ no = refl
+mark_decides_and _ yes = refl
+
+mark_decides_or : (a : Evaluation) → Three a → eqb (mark_of a) 1 ≡ decides Disjunction a
+unfolding mark_of decides decisive eq_z
+mark_decides_or _ (failed m) = refl
+mark_decides_or _ no = refl
+mark_decides_or _ yes = refl
+
+mark_failed : (a : Evaluation) → Three a → eqb (mark_of a) 2 ≡ (failed_in ZeroDivisor a || failed_in TooLarge a)
+unfolding mark_of failed_in same_manner eq_z
+mark_failed _ (failed ZeroDivisor) = refl
+mark_failed _ (failed TooLarge) = refl
+mark_failed _ no = refl
+mark_failed _ yes = refl
+
+joined_marked : (op : Operator) (x z l : Bool)
+    → mark_of (cond x (Value (decision op)) (cond z (Failed ZeroDivisor) (cond l (Failed TooLarge) (negated (Value (decision op))))))
+    ≡ cond x (mark_of (Value (decision op))) (cond (z || l) 2 (mark_of (negated (Value (decision op)))))
+unfolding mark_of
+joined_marked op true z l = refl
+joined_marked op false true l = refl
+joined_marked op false false true = refl
+joined_marked op false false false = refl
+
+any_either : {A : Type 0} (p q : A → Bool) (l : List A) → any (λ a. p a || q a) l ≡ (any p l || any q l)
+unfolding any
+any_either p q [] = refl
+any_either p q (a ∷ l) = ap (λ t. p a || q a || t) (any_either p q l) ∙ by (p a) (q a) (any p l) (any q l)
   where
-    by : (s t : Bool) → both x (cond s 0 (cond t 2 1)) ≡ cond (eqb x 0 || s) 0 (cond (eqb x 2 || t) 2 1)
-    by true t = rw (or-true (eqb x 0))
-    by false true = refl
-    by false false = refl
+    by : (s t u v : Bool) → ((s || t) || (u || v)) ≡ ((s || u) || (t || v))
+    by true t u v = refl
+    by false true true v = refl
+    by false true false v = refl
+    by false false u v = refl
 
--- likewise
-any_more : (x : ℕ) (ks : List ℕ) → either x (any_mark ks) ≡ any_mark (x ∷ ks)
-unfolding either any_mark any
-any_more x ks = by (any (λ k. eqb k 1) ks) (any (λ k. eqb k 2) ks)
-  where
-    by : (s t : Bool) → either x (cond s 1 (cond t 2 0)) ≡ cond (eqb x 1 || s) 1 (cond (eqb x 2 || t) 2 0)
-    by true t = rw (or-true (eqb x 1))
-    by false true = refl
-    by false false = refl
-
--- ---- nested guards, of members that are guarded
-
--- an operator that makes a Boolean of Booleans, with the mark of two guards that it joins and that of several
-record Joins (op : Operator) (two : ℕ → ℕ → ℕ) (several : List ℕ → ℕ) : Type 0 where
-  result : boolean_sort ≡ result_of (kind_of op)
-  operands : Some (operand_sort (kind_of op)) ≡ boolean_sort
-  of_two : {a b : Evaluation} → Three a → Three b → mark_of (operated op a b) ≡ two (mark_of a) (mark_of b)
-  of_one : {a : Evaluation} → Three a → mark_of a ≡ several (mark_of a ∷ [])
-  of_more : (x : ℕ) (ks : List ℕ) → two x (several ks) ≡ several (x ∷ ks)
-
--- and is such an operator
-conjunction : Joins Conjunction both all_mark
-unfolding kind_of result_of operand_sort
-conjunction = record { result = refl; operands = refl; of_two = both_mark; of_one = all_one; of_more = all_more }
-
--- or is another
-disjunction : Joins Disjunction either any_mark
-unfolding kind_of result_of operand_sort
-disjunction = record { result = refl; operands = refl; of_two = either_mark; of_one = any_one; of_more = any_more }
+-- ---- guards of members
 
 module _ (t : System) (values : List ℤ)
     (known : (e : Expression) → Sorted (sorts_of (variables t)) boolean_sort e → Three (evaluate e (known_from values))) where
-  -- the mark of guards that such an operator joins
-  nested_mark : {op : Operator} {two : ℕ → ℕ → ℕ} {several : List ℕ → ℕ} → Joins op two several
-      → (u : Transition) (us : List Transition) → MembersGuarded t (u ∷ us)
-      → mark_of (evaluate (nested op u us) (known_from values)) ≡ several (member_marks (u ∷ us) values)
-  unfolding nested evaluate All
-  nested_mark j u [] h = j.of_one (known u.guard h.0.guard)
-  nested_mark {op} {two} j u (v ∷ us) h =
-      j.of_two (known u.guard h.0.guard) (known (nested op v us) (nested_sorted _ _ op j.result j.operands v us h.1))
-      ∙ ap (two (mark_of (evaluate u.guard (known_from values)))) (nested_mark j v us h.1)
-      ∙ j.of_more (mark_of (evaluate u.guard (known_from values))) (member_marks (v ∷ us) values)
+  -- nested by such an operator
+  nested_guard : (op : Operator) → Joins op → (u : Transition) (us : List Transition) → MembersGuarded t (u ∷ us)
+      → evaluate (nested op u us) (known_from values) ≡ joined_guard op (member_guards (u ∷ us) values)
+  unfolding nested evaluate All joined_guard any
+  nested_guard op j u [] h = j.of_one (known u.guard h.0.guard)
+  nested_guard op j u (v ∷ us) h =
+      ap (operated op (evaluate u.guard (known_from values))) (nested_guard op j v us h.1)
+      ∙ one_more op j _ (not_unknown (known u.guard h.0.guard)) _ _ _
+
+  -- the new guard
+  guard_joined_lem : (ts os : List Transition) → MembersGuarded t ts → MembersGuarded t os → (ts ≡ [] → os ≡ [] → ⊥)
+      → evaluate (guard_of ts os) (known_from values) ≡ together_guard ts os values
+  unfolding guard_of together_guard
+  guard_joined_lem (u ∷ us) os h k n = nested_guard Conjunction conjunction u us h
+  guard_joined_lem [] (o ∷ os) h k n = nested_guard Disjunction disjunction o os k
+  guard_joined_lem [] [] h k n = absurd (n refl refl)
+
+  -- a test of marks is one of the guards
+  marks_tested : (p : ℕ → Bool) (q : Evaluation → Bool) → ((a : Evaluation) → Three a → p (mark_of a) ≡ q a)
+      → (us : List Transition) → MembersGuarded t us → any p (member_marks us values) ≡ any q (member_guards us values)
+  unfolding any All
+  marks_tested p q same [] h = refl
+  marks_tested p q same (u ∷ us) h = ap₂ (λ s t. s || t) (same _ (known u.guard h.0.guard)) (marks_tested p q same us h.1)
+
+  failures_tested : (us : List Transition) → MembersGuarded t us
+      → any (λ k. eqb k 2) (member_marks us values)
+      ≡ (any (failed_in ZeroDivisor) (member_guards us values) || any (failed_in TooLarge) (member_guards us values))
+  failures_tested us h =
+      marks_tested (λ k. eqb k 2) (λ a. failed_in ZeroDivisor a || failed_in TooLarge a) mark_failed us h
+      ∙ any_either (failed_in ZeroDivisor) (failed_in TooLarge) (member_guards us values)
 
   -- the mark of the new guard
-  guard_mark : (ts os : List Transition) → MembersGuarded t ts → MembersGuarded t os → (ts ≡ [] → os ≡ [] → ⊥)
-      → mark_of (evaluate (guard_of ts os) (known_from values)) ≡ together_mark ts os values
-  unfolding guard_of together_mark
-  guard_mark (u ∷ us) os h k n = nested_mark conjunction u us h
-  guard_mark [] (o ∷ os) h k n = nested_mark disjunction o os k
-  guard_mark [] [] h k n = absurd (n refl refl)
+  together_marked : (ts os : List Transition) → MembersGuarded t ts → MembersGuarded t os
+      → mark_of (together_guard ts os values) ≡ together_mark ts os values
+  unfolding together_guard together_mark joined_guard all_mark any_mark mark_of decision negated eq_z
+  together_marked (u ∷ us) os h k =
+      rw (marks_tested (λ k. eqb k 0) (decides Conjunction) mark_decides_and (u ∷ us) h, failures_tested (u ∷ us) h) (joined_marked Conjunction _ _ _)
+  together_marked [] os h k =
+      rw (marks_tested (λ k. eqb k 1) (decides Disjunction) mark_decides_or os k, failures_tested os k) (joined_marked Disjunction _ _ _)
 
 -- a file has a member
 some_member : {m ms os m' : List ℕ} (f : SynchronisedFile m ms os m') → f.mandatory ≡ [] → f.optional ≡ [] → ⊥
@@ -159,8 +189,16 @@ unfolding is_empty
 some_member {ms = ms} {os = os} f p q =
     true≢false (rw (no_members _ ms (f.mandatory_found ∙ ap some p), no_members _ os (f.optional_found ∙ ap some q)) at f.given)
 
+module _ {m ms os m' : List ℕ} (b : Bytes m) (f : SynchronisedFile m ms os m') {values : List ℤ} (within : VariableValues f.before values) where
+  known : (e : Expression) → Sorted (sorts_of (variables f.before)) boolean_sort e → Three (evaluate e (known_from values))
+  known e h = three (expression_decides m f.sizes f.before b f.read values within e h)
+
+pub guard_joined : GuardJoined
+guard_joined m ms os m' b f values within =
+    new_guard f.before (together f.before.events f.mandatory f.optional) values
+    ∙ guard_joined_lem f.before values (known b f within) f.mandatory f.optional (mandatory_guarded b f) (optional_guarded b f) (some_member f)
+
 pub guard_together : GuardTogether
 guard_together m ms os m' b f values within =
-    ap mark_of (new_guard f.before (together f.before.events f.mandatory f.optional) values)
-    ∙ guard_mark f.before values (λ e h. three (expression_decides m f.sizes f.before b f.read values within e h))
-    f.mandatory f.optional (mandatory_guarded b f) (optional_guarded b f) (some_member f)
+    ap mark_of (guard_joined m ms os m' b f values within)
+    ∙ together_marked f.before values (known b f within) f.mandatory f.optional (mandatory_guarded b f) (optional_guarded b f)

@@ -152,7 +152,7 @@ module _ (t : System) (u : Transition) where
       (fired_into r (run values (marks_over m' values r.marks) history count) f)
   unfolding answer_of
   by_firing r values history count (Err Disabled) = same_done T _
-  by_firing r values history count (Err GuardFailed) = same_done T _
+  by_firing r values history count (Err (GuardFailed manner)) = same_done T _
   by_firing r values history count (Err (ActionFault f)) = same_done T _
   by_firing r values history count (Err (AssertionFault f)) = same_done T _
   by_firing r values history count (Ok n) = accepted_same (rounds n) (no_refusal n) values r.marks history count

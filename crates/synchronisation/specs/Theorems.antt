@@ -5,7 +5,11 @@ use Rattle.std.proofs.Math.Option.{some}
 use Rattle.std.proofs.Math.ListN.{get_elem?}
 use Rattle.evaluation.specs.declared.Evaluation.{Evaluation}
 use Rattle.evaluation.specs.declared.Evaluation.TheVariants.{Unknown, Failed, Value}
+use Rattle.evaluation.specs.declared.Manner.TheVariants.{ZeroDivisor, TooLarge}
+use Rattle.evaluation.specs.declared.Operator.{Operator}
+use Rattle.evaluation.specs.declared.Operator.TheVariants.{Conjunction, Disjunction}
 use Rattle.evaluation.specs.Numbers.{eq_z, boolean}
+use Rattle.evaluation.specs.Meaning.{decision, decides, failed_in, negated}
 use Rattle.results.specs.Results.{Answered, answered}
 use Rattle.results.specs.declared.refusal.Refusal.{Refusal}
 use Rattle.results.specs.declared.refusal.Refusal.TheVariants.{NoSuchTransition, NoMembers, LimitPassed}
@@ -121,7 +125,7 @@ OneTransitionMore =
 -- firing by a guard and an action given as values, in a model's own terms
 unfoldable pub by_guard : Meaning → List ℤ → Acted → Evaluation → Left
 by_guard m old a Unknown = answered (Err Disabled) old
-by_guard m old a Failed = answered (Err GuardFailed) old
+by_guard m old a (Failed manner) = answered (Err (GuardFailed manner)) old
 by_guard m old a (Value v) = cond (eq_z v (boolean true)) (left_by_acting m old a) (answered (Err Disabled) old)
 
 -- the meaning of the new model, and the number of its new transition
@@ -143,6 +147,30 @@ FiresTogether =
     (by_guard (meaning_of f.before) r.values
     (act f.before (block (branches_of f.mandatory f.optional)) (take (length (variables f.before)) r.values))
     (evaluate (guard_of f.mandatory f.optional) (known_from (take (length (variables f.before)) r.values))))
+
+-- several known guards joined by and, or: decided by one that does, else failed if one is, by a zero divisor first (A8)
+unfoldable pub joined_guard : Operator → List Evaluation → Evaluation
+joined_guard op es =
+    cond (any (decides op) es) (Value (decision op))
+    (cond (any (failed_in ZeroDivisor) es) (Failed ZeroDivisor)
+    (cond (any (failed_in TooLarge) es) (Failed TooLarge)
+    (negated (Value (decision op)))))
+
+-- what the guards of these transitions come to
+abbrev pub member_guards : List Transition → List ℤ → List Evaluation
+member_guards ts values = map (λ t. evaluate t.guard (known_from values)) ts
+
+-- A5: "With mandatory ones its guard is their guards joined by and [..]. Otherwise it is the optional guards joined by or"
+unfoldable pub together_guard : List Transition → List Transition → List ℤ → Evaluation
+together_guard (t ∷ ts) os values = joined_guard Conjunction (member_guards (t ∷ ts) values)
+together_guard [] os values = joined_guard Disjunction (member_guards os values)
+
+-- what the guard of the new transition comes to, in its members' guards, over values within the ends of the variables; a mark (below) does
+-- not tell a zero divisor from what is too large
+abbrev pub GuardJoined : Type 0
+GuardJoined =
+    (m ms os m' : List ℕ) → Bytes m → (f : SynchronisedFile m ms os m') (values : List ℤ) → VariableValues f.before values
+    → (new_meaning f).guard (new_number f) values ≡ together_guard f.mandatory f.optional values
 
 -- 0 if one of the marks is 0, else 2 if one is 2, else 1; and the same with 0 and 1 exchanged
 unfoldable pub all_mark : List ℕ → ℕ

@@ -143,7 +143,8 @@ fn join(
     extend(tables, sorts, members, out)
 }
 
-// The same of an accepted model of these sizes, decoded in arrays that are declared here.
+// The same of an accepted model of these sizes, decoded in arrays that are declared here. Not inlined, as in inspection.
+#[inline(never)]
 fn synchronise_in<const NODES: usize, const VARIABLES: usize, const TRANSITIONS: usize>(
     model: &[u8],
     sizes: Sizes,

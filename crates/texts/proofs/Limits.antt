@@ -9,7 +9,7 @@ use lib.ListN.{length}
 use Rattle.results.specs.Results.{answered}
 use Rattle.grammar.specs.Reading.{phrase_of}
 use Rattle.results.specs.declared.refusal.Refusal.{Refusal}
-use Rattle.results.specs.declared.refusal.Refusal.TheVariants.{TooLarge, ShortSlice}
+use Rattle.results.specs.declared.refusal.Refusal.TheVariants.{TextTooLarge, ShortSlice}
 use Rattle.kinds.specs.declared.Sort.{Sort}
 use Rattle.std.proofs.Common.{Result, Err}
 use Rattle.texts.specs.Texts.{meant_by, Slices, written_into, typed_over, max_text, min_nodes}
@@ -32,13 +32,13 @@ module _ (vs : List Sort) (text : List ℕ) (s : Slices) where
       )
 
   -- any other answer than these two
-  pub answer_within : (r : Result ℕ Refusal) → (Err TooLarge ≡ r → ⊥) → (Err ShortSlice ≡ r → ⊥) → (typed_over vs text s).answer ≡ r → Within text s
+  pub answer_within : (r : Result ℕ Refusal) → (Err TextTooLarge ≡ r → ⊥) → (Err ShortSlice ≡ r → ⊥) → (typed_over vs text s).answer ≡ r → Within text s
   unfolding typed_over
   answer_within r f g =
       by (ltb max_text (length text)) (ltb (length s.kinds) min_nodes) (ltb (length s.parameters) min_nodes) refl refl refl
     where
       by : (t u v : Bool) → ltb max_text (length text) ≡ t → ltb (length s.kinds) min_nodes ≡ u → ltb (length s.parameters) min_nodes ≡ v
-          → (cond t (answered (Err TooLarge) s) (cond (u || v) (answered (Err ShortSlice) s) (written_into s (meant_by vs (phrase_of text))))).answer ≡ r → Within text s
+          → (cond t (answered (Err TextTooLarge) s) (cond (u || v) (answered (Err ShortSlice) s) (written_into s (meant_by vs (phrase_of text))))).answer ≡ r → Within text s
       by true u v a b c h = absurd (f h)
       by false true v a b c h = absurd (g h)
       by false false true a b c h = absurd (g h)

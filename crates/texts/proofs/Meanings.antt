@@ -9,7 +9,7 @@ use lib.Dec.{T, ltb}
 use lib.ListN.{length}
 use Rattle.std.proofs.Common.{is_some}
 use Rattle.results.specs.declared.refusal.Refusal.{Refusal}
-use Rattle.results.specs.declared.refusal.Refusal.TheVariants.{NoSuchVariable, TypesDoNotFit, TooLarge}
+use Rattle.results.specs.declared.refusal.Refusal.TheVariants.{NoSuchVariable, TypesDoNotFit, TextTooLarge}
 use Rattle.kinds.specs.declared.Sort.{Sort}
 use Rattle.model.specs.Trees.{Expression, depth_of_expression}
 use Rattle.model.specs.Check.{max_depth}
@@ -37,7 +37,7 @@ meant_as vs p e =
     by (not (variables_below (length vs) p)) (is_some (sort_in vs p)) (ltb max_depth (depth_of_expression (expression_of vs p))) refl refl refl
   where
     by : (t u v : Bool) → not (variables_below (length vs) p) ≡ t → is_some (sort_in vs p) ≡ u → ltb max_depth (depth_of_expression (expression_of vs p)) ≡ v
-        → cond t (refused NoSuchVariable) (cond (not u) (refused TypesDoNotFit) (cond v (refused TooLarge) (meant (expression_of vs p)))) ≡ meant e → MeantAs vs p e
+        → cond t (refused NoSuchVariable) (cond (not u) (refused TypesDoNotFit) (cond v (refused TextTooLarge) (meant (expression_of vs p)))) ≡ meant e → MeantAs vs p e
     by true u v f g h r = not_refused r
     by false false v f g h r = not_refused r
     by false true true f g h r = not_refused r

@@ -13,7 +13,7 @@ use Rattle.grammar.specs.Reading.{phrase_of}
 use Rattle.grammar.specs.Theorems.{Reads}
 use Rattle.grammar.proofs.Readings.{reading_exact}
 use Rattle.composition.specs.Typing.{sort_in, variables_below, expression_of}
-use Rattle.results.specs.declared.refusal.Refusal.TheVariants.{NoSuchVariable, NotInGrammar, TypesDoNotFit, TooLarge}
+use Rattle.results.specs.declared.refusal.Refusal.TheVariants.{NoSuchVariable, NotInGrammar, TypesDoNotFit, TextTooLarge}
 use Rattle.kinds.specs.declared.Sort.{Sort}
 use Rattle.std.proofs.Common.{is_some, Err}
 use Rattle.texts.specs.Texts.{meant_by, Slices, written_into, typed_over}
@@ -28,7 +28,7 @@ module _ (vs : List Sort) (s : Slices) where
   phrase_other p =
       by (not (variables_below (length vs) p)) (is_some (sort_in vs p)) (ltb max_depth (depth_of_expression (expression_of vs p))) (expression_of vs p)
     where
-      by : (t u v : Bool) (e : Expression) → (written_into s (cond t (refused NoSuchVariable) (cond (not u) (refused TypesDoNotFit) (cond v (refused TooLarge) (meant e))))).answer ≡ Err NotInGrammar → ⊥
+      by : (t u v : Bool) (e : Expression) → (written_into s (cond t (refused NoSuchVariable) (cond (not u) (refused TypesDoNotFit) (cond v (refused TextTooLarge) (meant e))))).answer ≡ Err NotInGrammar → ⊥
       by true u v e h = cc
       by false false v e h = cc
       by false true true e h = cc

@@ -1,7 +1,7 @@
 -- Short texts and what they mean, over variables of the given sorts.
 use Rattle.std.specs.Prelude.{◌≡◌, List, [], ◌∷◌, ℕ, pos, replicate, Err}
 use Rattle.results.specs.Results.{answered}
-use Rattle.results.specs.declared.refusal.Refusal.TheVariants.{ShortSlice, NoSuchVariable, NotInGrammar, TypesDoNotFit, TooLarge}
+use Rattle.results.specs.declared.refusal.Refusal.TheVariants.{ShortSlice, NoSuchVariable, NotInGrammar, TypesDoNotFit, TextTooLarge}
 use Rattle.kinds.specs.declared.Sort.{Sort}
 use Rattle.kinds.specs.declared.Sort.TheVariants.{Boolean, Number}
 use Rattle.evaluation.specs.declared.Operator.TheVariants.{Conjunction, Disjunction, Equality, Less, LessOrEqual, Sum, Difference, Product, Quotient, Remainder, Equivalence}
@@ -57,7 +57,7 @@ SortRows =
 -- 201 spaces into no cell are 34, the empty text into no cell is 10
 abbrev pub OrderRows : Type 0
 OrderRows =
-    (typed_over [] (replicate 201 32) (slices [] []) ≡ answered (Err TooLarge) (slices [] []))
+    (typed_over [] (replicate 201 32) (slices [] []) ≡ answered (Err TextTooLarge) (slices [] []))
     × (typed_over [] [] (slices [] []) ≡ answered (Err ShortSlice) (slices [] []))
 
 -- `if v0 then v1 else v0`

@@ -5,7 +5,7 @@ use Rattle.std.specs.Prelude.{cond, not, ◌||◌, List, map, ℕ, ltb, ℤ, len
 use Rattle.std.proofs.Math.Option.{Option, some, none}
 use Rattle.results.specs.Results.{Answered, answered, over}
 use Rattle.results.specs.declared.refusal.Refusal.{Refusal}
-use Rattle.results.specs.declared.refusal.Refusal.TheVariants.{ShortSlice, NoSuchVariable, NotInGrammar, TypesDoNotFit, TooLarge}
+use Rattle.results.specs.declared.refusal.Refusal.TheVariants.{ShortSlice, NoSuchVariable, NotInGrammar, TypesDoNotFit, TextTooLarge}
 use Rattle.kinds.specs.declared.Sort.{Sort}
 use Rattle.model.specs.Trees.{Expression, variables, sorts_of, depth_of_expression}
 use Rattle.model.specs.Nodes.{nodes_of_expression}
@@ -34,7 +34,7 @@ meant_by vs none = refused NotInGrammar
 meant_by vs (some p) =
     cond (not (variables_below (length vs) p)) (refused NoSuchVariable)
     (cond (not (is_some (sort_in vs p))) (refused TypesDoNotFit)
-    (cond (ltb max_depth (depth_of_expression (expression_of vs p))) (refused TooLarge)
+    (cond (ltb max_depth (depth_of_expression (expression_of vs p))) (refused TextTooLarge)
     (meant (expression_of vs p))))
 
 -- the two slices lent
@@ -55,7 +55,7 @@ written_into old (meant e) =
 -- 34 (too long), 10, then the text
 unfoldable pub typed_over : List Sort → List ℕ → Slices → Answered (Result ℕ Refusal) Slices
 typed_over vs text old =
-    cond (ltb max_text (length text)) (answered (Err TooLarge) old)
+    cond (ltb max_text (length text)) (answered (Err TextTooLarge) old)
     (cond (ltb (length old.kinds) min_nodes || ltb (length old.parameters) min_nodes) (answered (Err ShortSlice) old)
     (written_into old (meant_by vs (phrase_of text))))
 

@@ -30,7 +30,7 @@ fn write_over(text: &[u8], sorts: &[Sort], cells: &mut Cells<'_>) -> Result<usiz
     ensures same { SameCells cells.old cells.new }
 {
     if MAX_TEXT < text.len() {
-        return Err(Refusal::TooLarge);
+        return Err(Refusal::TextTooLarge);
     }
     if cells.kinds.len() < MIN_NODES {
         return Err(Refusal::ShortSlice);
@@ -48,7 +48,7 @@ fn write_over(text: &[u8], sorts: &[Sort], cells: &mut Cells<'_>) -> Result<usiz
         return Err(Refusal::TypesDoNotFit);
     }
     if Model::MAX_DEPTH < usize::from(part.depth) {
-        return Err(Refusal::TooLarge);
+        return Err(Refusal::TextTooLarge);
     }
     cells.write(&nodes);
     Ok(nodes.len())

@@ -1,6 +1,6 @@
 -- The fold over effects finds what the definitions say: the fault, the values given, and whether one of them is new.
 use mathlib.Core.Path.{◌≡◌, refl, sym, ap, ap₂, subst, ◌∙◌}
-use mathlib.Core.Bool.{Bool, true, false, not, ◌||◌, or_assoc, or-false, or-true}
+use mathlib.Core.Bool.{Bool, true, false, not, ◌||◌, or_assoc, or_comm, or-false, or-true}
 use mathlib.Core.List.{List, [], ◌∷◌, map}
 use mathlib.Core.Option.{Option, some, none}
 use Rattle.std.specs.Prelude.{Option as Optional, Some, None}
@@ -11,7 +11,10 @@ use borrow.Author.Tests.{eq-eqb, ne_eqb, eqb-true, eqb-false}
 use lib.Dec.{eqb}
 use lib.IntN.{ℤ}
 use lib.ListN.{length, get_or, set, get_elem?, length-set}
+use Rattle.evaluation.specs.declared.Manner.{Manner}
+use Rattle.evaluation.specs.declared.Manner.TheVariants.{ZeroDivisor, TooLarge}
 use Rattle.evaluation.specs.Numbers.{eq_z}
+use Rattle.evaluation.specs.Meaning.{same_manner}
 use Rattle.evaluation.proofs.Laws.{eq_z_refl, eq_z_true, eq_z_comm}
 use Rattle.model.specs.Trees.{Variable}
 use Rattle.model.specs.WellFormed.{All}
@@ -21,11 +24,12 @@ use Rattle.interpreter.specs.Instructions.Effect.{fails, gives}
 use Rattle.semantics.specs.Propagation.{is_known, is_new, extended}
 use Rattle.expressions.specs.Cells.{cell_value, valuation_of}
 use Rattle.variables.specs.Rows.{within_ends}
-use Rattle.interpreter.specs.Gathering.{Gathering, gathering, nothing_found, taken, gather, gather_all, fault_in}
+use Rattle.interpreter.specs.declared.Gathered.{Gathered}
+use Rattle.interpreter.specs.Gathering.{Gathering, gathering, nothing_found, failing, taken, gather, gather_all, fault_in}
 
 -- to a variable that has a cell and ends
 unfoldable pub Admissible : ℕ → ℕ → Effect → Type 0
-Admissible cells variables fails = Unit {0}
+Admissible cells variables (fails manner) = Unit {0}
 Admissible cells variables (gives x v) = (x < cells) × (x < variables)
 
 -- ---- Booleans
@@ -72,6 +76,20 @@ eqb_comm x y = by (eqb y x) refl
     by true e = eq-eqb x y (sym (eqb-true y x e))
     by false e = ne_eqb x y (λ p. eqb-false y x e (sym p))
 
+-- ---- the flag of a manner
+
+abbrev flag_of : Manner → Gathered → Bool
+flag_of ZeroDivisor f = f.zero_divisor
+flag_of TooLarge f = f.too_large
+
+flag_kept : (n : Manner) (f f' : Gathered) → f'.zero_divisor ≡ f.zero_divisor → f'.too_large ≡ f.too_large → flag_of n f' ≡ flag_of n f
+flag_kept ZeroDivisor f f' z l = z
+flag_kept TooLarge f f' z l = l
+
+flag_failing : (n m : Manner) (f : Gathered) → flag_of n (failing m f) ≡ (same_manner n m || flag_of n f)
+flag_failing ZeroDivisor m f = refl
+flag_failing TooLarge m f = refl
+
 -- ---- one effect
 
 module _ (lows highs : List ℤ) (g : Gathering) where
@@ -88,13 +106,13 @@ module _ (lows highs : List ℤ) (g : Gathering) where
     -- the variable has a value, or takes this one
     gather_held : {w : ℤ} → held ≡ Some w
         → gather lows highs (gives x v) g
-        ≡ gathering (record { failed = g.found.failed; outside = outside; conflict = g.found.conflict || not (eq_z v w); fresh = g.found.fresh }) g.given
+        ≡ gathering (record { zero_divisor = g.found.zero_divisor; too_large = g.found.too_large; outside = outside; conflict = g.found.conflict || not (eq_z v w); fresh = g.found.fresh }) g.given
     unfolding gather taken
     gather_held e = rw (e)
 
     gather_new : held ≡ None
         → gather lows highs (gives x v) g
-        ≡ gathering (record { failed = g.found.failed; outside = outside; conflict = g.found.conflict; fresh = true }) (set g.given x (Some v))
+        ≡ gathering (record { zero_divisor = g.found.zero_divisor; too_large = g.found.too_large; outside = outside; conflict = g.found.conflict; fresh = true }) (set g.given x (Some v))
     unfolding gather taken
     gather_new e = rw (e)
 
@@ -105,12 +123,12 @@ module _ (lows highs : List ℤ) (g : Gathering) where
         by (Some w) e = ap (λ a. length a.given) (gather_held e)
         by None e = ap (λ a. length a.given) (gather_new e) ∙ length-set g.given x (Some v)
 
-    failed_after : (gather lows highs (gives x v) g).found.failed ≡ g.found.failed
-    failed_after = by held refl
+    failed_after : (n : Manner) → flag_of n (gather lows highs (gives x v) g).found ≡ flag_of n g.found
+    failed_after n = by held refl
       where
-        by : (c : Optional ℤ) → held ≡ c → (gather lows highs (gives x v) g).found.failed ≡ g.found.failed
-        by (Some w) e = ap (λ a. a.found.failed) (gather_held e)
-        by None e = ap (λ a. a.found.failed) (gather_new e)
+        by : (c : Optional ℤ) → held ≡ c → flag_of n (gather lows highs (gives x v) g).found ≡ flag_of n g.found
+        by (Some w) e = flag_kept n g.found (gather lows highs (gives x v) g).found (ap (λ a. a.found.zero_divisor) (gather_held e)) (ap (λ a. a.found.too_large) (gather_held e))
+        by None e = flag_kept n g.found (gather lows highs (gives x v) g).found (ap (λ a. a.found.zero_divisor) (gather_new e)) (ap (λ a. a.found.too_large) (gather_new e))
 
     outside_after : (gather lows highs (gives x v) g).found.outside ≡ outside
     outside_after = by held refl
@@ -177,7 +195,7 @@ module _ (known later : Valuation) (x : ℕ) (v : ℤ) (ext : (y : ℕ) → late
 
   beside_agrees : (f : Effect) → (differs v (known x) || beside f) ≡ (differs v (known x) || conflicts_with later es f)
   unfolding differs given_by conflicts_with any
-  beside_agrees fails = refl
+  beside_agrees (fails manner) = refl
   beside_agrees (gives y u) = by (eqb y x) refl
     where
       by : (t : Bool) → eqb y x ≡ t
@@ -204,7 +222,7 @@ module _ (known later : Valuation) (x : ℕ) (v : ℤ) (ext : (y : ℕ) → late
 
   new_agrees : (f : Effect) → (is_new known (gives x v) || is_new known f) ≡ (is_new known (gives x v) || is_new later f)
   unfolding is_new given_by
-  new_agrees fails = refl
+  new_agrees (fails manner) = refl
   new_agrees (gives y u) = by (eqb y x) refl
     where
       by : (t : Bool) → eqb y x ≡ t → (not (is_known (known x)) || not (is_known (known y))) ≡ (not (is_known (known x)) || not (is_known (later y)))
@@ -226,28 +244,32 @@ ends_agree (d ∷ vs) (suc x) v h = ends_agree vs x v (le_of_suc-le-suc h)
 
 -- ---- all effects
 
-conflicts_past_failure : (known : Valuation) (es l : List Effect) → any (conflicts_with known (fails ∷ es)) l ≡ any (conflicts_with known es) l
+conflicts_past_failure : (m : Manner) (known : Valuation) (es l : List Effect) → any (conflicts_with known (fails m ∷ es)) l ≡ any (conflicts_with known es) l
 unfolding conflicts_with any given_by differs
-conflicts_past_failure known es l = any_beside false (conflicts_with known (fails ∷ es)) (conflicts_with known es) same l
+conflicts_past_failure m known es l = any_beside false (conflicts_with known (fails m ∷ es)) (conflicts_with known es) same l
   where
-    same : (f : Effect) → conflicts_with known (fails ∷ es) f ≡ conflicts_with known es f
-    same fails = refl
+    same : (f : Effect) → conflicts_with known (fails m ∷ es) f ≡ conflicts_with known es f
+    same (fails manner) = refl
     same (gives y u) = refl
 
 module _ (lows highs : List ℤ) where
-  failed_all : (es : List Effect) (g : Gathering) → (gather_all lows highs es g).found.failed ≡ (g.found.failed || any is_failure es)
+  failed_all : (n : Manner) (es : List Effect) (g : Gathering)
+      → flag_of n (gather_all lows highs es g).found ≡ (flag_of n g.found || any (is_failure n) es)
   unfolding gather_all gather any is_failure
-  failed_all [] g = sym (or-false g.found.failed)
-  failed_all (fails ∷ es) g = failed_all es (gather lows highs fails g) ∙ sym (or-true g.found.failed)
-  failed_all (gives x v ∷ es) g =
-      failed_all es (gather lows highs (gives x v) g) ∙ ap (λ t. t || any is_failure es) (failed_after lows highs g x v)
+  failed_all n [] g = sym (or-false (flag_of n g.found))
+  failed_all n (fails manner ∷ es) g =
+      failed_all n es (gather lows highs (fails manner) g)
+      ∙ ap (λ t. t || any (is_failure n) es) (flag_failing n manner g.found ∙ or_comm (same_manner n manner) (flag_of n g.found))
+      ∙ or_assoc (flag_of n g.found) (same_manner n manner) (any (is_failure n) es)
+  failed_all n (gives x v ∷ es) g =
+      failed_all n es (gather lows highs (gives x v) g) ∙ ap (λ t. t || any (is_failure n) es) (failed_after lows highs g x v n)
 
   module _ (n m : ℕ) where
     given_all : (es : List Effect) (g : Gathering) → length g.given ≡ n → All (Admissible n m) es
         → (y : ℕ) → valuation_of (gather_all lows highs es g).given y ≡ first_of (valuation_of g.given y) (given_to y es)
     unfolding gather_all gather All Admissible given_to given_by first_of
     given_all [] g l a y = sym (first_none (valuation_of g.given y))
-    given_all (fails ∷ es) g l a y = given_all es (gather lows highs fails g) l a.1 y
+    given_all (fails manner ∷ es) g l a y = given_all es (gather lows highs (fails manner) g) l a.1 y
     given_all (gives x v ∷ es) g l a y =
         given_all es (gather lows highs (gives x v) g) (length_after lows highs g x v ∙ l) a.1 y
         ∙ ap (λ o. first_of o (given_to y es)) (given_after_lem lows highs g x v (subst (λ k. x < k) (sym l) a.0.0) y)
@@ -257,9 +279,9 @@ module _ (lows highs : List ℤ) where
         → (gather_all lows highs es g).found.conflict ≡ (g.found.conflict || any (conflicts_with (valuation_of g.given) es) es)
     unfolding gather_all gather All Admissible any conflicts_with
     conflict_all [] g l a = sym (or-false g.found.conflict)
-    conflict_all (fails ∷ es) g l a =
-        conflict_all es (gather lows highs fails g) l a.1
-        ∙ ap (λ t. g.found.conflict || t) (sym (conflicts_past_failure (valuation_of g.given) es es))
+    conflict_all (fails manner ∷ es) g l a =
+        conflict_all es (gather lows highs (fails manner) g) l a.1
+        ∙ ap (λ t. g.found.conflict || t) (sym (conflicts_past_failure manner (valuation_of g.given) es es))
     conflict_all (gives x v ∷ es) g l a =
         let h : x < length g.given = subst (λ k. x < k) (sym l) a.0.0 in
         let later : Valuation = valuation_of (gather lows highs (gives x v) g).given in
@@ -272,7 +294,7 @@ module _ (lows highs : List ℤ) where
         → (gather_all lows highs es g).found.fresh ≡ (g.found.fresh || any (is_new (valuation_of g.given)) es)
     unfolding gather_all gather All Admissible any is_new
     fresh_all [] g l a = sym (or-false g.found.fresh)
-    fresh_all (fails ∷ es) g l a = fresh_all es (gather lows highs fails g) l a.1
+    fresh_all (fails manner ∷ es) g l a = fresh_all es (gather lows highs (fails manner) g) l a.1
     fresh_all (gives x v ∷ es) g l a =
         let h : x < length g.given = subst (λ k. x < k) (sym l) a.0.0 in
         let later : Valuation = valuation_of (gather lows highs (gives x v) g).given in
@@ -286,7 +308,7 @@ module _ (vs : List Variable) (n : ℕ) where
       → (gather_all (map (λ d. d.low) vs) (map (λ d. d.high) vs) es g).found.outside ≡ (g.found.outside || any (is_outside vs) es)
   unfolding gather_all gather All Admissible any is_outside
   outside_all [] g a = sym (or-false g.found.outside)
-  outside_all (fails ∷ es) g a = outside_all es (gather (map (λ d. d.low) vs) (map (λ d. d.high) vs) fails g) a.1
+  outside_all (fails manner ∷ es) g a = outside_all es (gather (map (λ d. d.low) vs) (map (λ d. d.high) vs) (fails manner) g) a.1
   outside_all (gives x v ∷ es) g a =
       outside_all es (gather (map (λ d. d.low) vs) (map (λ d. d.high) vs) (gives x v) g) a.1
       ∙ ap (λ t. t || any (is_outside vs) es) (outside_after (map (λ d. d.low) vs) (map (λ d. d.high) vs) g x v ∙ ap (λ t. g.found.outside || not t) (ends_agree vs x v a.0.1))
@@ -303,7 +325,7 @@ module _ (vs : List Variable) {lows highs : List ℤ} (l : lows ≡ map (λ d. d
   unfolding fault_in fault_of
   fault_folded =
       let outside : (folded lows highs given es).found.outside ≡ any (is_outside vs) es = rw (l, u) (outside_all vs (length given) es (gathering nothing_found given) a) in
-      rw (failed_all lows highs es (gathering nothing_found given), outside, conflict_all lows highs (length given) (length vs) es (gathering nothing_found given) refl a)
+      rw (failed_all lows highs ZeroDivisor es (gathering nothing_found given), failed_all lows highs TooLarge es (gathering nothing_found given), outside, conflict_all lows highs (length given) (length vs) es (gathering nothing_found given) refl a)
 
   pub given_folded : (x : ℕ) → valuation_of (folded lows highs given es).given x ≡ extended es (valuation_of given) x
   given_folded x = given_all lows highs (length given) (length vs) es (gathering nothing_found given) refl a x

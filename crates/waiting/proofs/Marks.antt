@@ -51,7 +51,7 @@ then ss ts f (Mark.stamped q m p e) = Mark.stamped q (Memᴰ.append_right ss m) 
 by_mark : (v : Evaluation) (o : Spot) (w : List ℕ) (r p : ℕ) → Mark (get_or (set w o.place (stamp_of v r)) p 0) (get_or w p 0) r (spots_by v o) p
 unfolding stamp_of spots_by
 by_mark Unknown o w r p = ⊎_elim (λ e. Mark.kept e) (λ e. Mark.stamped o (Memᴰ.head refl) (sym e.0) e.1) (set_cases w o.place r p)
-by_mark Failed o w r p = ⊎_elim (λ e. Mark.kept e) (λ e. Mark.cleared e.1) (set_cases w o.place 0 p)
+by_mark (Failed manner) o w r p = ⊎_elim (λ e. Mark.kept e) (λ e. Mark.cleared e.1) (set_cases w o.place 0 p)
 by_mark (Value v) o w r p = ⊎_elim (λ e. Mark.kept e) (λ e. Mark.cleared e.1) (set_cases w o.place 0 p)
 
 under_mark : (v : Evaluation) (o : Spot) (ss : List Spot) (w : List ℕ) (r p : ℕ) (body : List ℕ → List ℕ)
@@ -59,7 +59,7 @@ under_mark : (v : Evaluation) (o : Spot) (ss : List Spot) (w : List ℕ) (r p : 
     → Mark (get_or (marked_under v (set w o.place (stamp_of v r)) (body (set w o.place (stamp_of v r)))) p 0) (get_or w p 0) r (spots_under v o ss) p
 unfolding stamp_of spots_under marked_under
 under_mark Unknown o ss w r p body f = ⊎_elim (λ e. Mark.kept e) (λ e. Mark.stamped o (Memᴰ.head refl) (sym e.0) e.1) (set_cases w o.place r p)
-under_mark Failed o ss w r p body f = ⊎_elim (λ e. Mark.kept e) (λ e. Mark.cleared e.1) (set_cases w o.place 0 p)
+under_mark (Failed manner) o ss w r p body f = ⊎_elim (λ e. Mark.kept e) (λ e. Mark.cleared e.1) (set_cases w o.place 0 p)
 under_mark (Value v) o ss w r p body f = by (eq_z v (boolean true))
   where
     old : Mark (get_or (set w o.place 0) p 0) (get_or w p 0) r [] p
@@ -91,7 +91,7 @@ module _ (σ : Valuation) (r : ℕ) where
   under_length : (v : Evaluation) (n : ℕ) (w body : List ℕ) → length w ≡ n → length body ≡ n → length (marked_under v w body) ≡ n
   unfolding marked_under
   under_length Unknown n w body e f = e
-  under_length Failed n w body e f = e
+  under_length (Failed manner) n w body e f = e
   under_length (Value v) n w body e f = by (eq_z v (boolean true))
     where
       by : (t : Bool) → length (cond t body w) ≡ n
@@ -120,7 +120,7 @@ module _ (σ : Valuation) (r : ℕ) where
   under_keeps : (v : Evaluation) (z p : ℕ) (w body : List ℕ) → get_or w p 0 ≡ z → get_or body p 0 ≡ z → get_or (marked_under v w body) p 0 ≡ z
   unfolding marked_under
   under_keeps Unknown z p w body e f = e
-  under_keeps Failed z p w body e f = e
+  under_keeps (Failed manner) z p w body e f = e
   under_keeps (Value v) z p w body e f = by (eq_z v (boolean true))
     where
       by : (t : Bool) → get_or (cond t body w) p 0 ≡ z
@@ -154,7 +154,7 @@ module _ (σ : Valuation) (r : ℕ) where
   by_marked : (v : Evaluation) (at : ℕ) (i : Instruction) (w : List ℕ) (q : Spot) → at < length w → Memᴰ q (spots_by v (spot at i)) → get_or (set w at (stamp_of v r)) q.place 0 ≡ r
   unfolding spots_by stamp_of
   by_marked Unknown at i w q l m = subst (λ s. get_or (set w at r) s.place 0 ≡ r) (sym (Memᴰ.eq_of_singleton m)) (get_or-set_same w at r 0 l)
-  by_marked Failed at i w q l m = absurd (Memᴰ.not-nil m)
+  by_marked (Failed manner) at i w q l m = absurd (Memᴰ.not-nil m)
   by_marked (Value v) at i w q l m = absurd (Memᴰ.not-nil m)
 
   under_marked : (v : Evaluation) (at : ℕ) (i : Instruction) (ss : List Spot) (w body : List ℕ) (q : Spot) → at < length w
@@ -162,7 +162,7 @@ module _ (σ : Valuation) (r : ℕ) where
       → get_or (marked_under v (set w at (stamp_of v r)) body) q.place 0 ≡ r
   unfolding spots_under marked_under stamp_of
   under_marked Unknown at i ss w body q l f m = subst (λ s. get_or (set w at r) s.place 0 ≡ r) (sym (Memᴰ.eq_of_singleton m)) (get_or-set_same w at r 0 l)
-  under_marked Failed at i ss w body q l f m = absurd (Memᴰ.not-nil m)
+  under_marked (Failed manner) at i ss w body q l f m = absurd (Memᴰ.not-nil m)
   under_marked (Value v) at i ss w body q l f m = by (eq_z v (boolean true)) m
     where
       by : (t : Bool) → Memᴰ q (cond t ss []) → get_or (cond t body (set w at 0)) q.place 0 ≡ r
@@ -201,7 +201,7 @@ module _ (σ : Valuation) (r : ℕ) where
   stamp_cases : (v : Evaluation) → (stamp_of v r ≡ 0) ⊎ (stamp_of v r ≡ r)
   unfolding stamp_of
   stamp_cases Unknown = inr refl
-  stamp_cases Failed = inl refl
+  stamp_cases (Failed manner) = inl refl
   stamp_cases (Value v) = inl refl
 
   pub own_mark : (i : Instruction) (at : ℕ) (w : List ℕ) (ρ : Valuation) → Waits i ρ → at < length w
@@ -242,6 +242,6 @@ module _ (σ : Valuation) (r : ℕ) where
       by : (v : Evaluation) (u : List ℕ) → marked_under v u (marked i σ (at + 1 + size_of_expression c) r u)
           ≡ marked_in (chosen_branch v i) σ (at + suc (size_of_expression c + size_of i) - size_of_all (chosen_branch v i)) r u
       by Unknown u = refl
-      by Failed u = refl
+      by (Failed manner) u = refl
       by (Value v) u = chosen (eq_z v (boolean true)) u
   due_marks (block is) at w = ap (λ n. marked_in is σ n r w) (omega arith)

@@ -45,7 +45,7 @@ effects_split σ (if_then c i) = by (evaluate c σ)
 
     by : (v : Evaluation) → under v (effects i σ) ≡ under v [] ++ effects_of_all (chosen_branch v i) σ
     by Unknown = refl
-    by Failed = refl
+    by (Failed manner) = refl
     by (Value v) = chosen (eq_z v (boolean true))
 effects_split σ (block is) = refl
 
@@ -67,7 +67,7 @@ module _ (lows highs : List ℤ) where
   pub news_append : (es fs : List Effect) (g : Gathering) → news_of (es ++ fs) g.given ≡ news_of es g.given ++ news_of fs (gather_all lows highs es g).given
   unfolding news_of gather_all gather
   news_append [] fs g = refl
-  news_append (fails ∷ es) fs g = news_append es fs (gather lows highs fails g)
+  news_append (fails manner ∷ es) fs g = news_append es fs (gather lows highs (fails manner) g)
   news_append (gives x v ∷ es) fs g =
       by (is_some (get_or g.given x None)) (one_given x v g) (news_append es fs (gather lows highs (gives x v) g))
     where
@@ -86,7 +86,7 @@ module _ (lows highs : List ℤ) where
       → Memᴰ y (news_of es g.given) ⊎ (get_or (gather_all lows highs es g).given y None ≡ get_or g.given y None)
   unfolding news_of gather_all gather
   news_changed [] g y = inr refl
-  news_changed (fails ∷ es) g y = news_changed es (gather lows highs fails g) y
+  news_changed (fails manner ∷ es) g y = news_changed es (gather lows highs (fails manner) g) y
   news_changed (gives x v ∷ es) g y =
       by (is_some (get_or g.given x None)) (eqb y x) refl (one_given x v g) (news_changed es (gather lows highs (gives x v) g) y)
     where
@@ -106,7 +106,7 @@ module _ (lows highs : List ℤ) where
 pub news_bounded : (n m : ℕ) (es : List Effect) (given : List (Optional ℤ)) → All (Admissible n m) es → (y : ℕ) → Memᴰ y (news_of es given) → y < m
 unfolding news_of All Admissible
 news_bounded n m [] given a y h = absurd (Memᴰ.not-nil h)
-news_bounded n m (fails ∷ es) given a y h = news_bounded n m es given a.1 y h
+news_bounded n m (fails manner ∷ es) given a y h = news_bounded n m es given a.1 y h
 news_bounded n m (gives x v ∷ es) given a y h =
     by (is_some (get_or given x None)) (λ k. news_bounded n m es given a.1 y k) (λ k. news_bounded n m es (set given x (Some v)) a.1 y k) h
   where

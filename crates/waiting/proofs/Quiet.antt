@@ -7,6 +7,8 @@ use Prim.Native.Nat.{ℕ}
 use borrow.Author.Tests.{eqb-true, eq-eqb, not-false}
 use lib.Dec.{eqb}
 use lib.IntN.{ℤ}
+use Rattle.evaluation.specs.declared.Manner.{Manner}
+use Rattle.evaluation.specs.declared.Manner.TheVariants.{ZeroDivisor, TooLarge}
 use Rattle.evaluation.specs.Numbers.{eq_z}
 use Rattle.evaluation.proofs.Laws.{eq_z_refl, eq_z_true, eq_z_comm}
 use Rattle.model.specs.Trees.{Variable, Instruction}
@@ -15,13 +17,13 @@ use Rattle.interpreter.specs.Instructions.{Effect, any, effects, is_failure, is_
 use Rattle.interpreter.specs.Instructions.Effect.{fails, gives}
 use Rattle.semantics.specs.Propagation.{is_known, is_new, extended}
 use Rattle.semantics.proofs.Effects.{any_false, false_at, witness, faultless, given_member, member_given, given_known}
-use Rattle.semantics.proofs.Alike.{Alike, any_append, any_mono, faults_alike, given_alike, no_conflict}
+use Rattle.semantics.proofs.Alike.{Alike, any_append, any_mono, faults_alike, given_alike}
 use Rattle.waiting.specs.Waiting.{waiting, effects_of_each}
 use Rattle.waiting.proofs.Waiting.{resumes}
 
 -- nothing failed or lies outside its ends, and every value given is the one known
 pub record Known (vs : List Variable) (τ : Valuation) (es : List Effect) : Type 0 where
-  pub failure : any is_failure es ≡ false
+  pub failure : (m : Manner) → any (is_failure m) es ≡ false
   pub outside : any (is_outside vs) es ≡ false
   pub values : (x : ℕ) (v : ℤ) → Memᴰ (gives x v) es → τ x ≡ some v
 
@@ -57,13 +59,13 @@ or_right : (a b : Bool) → (a || b) ≡ false → b ≡ false
 or_right true b e = absurd (true≢false e)
 or_right false b e = e
 
-fails_apart : (τ : Valuation) (l : List Effect) → conflicts_with τ l fails ≡ true → false ≡ true
+fails_apart : (m : Manner) (τ : Valuation) (l : List Effect) → conflicts_with τ l (fails m) ≡ true → false ≡ true
 unfolding conflicts_with
-fails_apart τ l h = h
+fails_apart m τ l h = h
 
-fails_old : (τ : Valuation) → is_new τ fails ≡ false
+fails_old : (m : Manner) (τ : Valuation) → is_new τ (fails m) ≡ false
 unfolding is_new
-fails_old τ = refl
+fails_old m τ = refl
 
 known_old : (τ : Valuation) (x : ℕ) (v w : ℤ) → τ x ≡ some w → is_new τ (gives x v) ≡ false
 unfolding is_new is_known
@@ -83,7 +85,7 @@ module _ (vs : List Variable) (τ : Valuation) (es : List Effect) (k : Known vs 
   -- what differs from a value given by `es` differs from the one known
   given_differs : (x : ℕ) (v : ℤ) (e : Effect) → Memᴰ e es → differs v (given_by x e) ≡ true → differs v (τ x) ≡ true
   unfolding given_by differs
-  given_differs x v fails m d = absurd (false≢true d)
+  given_differs x v (fails manner) m d = absurd (false≢true d)
   given_differs x v (gives y w) m d = go (eqb x y) refl d
     where
       go : (t : Bool) → eqb x y ≡ t → differs v (cond t (some w) none) ≡ true → differs v (τ x) ≡ true
@@ -93,7 +95,7 @@ module _ (vs : List Variable) (τ : Valuation) (es : List Effect) (k : Known vs 
   -- a conflict of another effect with `es` is one with what is known
   beside : (l : List Effect) (e : Effect) → conflicts_with τ (es ++ l) e ≡ true → conflicts_with τ l e ≡ true
   unfolding conflicts_with
-  beside l fails h = h
+  beside l (fails manner) h = h
   beside l (gives x v) h =
       or_cases (differs v (τ x)) _ h (λ d. rw d)
       (λ a. or_cases _ (any (λ e. differs v (given_by x e)) l) (sym (any_append (λ e. differs v (given_by x e)) es l) ∙ a)
@@ -102,7 +104,7 @@ module _ (vs : List Variable) (τ : Valuation) (es : List Effect) (k : Known vs 
 
   within : (l : List Effect) (e : Effect) → conflicts_with τ l e ≡ true → conflicts_with τ (es ++ l) e ≡ true
   unfolding conflicts_with
-  within l fails h = h
+  within l (fails manner) h = h
   within l (gives x v) h =
       or_cases (differs v (τ x)) _ h (λ d. rw d)
       (λ c. rw (any_append (λ e. differs v (given_by x e)) es l, c, or-true (any (λ e. differs v (given_by x e)) es)) (or-true (differs v (τ x))))
@@ -110,7 +112,7 @@ module _ (vs : List Variable) (τ : Valuation) (es : List Effect) (k : Known vs 
   -- a conflict of an effect of `es` is one of the effect that it is in conflict with
   turned : (l : List Effect) (x : ℕ) (v : ℤ) → τ x ≡ some v → (e : Effect) → Memᴰ e l → differs v (given_by x e) ≡ true → conflicts_with τ l e ≡ true
   unfolding conflicts_with given_by differs
-  turned l x v q fails m d = absurd (false≢true d)
+  turned l x v q (fails manner) m d = absurd (false≢true d)
   turned l x v q (gives y w) m d = go (eqb x y) refl d
     where
       go : (t : Bool) → eqb x y ≡ t → differs v (cond t (some w) none) ≡ true → (differs w (τ y) || any (λ e. differs w (given_by y e)) l) ≡ true
@@ -137,19 +139,19 @@ module _ (vs : List Variable) (τ : Valuation) (es : List Effect) (k : Known vs 
       (λ h. any_append (conflicts_with τ (es ++ l)) es l ∙ or_second (any (conflicts_with τ (es ++ l)) es) (any (conflicts_with τ (es ++ l)) l) (any_mono _ _ (within l) l h))
     where
       of_own : (e : Effect) → Memᴰ e es → conflicts_with τ (es ++ l) e ≡ true → any (conflicts_with τ l) l ≡ true
-      of_own fails m h = absurd (false≢true (fails_apart τ (es ++ l) h))
+      of_own (fails manner) m h = absurd (false≢true (fails_apart manner τ (es ++ l) h))
       of_own (gives x v) m h = own_conflict l x v m h
 
   pub quiet_fault : (l : List Effect) → fault_of vs τ (es ++ l) ≡ fault_of vs τ l
   unfolding fault_of
   quiet_fault l =
-      rw (any_append is_failure es l, k.failure, any_append (is_outside vs) es l, k.outside, conflict_same l)
+      rw (any_append (is_failure ZeroDivisor) es l, k.failure ZeroDivisor, any_append (is_failure TooLarge) es l, k.failure TooLarge, any_append (is_outside vs) es l, k.outside, conflict_same l)
 
   pub quiet_new : (l : List Effect) → any (is_new τ) (es ++ l) ≡ any (is_new τ) l
   quiet_new l = any_append (is_new τ) es l ∙ ap (λ t. t || any (is_new τ) l) (any_false (is_new τ) es old)
     where
       old : (e : Effect) → Memᴰ e es → is_new τ e ≡ false
-      old fails m = fails_old τ
+      old (fails manner) m = fails_old manner τ
       old (gives x v) m = known_old τ x v v (k.values x v m)
 
   -- where a variable is unknown `es` gives it nothing
@@ -222,4 +224,4 @@ module _ (vs : List Variable) (i : Instruction) (σ : Valuation) (n : fault_of v
   pub extended_same : fault_of vs next (effects i next) ≡ none → extended (effects i next) next ≡ extended new next
   extended_same f =
       fun_ext
-      (λ x. ap (first_of (next x)) (given_alike alike next (no_conflict vs next (effects i next) f) x) ∙ quiet_extended vs next (effects i σ) k new x)
+      (λ x. ap (first_of (next x)) (given_alike alike next (faultless vs next (effects i next) f).conflict x) ∙ quiet_extended vs next (effects i σ) k new x)

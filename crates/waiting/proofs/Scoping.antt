@@ -24,7 +24,7 @@ use Rattle.waiting.proofs.Gathering.{Admissible}
 
 -- to a variable of the scope
 unfoldable pub InScope : Scope → Effect → Type 0
-InScope s fails = Unit {0}
+InScope s (fails manner) = Unit {0}
 InScope s (gives x v) = (s.from ≤ x) × (x < s.past)
 
 all_append : {A : Type 0} (P : A → Type 0) (l m : List A) → All P l → All P m → All P (l ++ m)
@@ -35,13 +35,13 @@ all_append P (a ∷ l) m h k = (h.0, all_append P l m h.1 k)
 assigned_in_scope : (s : Scope) (x : ℕ) → s.from ≤ x → x < s.past → (v : Evaluation) → All (InScope s) (assigned x v)
 unfolding assigned All InScope
 assigned_in_scope s x l u Unknown = tt
-assigned_in_scope s x l u Failed = (tt, tt)
+assigned_in_scope s x l u (Failed manner) = (tt, tt)
 assigned_in_scope s x l u (Value v) = ((l, u), tt)
 
 under_in_scope : (s : Scope) (v : Evaluation) (es : List Effect) → All (InScope s) es → All (InScope s) (under v es)
 unfolding under All InScope
 under_in_scope s Unknown es h = tt
-under_in_scope s Failed es h = (tt, tt)
+under_in_scope s (Failed manner) es h = (tt, tt)
 under_in_scope s (Value v) es h = by (eq_z v (boolean true))
   where
     by : (t : Bool) → All (InScope s) (cond t es [])
@@ -68,7 +68,7 @@ pub admissible_effects : (s : Scope) {cells variables : ℕ} → s.past ≤ cell
     → (es : List Effect) → All (InScope s) es → All (Admissible cells variables) es
 unfolding All InScope Admissible
 admissible_effects s p q [] h = tt
-admissible_effects s p q (fails ∷ es) h = (tt, admissible_effects s p q es h.1)
+admissible_effects s p q (fails manner ∷ es) h = (tt, admissible_effects s p q es h.1)
 admissible_effects s p q (gives x v ∷ es) h =
     ((omega (arith, h.0.1), omega (arith, h.0.1)), admissible_effects s p q es h.1)
 

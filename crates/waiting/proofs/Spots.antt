@@ -32,7 +32,7 @@ use Rattle.waiting.proofs.Waiting.{depends}
 under_member : {s q : Spot} {ss : List Spot} (v : Evaluation) {A : Type 0} → (v ≡ Unknown → q ≡ s → A) → (Memᴰ q ss → A) → Memᴰ q (spots_under v s ss) → A
 unfolding spots_under
 under_member Unknown f g m = f refl (Memᴰ.eq_of_singleton m)
-under_member Failed f g m = absurd (Memᴰ.not-nil m)
+under_member (Failed manner) f g m = absurd (Memᴰ.not-nil m)
 under_member {s} {q} {ss} (Value v) {A} f g m = by (eq_z v (boolean true)) m
   where
     by : (t : Bool) → Memᴰ q (cond t ss []) → A
@@ -42,7 +42,7 @@ under_member {s} {q} {ss} (Value v) {A} f g m = by (eq_z v (boolean true)) m
 by_member : {s q : Spot} (v : Evaluation) {A : Type 0} → (v ≡ Unknown → q ≡ s → A) → Memᴰ q (spots_by v s) → A
 unfolding spots_by
 by_member Unknown f m = f refl (Memᴰ.eq_of_singleton m)
-by_member Failed f m = absurd (Memᴰ.not-nil m)
+by_member (Failed manner) f m = absurd (Memᴰ.not-nil m)
 by_member (Value v) f m = absurd (Memᴰ.not-nil m)
 
 -- it lies within the whole
@@ -60,7 +60,7 @@ under_apart : (v : Evaluation) (o : Spot) (ss : List Spot) (q s : Spot) → (Mem
     → Memᴰ q (spots_under v o ss) → Memᴰ s (spots_under v o ss) → Apart q s
 unfolding spots_under
 under_apart Unknown o ss q s f m n = Apart.same (Memᴰ.eq_of_singleton m ∙ sym (Memᴰ.eq_of_singleton n))
-under_apart Failed o ss q s f m n = absurd (Memᴰ.not-nil m)
+under_apart (Failed manner) o ss q s f m n = absurd (Memᴰ.not-nil m)
 under_apart (Value v) o ss q s f m n = by (eq_z v (boolean true)) m n
   where
     by : (t : Bool) → Memᴰ q (cond t ss []) → Memᴰ s (cond t ss []) → Apart q s
@@ -185,14 +185,14 @@ module _ (σ : Valuation) where
   instructions_by : (v : Evaluation) (at : ℕ) (i : Instruction) → instructions_of (spots_by v (spot at i)) ≡ waits_by v i
   unfolding instructions_of spots_by waits_by
   instructions_by Unknown at i = refl
-  instructions_by Failed at i = refl
+  instructions_by (Failed manner) at i = refl
   instructions_by (Value v) at i = refl
 
   instructions_under : (v : Evaluation) (at : ℕ) (i : Instruction) (ss : List Spot) (is : List Instruction) → instructions_of ss ≡ is
       → instructions_of (spots_under v (spot at i) ss) ≡ waits_under v i is
   unfolding instructions_of spots_under waits_under
   instructions_under Unknown at i ss is e = refl
-  instructions_under Failed at i ss is e = refl
+  instructions_under (Failed manner) at i ss is e = refl
   instructions_under (Value v) at i ss is e = by (eq_z v (boolean true))
     where
       by : (t : Bool) → instructions_of (cond t ss []) ≡ cond t is []
@@ -227,7 +227,7 @@ module _ (σ τ : Valuation) (larger : Extends σ τ) where
       → spots_by b (spot at (assign x e)) ≡ spots_of_each (spots_by a (spot at (assign x e))) τ
   unfolding spots_by spots_of_each
   by_on at x e Unknown b g q = q ∙ sym (append-nil (spots (assign x e) τ at))
-  by_on at x e Failed b stays q = refl
+  by_on at x e (Failed manner) b stays q = refl
   by_on at x e (Value v) b stays q = refl
 
   under_on : (at : ℕ) (c : Expression) (i : Instruction) (a b : Evaluation) → Grows a b
@@ -237,7 +237,7 @@ module _ (σ τ : Valuation) (larger : Extends σ τ) where
       ≡ spots_of_each (spots_under a (spot at (if_then c i)) (spots i σ (at + 1 + size_of_expression c))) τ
   unfolding spots_under spots_of_each
   under_on at c i Unknown b g q h = q ∙ sym (append-nil (spots (if_then c i) τ at))
-  under_on at c i Failed b stays q h = refl
+  under_on at c i (Failed manner) b stays q h = refl
   under_on at c i (Value v) b stays q h = go (eq_z v (boolean true))
     where
       go : (t : Bool) → cond t (spots i τ (at + 1 + size_of_expression c)) [] ≡ spots_of_each (cond t (spots i σ (at + 1 + size_of_expression c)) []) τ

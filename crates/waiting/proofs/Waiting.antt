@@ -85,14 +85,14 @@ module _ (σ τ : Valuation) where
       → assigned x b ≡ assigned x a ++ effects_of_each (waits_by a (assign x e)) τ
   unfolding assigned waits_by effects_of_each
   assign_resumes x e Unknown b g q = q ∙ sym (append_nil (effects (assign x e) τ))
-  assign_resumes x e Failed b stays q = refl
+  assign_resumes x e (Failed manner) b stays q = refl
   assign_resumes x e (Value v) b stays q = refl
 
   under_resumes : (c : Expression) (i : Instruction) (a b : Evaluation) → Grows a b → under b (effects i τ) ≡ effects (if_then c i) τ → Resumes i
       → (p : Effect → Bool) → any p (under b (effects i τ)) ≡ any p (under a (effects i σ) ++ effects_of_each (waits_under a (if_then c i) (waiting i σ)) τ)
   unfolding under waits_under effects_of_each
   under_resumes c i Unknown b g q h p = ap (any p) (q ∙ sym (append_nil (effects (if_then c i) τ)))
-  under_resumes c i Failed b stays q h p = refl
+  under_resumes c i (Failed manner) b stays q h p = refl
   under_resumes c i (Value v) b stays q h p = go (eq_z v (boolean true))
     where
       go : (t : Bool) → any p (cond t (effects i τ) []) ≡ any p (cond t (effects i σ) [] ++ effects_of_each (cond t (waiting i σ) []) τ)
@@ -134,7 +134,7 @@ module _ (σ τ : Valuation) (larger : Extends σ τ) where
       → waits_by b (assign x e) ≡ waiting_of_each (waits_by a (assign x e)) τ
   unfolding waits_by waiting_of_each
   assign_waits x e Unknown b g q = q ∙ sym (append_nil (waiting (assign x e) τ))
-  assign_waits x e Failed b stays q = refl
+  assign_waits x e (Failed manner) b stays q = refl
   assign_waits x e (Value v) b stays q = refl
 
   under_waits : (c : Expression) (i : Instruction) (a b : Evaluation) → Grows a b → waits_under b (if_then c i) (waiting i τ) ≡ waiting (if_then c i) τ
@@ -142,7 +142,7 @@ module _ (σ τ : Valuation) (larger : Extends σ τ) where
       → waits_under b (if_then c i) (waiting i τ) ≡ waiting_of_each (waits_under a (if_then c i) (waiting i σ)) τ
   unfolding waits_under waiting_of_each
   under_waits c i Unknown b g q h = q ∙ sym (append_nil (waiting (if_then c i) τ))
-  under_waits c i Failed b stays q h = refl
+  under_waits c i (Failed manner) b stays q h = refl
   under_waits c i (Value v) b stays q h = go (eq_z v (boolean true))
     where
       go : (t : Bool) → cond t (waiting i τ) [] ≡ waiting_of_each (cond t (waiting i σ) []) τ

@@ -11,12 +11,12 @@ use Rattle.expressions.specs.Expressions.{Valuation, evaluate}
 
 unfoldable pub stamp_of : Evaluation → ℕ → ℕ
 stamp_of Unknown r = r
-stamp_of Failed r = 0
+stamp_of (Failed m) r = 0
 stamp_of (Value v) r = 0
 
 unfoldable pub marked_under : Evaluation → List ℕ → List ℕ → List ℕ
 marked_under Unknown w body = w
-marked_under Failed w body = w
+marked_under (Failed m) w body = w
 marked_under (Value v) w body = cond (eq_z v (boolean true)) body w
 
 -- the marks after a reading in round r

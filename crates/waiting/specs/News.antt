@@ -8,7 +8,7 @@ use Rattle.semantics.specs.Counting.{unknowns}
 -- over the values given so far
 unfoldable pub news_of : List Effect → List (Optional ℤ) → List ℕ
 news_of [] given = []
-news_of (fails ∷ es) given = news_of es given
+news_of (fails m ∷ es) given = news_of es given
 news_of (gives x v ∷ es) given =
     cond (is_some (get_or given x None)) (news_of es given) (x ∷ news_of es (set given x (Some v)))
 

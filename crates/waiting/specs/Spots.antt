@@ -18,12 +18,12 @@ spot at i = record { place = at; instruction = i }
 
 unfoldable pub spots_by : Evaluation → Spot → List Spot
 spots_by Unknown s = s ∷ []
-spots_by Failed s = []
+spots_by (Failed m) s = []
 spots_by (Value v) s = []
 
 unfoldable pub spots_under : Evaluation → Spot → List Spot → List Spot
 spots_under Unknown s ss = s ∷ []
-spots_under Failed s ss = []
+spots_under (Failed m) s ss = []
 spots_under (Value v) s ss = cond (eq_z v (boolean true)) ss []
 
 -- what waits in an instruction that stands at this place

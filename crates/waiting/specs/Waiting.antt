@@ -26,13 +26,13 @@ AgreeOn e σ τ = (x : ℕ) → mentions e x ≡ true → σ x ≡ τ x
 -- an assignment waits while its expression is unknown
 unfoldable pub waits_by : Evaluation → Instruction → List Instruction
 waits_by Unknown i = i ∷ []
-waits_by Failed i = []
+waits_by (Failed m) i = []
 waits_by (Value v) i = []
 
 -- an if-then waits while its condition is unknown, and what waits under a true one waits
 unfoldable pub waits_under : Evaluation → Instruction → List Instruction → List Instruction
 waits_under Unknown i is = i ∷ []
-waits_under Failed i is = []
+waits_under (Failed m) i is = []
 waits_under (Value v) i is = cond (eq_z v (boolean true)) is []
 
 unfoldable mutual

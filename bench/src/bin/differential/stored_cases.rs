@@ -5,7 +5,7 @@ use bench::ffi::LIBRARY;
 use bench::guarded::Guarded;
 use bench::program::{gtsrun, gtswide};
 use bench::stored::old::{self, refusal_of_file, rewritten_file};
-use bench::stored::{self, CheckCase, Lent, ListCase, ProgramCase, TextCase, ValuesCase};
+use bench::stored::{self, manners, CheckCase, Lent, ListCase, ProgramCase, TextCase, ValuesCase};
 
 use crate::tally::{Tally, JOIN, REWRITE, TEXT};
 use crate::Pair;
@@ -106,7 +106,7 @@ fn old_values(tally: &mut Tally) -> usize {
 
 fn old_lists(tally: &mut Tally, file: &str) -> usize {
     let mut count = 0;
-    for (place, mut case) in stored::lists(&stored::text(file)).into_iter().enumerate() {
+    for (place, mut case) in manners::lists(file).into_iter().enumerate() {
         let name = format!("{file}, list {place}");
         let refused = case.refused();
         let model = rewritten(tally, &name, &case.model, refused);
@@ -123,7 +123,7 @@ fn old_lists(tally: &mut Tally, file: &str) -> usize {
 fn old_programs(tally: &mut Tally, file: &str) -> usize {
     rewritten_cases(
         tally,
-        stored::programs(&stored::text(file)),
+        manners::programs(file),
         &format!("{file}, program"),
         |case| (&case.model[..], case.refused()),
         |tally, name, mut case, model| {
@@ -187,7 +187,8 @@ fn compare_check(tally: &mut Tally, name: &str, case: &CheckCase) {
 }
 
 fn lists(tally: &mut Tally) -> usize {
-    let lists = stored::lists(&stored::text("calls.txt"));
+    let mut lists = stored::lists(&stored::text("calls.txt"));
+    lists.extend(manners::lists(manners::CALLS));
     for (place, case) in lists.iter().enumerate() {
         compare_both(tally, &format!("list {place}"), case);
     }
@@ -223,7 +224,8 @@ fn compare_list(tally: &mut Tally, name: &str, case: &ListCase, given: &[u8]) {
 }
 
 fn programs(tally: &mut Tally) -> usize {
-    let programs = stored::programs(&stored::text("programs.txt"));
+    let mut programs = stored::programs(&stored::text("programs.txt"));
+    programs.extend(manners::programs(manners::PROGRAMS));
     for (place, case) in programs.iter().enumerate() {
         compare_program(tally, &format!("program {place}"), case);
     }

@@ -12,7 +12,7 @@ pub const REWRITE: usize = TABLE.len() + 2;
 const COLUMNS: usize = TABLE.len() + 3;
 
 /// The answers are below this.
-const ANSWERS: usize = 38;
+const ANSWERS: usize = 41;
 
 pub struct Tally {
     pub calls: usize,

@@ -9,11 +9,11 @@ returns-in-Value-Value c =
 
 pub returns-in-Value-Failed : goal.returns-in-Value-Failed
 returns-in-Value-Failed c =
-    value_failed c.args.op (omega arith) c.in-Value-Failed.is-0 c.in-Value-Failed.is-1 c.beside.ensures
+    value_failed c.args.op (omega arith) _ c.in-Value-Failed.is-0 c.in-Value-Failed.is-1 c.beside.ensures
 
 pub returns-in-Failed-Value : goal.returns-in-Failed-Value
 returns-in-Failed-Value c =
-    failed_value c.args.op (omega arith) c.in-Failed-Value.is-0 c.in-Failed-Value.is-1 c.beside-in-Failed-Value.ensures
+    failed_value c.args.op (omega arith) _ c.in-Failed-Value.is-0 c.in-Failed-Value.is-1 c.beside-in-Failed-Value.ensures
 
 pub returns-in-Value-Unknown : goal.returns-in-Value-Unknown
 returns-in-Value-Unknown c =
@@ -24,7 +24,8 @@ returns-in-Unknown-Value c =
     unknown_value c.args.op (omega arith) c.in-Unknown-Value.is-0 c.in-Unknown-Value.is-1 c.beside-in-Unknown-Value.ensures
 
 pub returns-in-Failed-Failed : goal.returns-in-Failed-Failed
-returns-in-Failed-Failed c = failed_failed c.args.op c.in-Failed-Failed.is-0 c.in-Failed-Failed.is-1
+returns-in-Failed-Failed c =
+    failed_failed c.args.op c.in-Failed-Failed.is-0 c.in-Failed-Failed.is-1 (c.winning_manner.ensures c.args.op)
 
 pub returns-in_default : goal.returns-in_default
 returns-in_default c = failed_unknown c.args.op c.in_default.is-0 c.in_default.is-1

@@ -1,0 +1,12 @@
+-- No node of an expression is due.
+use mathlib.Core.Path.{◌∙◌, sym}
+use Rattle.std.proofs.lemmas.Result.{err_from_is_err_and}
+use Rattle.syntax.specs.Readings.{expression_refusal}
+use Rattle.syntax.proofs.Refusals.{not_due}
+use Rattle.syntax.proofs.Cursor.expression_node.Goals as goal
+
+pub returns-in_err-node-clause-reading : goal.returns-in_err-node-clause-reading
+unfolding expression_refusal
+returns-in_err-node-clause-reading c =
+    let e = err_from_is_err_and c.from_residual.result c.from_residual.ensures.1 in
+    rw (e.1, e.2) (not_due _ _ _ _ _ _ (sym c.node.ensures ∙ c.in_err-node.was))
