@@ -1,4 +1,4 @@
-/* The calls on a run of a guarded transition system, on a text and on a model (libcapi.a, made by `rt lib` in crates/capi).
+/* The calls on a run of a guarded transition system, on a text, on a model and on a log (libcapi.a, made by `rt lib` in crates/capi).
  *
  * A model is a file of S states, F flows, E events, T transitions and N nodes, lent as bytes to every call. A run is
  *   values   int32_t, at least S + F of them: states, then flows; a Boolean is 0 or 1
@@ -19,6 +19,15 @@
  *   mandatory   size_t, numbers of transitions
  *   optional    size_t, likewise
  *   out         uint8_t, for the new model; GTS_MAX_BYTES of them are enough for every model
+ *
+ * gts_windows is no call on a run: beside the model it takes two expressions, a Boolean one and a number one, each in two slices
+ *   condition_kinds       uint8_t, exactly as many as the Boolean expression has nodes, however many these are: after gts_text
+ *                         `count` of them, and not all that were lent to it, since cells left over are 8
+ *   condition_parameters  int32_t, as many (else 3): those of the same nodes
+ *   number_kinds, number_parameters  likewise, of the number expression
+ * and a log with a slice for what is told of it
+ *   rows     int32_t, any number of rows one after another, each S + F values: states, then flows
+ *   figures  int32_t, three for each row; those past the last row's stay
  *
  * gts_rewrite takes no model but an old file, whose sizes S, F, E, T stand in one byte each (6 + 5 N bytes, N at most 4,000),
  * and writes it as a model. No other call takes an old file.
@@ -52,9 +61,9 @@ extern "C" {
  * sizes S, F, E, T take two bytes each, and a cell of the history is a uint16_t: gts_fire, gts_undo, gts_marks, gts_value and
  * gts_pick are lent it so. An old file goes through gts_rewrite first. Models may be larger (the GTS_MAX_ constants, 1, 2, 3
  * and 36), and are refused by 37 too; a call on a run and a join need more stack (GTS_STACK_BYTES, GTS_SYNCHRONISE_STACK_BYTES).
- * 5.0: 24, 25 and 28 are a divisor of 0 alone, by new names; a number beyond 32 bits is 38, 39 or 40. */
+ * 5.0: 24, 25 and 28 are a divisor of 0 alone, by new names; a number beyond 32 bits is 38, 39 or 40. 5.1: gts_windows. */
 #define GTS_VERSION_MAJOR 5
-#define GTS_VERSION_MINOR 0
+#define GTS_VERSION_MINOR 1
 
 /* The largest model. */
 #define GTS_MAX_NODES 12000
@@ -67,20 +76,24 @@ extern "C" {
 /* The longest text, in bytes. */
 #define GTS_MAX_TEXT 200
 
+/* The most rows of a window. */
+#define GTS_MAX_WINDOW 1000
+
 /* Least lengths. */
 #define GTS_SIZES 5        /* of `sizes`; of `values` it is S + F, of `marks` and `buffer` T, of `history` none */
 #define GTS_TEXT_NODES 400 /* of `kinds` and of `parameters`: no text has more nodes */
+#define GTS_FIGURES 3      /* of `figures`, for each row */
 
-/* The stack that a call on a run, gts_check or gts_rewrite needs, in bytes: the most that was measured is 319,216 (README),
- * rounded up. A thread whose stack is smaller must not make the call. The arrays have fixed sizes, and recursion goes by
- * depth, at most GTS_MAX_DEPTH. */
+/* The stack that a call on a run, gts_check, gts_windows or gts_rewrite needs, in bytes: the most that was measured is
+ * 319,712 (README), rounded up. A thread whose stack is smaller must not make the call. The arrays have fixed sizes, and
+ * recursion goes by depth, at most GTS_MAX_DEPTH. */
 #define GTS_STACK_BYTES 327680
 
-/* The stack that gts_synchronise needs: the most that was measured is 196,848 (README), rounded up. Recursion goes by
+/* The stack that gts_synchronise needs: the most that was measured is 196,864 (README), rounded up. Recursion goes by
  * depth, at most GTS_MAX_DEPTH. */
 #define GTS_SYNCHRONISE_STACK_BYTES 204800
 
-/* The stack that gts_text needs: the most that was measured is 75,464 (README), with room to spare. Recursion goes by parts of a
+/* The stack that gts_text needs: the most that was measured is 75,480 (README), with room to spare. Recursion goes by parts of a
  * text that stand in one another, in at most GTS_MAX_TEXT bytes. */
 #define GTS_TEXT_STACK_BYTES 122880
 
@@ -91,8 +104,8 @@ enum gts_refusal {
     GTS_FILE_TOO_SHORT = 1,      /* under 10 bytes (an old file: 6) */
     GTS_TOO_MANY_NODES = 2,      /* N above 12,000 (an old file: 4,000) */
     GTS_TOO_MANY_VARIABLES = 37, /* S + F above 4,000; tried between 2 and 3 */
-    GTS_WRONG_LENGTH = 3,        /* not 10 + 5 N bytes (an old file: 6 + 5 N) */
-    GTS_NODE_MISSING = 4,        /* a node is due past the N-th */
+    GTS_WRONG_LENGTH = 3,        /* not 10 + 5 N bytes (an old file: 6 + 5 N); of an expression, its lengths differ */
+    GTS_NODE_MISSING = 4,        /* a node is due past the N-th (of an expression, past its last) */
     GTS_TOO_DEEP = 5,            /* depth 33 */
     GTS_KIND_NOT_ALLOWED = 6,    /* a kind is not allowed where it stands */
     GTS_PARAMETER_NOT_ALLOWED = 7, /* a parameter or a variable is not allowed where it stands */
@@ -100,12 +113,13 @@ enum gts_refusal {
     /* what is lent */
     GTS_VALUES_TOO_SHORT = 9,    /* under S + F */
     GTS_SLICE_TOO_SHORT = 10,    /* marks or buffer under T, sizes under GTS_SIZES, kinds or parameters under GTS_TEXT_NODES,
-                                    or `out` of gts_rewrite shorter than the model */
+                                    figures under three for each row, or `out` of gts_rewrite shorter than the model */
     GTS_NO_SUCH_TRANSITION = 11, /* T or above; also a member of a list */
     GTS_NO_SUCH_VARIABLE = 12,   /* S + F or above; also one in a text */
     /* the run */
     GTS_RUN_NOT_VALID = 20,      /* n above the history's length, one of the first n entries T or above, one of the first T marks
-                                    above 2, or a value outside its ends (gts_first_outside tells the first such variable) */
+                                    above 2, or a value outside its ends (gts_first_outside tells the first such variable);
+                                    in a log, a value of any row */
     GTS_HISTORY_FULL = 21,       /* n is the history's length */
     GTS_NOTHING_TO_UNDO = 22,    /* n is 0 */
     /* the step */
@@ -127,8 +141,10 @@ enum gts_refusal {
     GTS_TEXT_TOO_LONG_OR_DEEP = 34, /* over GTS_MAX_TEXT bytes; or nodes deeper than GTS_MAX_DEPTH, which is tried last */
     /* the new model */
     GTS_NO_MEMBERS = 35,         /* mandatory and optional are both empty */
-    GTS_NEW_MODEL_TOO_LARGE = 36 /* E or T would be above 65,535, N above GTS_MAX_NODES, a depth above GTS_MAX_DEPTH, or
+    GTS_NEW_MODEL_TOO_LARGE = 36, /* E or T would be above 65,535, N above GTS_MAX_NODES, a depth above GTS_MAX_DEPTH, or
                                     `out` is shorter than the new model */
+    /* the log */
+    GTS_NO_WINDOWS = 41          /* `window` is 0 or above GTS_MAX_WINDOW, S + F is 0, or `rows` is no whole number of rows */
 };
 
 /* The sizes S F E T N into the first five cells of `sizes`. Refuses by 1, 2, 37, 3 to 8, 10. */
@@ -183,6 +199,13 @@ uint8_t gts_text(const uint8_t *model, size_t len, const uint8_t *text, size_t t
  * is the guard's once a gts_start, gts_fire or gts_undo is done.
  * Refuses by 1, 2, 37, 3 to 8, 35, 11 (a member of either list), 36. */
 uint8_t gts_synchronise(const uint8_t *model, size_t len, const size_t *mandatory, size_t mandatory_len, const size_t *optional, size_t optional_len, uint8_t *out, size_t out_len, size_t *new_len);
+
+/* For every row of the log three cells of `figures`: in how many of the last `window` rows, this one included (fewer at the
+ * beginning), the Boolean expression is true; the largest value that the number expression has there; and 1, or 0 and 0 where
+ * it has none. A row in which an expression failed adds nothing to that figure. `count` is how many rows there are.
+ * Refuses by 1, 2, 37, 3 to 8, then the Boolean expression by 3 (its lengths differ), 4 to 8, then the number expression likewise,
+ * 41, 10 (under GTS_FIGURES cells for each row), 20 (a value outside its ends, in any row). */
+uint8_t gts_windows(const uint8_t *model, size_t len, const uint8_t *condition_kinds, size_t condition_kinds_len, const int32_t *condition_parameters, size_t condition_parameters_len, const uint8_t *number_kinds, size_t number_kinds_len, const int32_t *number_parameters, size_t number_parameters_len, size_t window, const int32_t *rows, size_t rows_len, int32_t *figures, size_t figures_len, size_t *count);
 
 /* An old file as a model: 5 N + 10 bytes into the first `new_len` cells of `out`. It runs as the old file did; GTS_MAX_OLD_BYTES
  * + 4 cells are enough for every one. Refuses by 1 to 8, by the limits of old files, then 10. */

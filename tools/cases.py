@@ -2,11 +2,11 @@
 """cases.py: writes the stored cases of the test programs, from the files of bench/cases.
 
 check_cases: checks.txt; call_cases: calls.txt, earlier_calls.txt and values.txt; program_cases: programs.txt and earlier_programs.txt;
-text_cases: texts.txt; join_cases: joins.txt; wide_cases: gtswide.txt; each with the edges below. Where too_large.txt names an answer, 24,
-25, 28 are 38, 39, 40 (see `lines_of`). The models of bench/cases/old are in the old layout: all of them go to
-wide_cases, and those that the old check accepts, or refuses by 3 to 8, are rewritten and keep their answers (see `rewritten_lines`), but for
-joins at the old limits, which are left out, and `f` with 4 or 5 digits. The cases of NAME go to crates/NAME/data/cases and the expected
-output to crates/NAME/stdout. The byte format is described in crates/NAME/src/main.rt.
+text_cases: texts.txt; join_cases: joins.txt; window_cases: windows.txt; wide_cases: gtswide.txt; each with the edges below. Where
+too_large.txt names an answer, 24, 25, 28 are 38, 39, 40 (see `lines_of`). The models of bench/cases/old are in the old layout: all of
+them go to wide_cases, and those that the old check accepts, or refuses by 3 to 8, are rewritten and keep their answers (see
+`rewritten_lines`), but for joins at the old limits, which are left out, and `f` with 4 or 5 digits. The cases of NAME go to
+crates/NAME/data/cases and the expected output to crates/NAME/stdout. The byte format is described in crates/NAME/src/main.rt.
 """
 import os
 import re
@@ -43,6 +43,11 @@ def expression_case(kinds, parameters, file, wanted, answer):
     """An expression handed beside the model of a file."""
     body = bytes(kinds) + b''.join(little(p, 4) for p in parameters) + file
     return case(2, answer, (wanted, len(kinds), len(parameters), len(file), 0), body)
+
+
+def tree_of(nodes):
+    """The kinds and the parameters of an expression."""
+    return [k for k, _ in nodes], [p for _, p in nodes]
 
 
 def numbers(words):
@@ -315,7 +320,7 @@ def edges():
     both = model(2, 0, 0, 0, [FLAG] + RANGE + [SKIP])
     none = model(0, 0, 0, 0, [SKIP])
     for answer, wanted, nodes in outside:
-        cases.append(expression_case([k for k, _ in nodes], [p for _, p in nodes], both, wanted, answer))
+        cases.append(expression_case(*tree_of(nodes), both, wanted, answer))
     cases.append(expression_case([33], [], none, BOOLEAN, 3))
     cases.append(expression_case([], [0], none, BOOLEAN, 3))
     cases.append(expression_case([33, 33], [1], none, BOOLEAN, 3))
@@ -1514,15 +1519,19 @@ def join_slices():
     return cases
 
 
-def join_orders():
-    """1 to 8 and 37 before 35, 35 before 11, 11 before 36, in either list and at any place of it."""
-    bad = [
+def refused_files():
+    """Files that are no models, one for each number of the check."""
+    return [
         (1, bytes(9)), (2, sizes_of(4001, 0, 0, 0, 12001)), (37, sizes_of(4001, 0, 0, 0, 0)), (3, file_of(SHOP)[:-1]), (4, bytes(10)),
         (5, file_of(with_first(32 * [(35, 0)] + [TRUE], [SKIP]))), (6, file_of(with_first([SKIP], [SKIP]))),
         (7, file_of(with_first([(34, 9)], [SKIP]))), (8, model(0, 0, 0, 0, [SKIP, SKIP])),
     ]
+
+
+def join_orders():
+    """1 to 8 and 37 before 35, 35 before 11, 11 before 36, in either list and at any place of it."""
     cases = []
-    for answer, file in bad:
+    for answer, file in refused_files():
         for mandatory, optional in [([], []), ([9], []), ([0], [0]), (60 * [0], [2 ** 64 - 1])]:
             cases += [join_case(file, mandatory, optional, (cells, 7), answer, b'') for cells in (0, ENOUGH)]
     for number in (5, 6, 255, 256, 2 ** 16, 2 ** 32, 2 ** 63, 2 ** 64 - 1):
@@ -1553,6 +1562,284 @@ def join_contents():
 def join_edges():
     """Joins at the edges of the rules, with the answers that they demand."""
     return join_lengths() + join_depths() + join_sizes() + join_slices() + join_orders() + join_contents()
+
+
+# What is asked of a log: two expressions, each as its kinds and its parameters, the rows of a window, and the cells of the log.
+Question = namedtuple('Question', 'condition number window log')
+
+
+def window_case(files, question, out, answer, figures):
+    """A question of a log of a model and its twin; `out` is the length and the fill of the slice, a refusal has no figures."""
+    trees = [question.condition, question.number]
+    lengths = [len(files[0])] + [len(part) for tree in trees for part in tree]
+    lengths += [len(question.log), out[0], len(figures) // 3, len(files[1])]
+    header = bytes([answer, 0]) + b''.join(little(x, 2) for x in lengths) + little(out[1], 4) + little(question.window, 8)
+    kinds = b''.join(bytes(kinds) for kinds, _ in trees)
+    values = question.log + question.condition[1] + question.number[1] + figures
+    return header + b''.join(files) + kinds + b''.join(little(x, 4) for x in values)
+
+
+def stored_windows(lines):
+    """The cases of windows.txt; each model is its own twin."""
+    cases = []
+    for words in lines:
+        if words[0] == 'model':
+            file, trees = bytes(numbers(words)), []
+        elif words[0] == 'rows':
+            log = numbers(words)
+        elif words[0] == 'window':
+            window = int(words[1])
+        elif words[0] in ('kinds', 'params'):
+            trees.append(numbers(words))
+        elif words[0] == 'out':
+            out, question = (int(words[1]), int(words[2])), Question(trees[:2], trees[2:], window, log)
+        elif words[0] == 'cells':
+            assert 3 * rows == int(words[1])
+            cases.append(window_case((file, file), question, out, 0, numbers(words)))
+        elif words[1] == 'no':
+            cases.append(window_case((file, file), question, out, int(words[2]), []))
+        else:
+            rows = int(words[2])
+    return cases
+
+
+def figures_of(truths, values, window):
+    """The figures of every row, from its window alone; a truth or a value is None where its expression failed."""
+    figures = []
+    for last in range(1, len(truths) + 1):
+        first = max(0, last - window)
+        known = [value for value in values[first:last] if value is not None]
+        figures += [truths[first:last].count(True), max(known, default=0), min(len(known), 1)]
+    return figures
+
+
+# An expression: its nodes, and what it comes to over a row, None where it fails.
+Reading = namedtuple('Reading', 'nodes over')
+
+
+def question_of(condition, number, window, rows):
+    """A question of two readings."""
+    return Question(tree_of(condition.nodes), tree_of(number.nodes), window, sum(rows, []))
+
+
+def reported(files, condition, number, window, rows, more=0, fill=7):
+    """A question that is answered; the slice has so many cells more than are written."""
+    truths, values = [[reading.over(row) for row in rows] for reading in (condition, number)]
+    figures = figures_of(truths, values, window)
+    return window_case(files, question_of(condition, number, window, rows), (len(figures) + more, fill), 0, figures)
+
+
+def unreported(files, answer, question, cells):
+    """A question that is refused."""
+    return window_case(files, question, (cells, 7), answer, [])
+
+
+def gauge(join):
+    """A number of all 32 bits, and one transition."""
+    ends = [(2, -2147483648), (3, 2147483647), (4, 0)]
+    action = block(join([assignment(0, [(32, 1)])], [[SKIP]]))
+    return model(1, 0, 1, 1, ends + [(5, 0)] + equals(join, [(34, 0)], 3) + action + [SKIP])
+
+
+def meter(join):
+    """A number from -5 to 5 and a Boolean as states, a Boolean as a flow, and one transition."""
+    action = block(join([assignment(1, [TRUE])], [[SKIP]]))
+    assertion = block(join([assignment(2, [(34, 1)])], [[SKIP]]))
+    return model(2, 1, 1, 1, RANGE + 2 * [FLAG] + [(5, 0)] + equals(join, [(34, 0)], 3) + action + assertion)
+
+
+GAUGE, METER = both_ways(gauge), both_ways(meter)
+
+# Readings of the first value of a row: as it is; with a minus, which the least number does not have; one that fails where it is 0; whether
+# it is below 0; a truth that fails where it is 0; and true.
+AT_ZERO = [(38, 0), (34, 0), (32, 0)]
+FIRST_VALUE = Reading([(34, 0)], lambda row: row[0])
+MINUS = Reading([(42, 0), (32, 0), (34, 0)], lambda row: None if row[0] == -2147483648 else -row[0])
+NOT_ZERO = Reading(conditional(AT_ZERO, ONE_OVER_ZERO, [(34, 0)]), lambda row: row[0] or None)
+BELOW_ZERO = Reading([(39, 0), (34, 0), (32, 0)], lambda row: row[0] < 0)
+TRUE_OR_FAILED = Reading(conditional(AT_ZERO, [(38, 0), (32, 1)] + ONE_OVER_ZERO, [TRUE]), lambda row: row[0] != 0 or None)
+ALWAYS = Reading([TRUE], lambda row: True)
+
+
+def window_lengths():
+    """Windows of 0 to 5,001 rows over logs of 0 to 5,000 rows, which go up and down, rise, fall, stay, or alternate; a long log does all
+    five only where a window has 1,000 rows."""
+    mixed = lambda at, count: at * 7919 % 1009 - 504
+    rising, falling = lambda at, count: at - count // 2, lambda at, count: count // 2 - at
+    shapes = [mixed, rising, falling, lambda at, count: -4, lambda at, count: 3 - at % 2 * 6]
+    cases = []
+    for count in (0, 1, 2, 9, 1000, 1001, 5000):
+        for window in sorted({0, 1, 2, 4, count - 1, count, count + 1, 1000, 1001} - {-1}):
+            for shape in shapes if window == 1000 or count < 1000 else [mixed]:
+                rows = [[shape(at, count)] for at in range(count)]
+                if 0 < window <= 1000:
+                    cases.append(reported(GAUGE, BELOW_ZERO, FIRST_VALUE, window, rows))
+                else:
+                    cases.append(unreported(GAUGE, 41, question_of(BELOW_ZERO, FIRST_VALUE, window, rows), 3 * count))
+    return cases
+
+
+def window_failures():
+    """Each way in which six rows fail or not: the number, the condition, or both; all values are below 0."""
+    cases = []
+    for pattern in range(64):
+        rows = [[(pattern >> at & 1) * -(1 + at * 5 % 7)] for at in range(6)]
+        for readings in [(BELOW_ZERO, NOT_ZERO), (ALWAYS, NOT_ZERO), (TRUE_OR_FAILED, NOT_ZERO), (TRUE_OR_FAILED, FIRST_VALUE)]:
+            cases += [reported(GAUGE, *readings, window, rows) for window in (1, 3, 6)]
+    return cases
+
+
+def window_ends():
+    """The ends of 32 bits and what is beside them; the minus of the least number is too large."""
+    least, most = -2147483648, 2147483647
+    cases = []
+    for values in [
+        [least], [most], 4 * [least], [least, most, least, most], [most, least, least, least, most], [least, least + 1, least, 0, -1],
+        [least, -1, least, least, least], [0, least, least, most, most - 1, least], [most, most - 1, most, most, 1],
+    ]:
+        rows = [[value] for value in values]
+        for window in (1, 2, 3, 1000):
+            for number in (FIRST_VALUE, MINUS, NOT_ZERO):
+                cases.append(reported(GAUGE, BELOW_ZERO, number, window, rows, 2, least))
+                cases.append(reported(GAUGE, TRUE_OR_FAILED, number, window, rows, 1, most))
+    return cases
+
+
+def window_slices():
+    """Slices of exactly the cells that are written, shorter and longer, with rows of one value and of three; no rows."""
+    cases = []
+    for files, width in ((GAUGE, 1), (METER, 3)):
+        for count in (0, 1, 2, 5, 64):
+            rows = [[at % 3 - 1] + (width - 1) * [at % 2] for at in range(count)]
+            for more in (0, 1, 2, 3, 300):
+                cases += [reported(files, BELOW_ZERO, FIRST_VALUE, 3, rows, more, fill) for fill in (0, 1, -1, -2147483648)]
+            question = question_of(BELOW_ZERO, FIRST_VALUE, 3, rows)
+            short = {0, 1, count, 3 * count - 3, 3 * count - 2, 3 * count - 1} & set(range(3 * count))
+            cases += [unreported(files, 10, question, cells) for cells in sorted(short)]
+    return cases
+
+
+def wrong_trees():
+    """Conditions and numbers over the meter that are wrong, each with the number of its refusal."""
+    x, b, minus = (34, 0), (34, 1), [(42, 0), (32, 1)]
+    with_nodes = lambda pairs: [(answer, tree_of(nodes)) for answer, nodes in pairs]
+    conditions = [(3, ([33], [])), (3, ([], [0])), (3, ([33, 33], [1]))] + with_nodes([
+        (4, []), (4, [(36, 0), b]), (5, 32 * [(35, 0)] + [b]), (6, [(32, 1)]), (6, [SKIP]), (7, [(33, 2)]), (7, [x]), (7, [(34, 3)]),
+        (8, [b, b]),
+    ])
+    values = [(3, ([32], [])), (3, ([], [0])), (3, ([32], [1, 1]))] + with_nodes([
+        (4, []), (4, [(41, 0), x]), (5, 32 * minus + [x]), (6, [TRUE]), (6, [FLAG]), (7, [(41, 1), x, x]), (7, [b]), (7, [(34, 65536)]),
+        (8, [x, x]),
+    ])
+    return conditions, values
+
+
+CONDITION, VALUE = tree_of([(34, 1)]), tree_of([(34, 0)])
+
+
+def expression_orders():
+    """The model's number before the condition's, and that before the number's: with 41, 10 or 20 after them, or none of these."""
+    conditions, values = wrong_trees()
+    cases = []
+    follows = [(0, [9], 0), (1001, [0, 0, 0], 3), (1, [0, 0], 3), (1, [0, 0, 0], 0), (1, [9, 0, 0], 3), (1, [0, 0, 0], 3)]
+    for window, log, cells in follows:
+        asked = lambda files, answer, *trees: unreported(files, answer, Question(*trees, window, log), cells)
+        for answer, file in refused_files():
+            for trees in [(CONDITION, VALUE), (conditions[0][1], VALUE), (CONDITION, values[3][1])]:
+                cases.append(asked((file, file), answer, *trees))
+        for answer, wrong in conditions:
+            cases += [asked(METER, answer, wrong, number) for _, number in [(0, VALUE)] + values]
+        cases += [asked(METER, answer, CONDITION, wrong) for answer, wrong in values]
+    return cases
+
+
+def window_orders():
+    """41 before 10 and 20, and 10 before 20."""
+    asked = lambda answer, window, log, cells: unreported(METER, answer, Question(CONDITION, VALUE, window, log), cells)
+    cases = []
+    for window in (0, 1001, 65536, 65537, 2 ** 32, 2 ** 32 + 1, 2 ** 63, 2 ** 64 - 1):
+        for log in ([], [0, 0, 0], [9, 2, 0], [0], 9 * [7]):
+            cases += [asked(41, window, log, cells) for cells in (0, len(log), 15104)]
+    for length in (1, 2, 4, 5, 299, 301):
+        cases += [asked(41, 1, length * [cell], cells) for cell, cells in [(0, 0), (9, 0), (0, length + 2), (9, 900)]]
+    for log in ([9, 0, 0], [0, 2, 0, 0, 0, 0], [0, 0, 0, 0, 0, -1]):
+        cases += [asked(10, 1, log, cells) for cells in (0, len(log) - 1)] + [asked(20, 1, log, len(log) + more) for more in (0, 1)]
+    return cases
+
+
+def no_variables():
+    """A model without variables: 41 whatever the log is, and what comes before it."""
+    files = both_ways(lambda join: model(0, 0, 0, 0, block(join([[SKIP]], [[(19, 0)]]))))
+    condition, number, read = tree_of([TRUE]), tree_of([(32, 1)]), tree_of([(34, 0)])
+    cases = []
+    for window in (0, 1, 1000, 1001):
+        for log in ([], [0], [0, 7]):
+            for answer, trees in [(41, (condition, number)), (7, (read, number)), (7, (condition, read))]:
+                cases += [unreported(files, answer, Question(*trees, window, log), cells) for cells in (0, 3, 6)]
+    return cases
+
+
+def window_ranges():
+    """A value outside its ends, or at one of them, in each place of three rows."""
+    condition, cases = Reading([(34, 1)], lambda row: row[1] == 1), []
+    for window in (1, 2, 1000):
+        for place in range(9):
+            for value in (-2147483648, -6, -5, -1, 0, 1, 2, 5, 6, 2147483647):
+                log = place * [0] + [value] + (8 - place) * [0]
+                rows = [log[:3], log[3:6], log[6:]]
+                if value in (range(2) if place % 3 else range(-5, 6)):
+                    cases.append(reported(METER, condition, FIRST_VALUE, window, rows))
+                else:
+                    cases.append(unreported(METER, 20, question_of(condition, FIRST_VALUE, window, rows), 9))
+    return cases
+
+
+def spread(operator, parts):
+    """An operator over many expressions, half of them on each side."""
+    half = len(parts) // 2
+    return parts[0] if half == 0 else [(operator, 0)] + spread(operator, parts[:half]) + spread(operator, parts[half:])
+
+
+def long_expressions():
+    """Expressions of 5,000 nodes over the meter, right, and wrong at the end."""
+    x, b, c = [(34, 0)], [(34, 1)], [(34, 2)]
+    some = Reading([(35, 0)] + spread(36, 2499 * [b] + [c]), lambda row: row[1] == 0 or row[2] == 0)
+    last = conditional(BELOW_ZERO.nodes, [(32, 7)], x)
+    total = Reading(spread(41, 2497 * [x] + [last]), lambda row: 2497 * row[0] + (7 if row[0] < 0 else row[0]))
+    assert len(some.nodes) == len(total.nodes) == 5000
+    rows = [[at * 7 % 11 - 5, at % 3 // 2, at % 2] for at in range(30)]
+    cases = [reported(METER, *readings, 4, rows) for readings in [(some, FIRST_VALUE), (BELOW_ZERO, total), (some, total)]]
+    for answer, change in [(4, lambda nodes: nodes[:-1]), (7, lambda nodes: nodes[:-1] + [(34, 3)]), (8, lambda nodes: nodes + x)]:
+        for trees in [(tree_of(change(some.nodes)), VALUE), (CONDITION, tree_of(change(total.nodes)))]:
+            cases.append(unreported(METER, answer, Question(*trees, 1, 3 * [0]), 3))
+    return cases
+
+
+def wide_model(count, nodes, join):
+    """A number and so many Booleans, in so many nodes."""
+    head = [(2, -9), (3, 9), (4, 0)] + (count - 1) * [FLAG]
+    branches = join([[SKIP]], [[(19, 0)]]) + (nodes - count - 10) * [[SKIP]]
+    return model(1, count - 1, 1, 1, head + [(5, 0)] + equals(join, [(34, 0)], 3) + [SKIP] + block(branches))
+
+
+def wide_logs():
+    """Rows of up to 4,000 values, of which the first and the last are read, in models of up to 12,000 nodes."""
+    cases = []
+    for count, nodes in [(256, 1024), (256, 1025), (257, 1024), (1024, 4096), (1024, 4097), (1025, 4096), (4000, 9000), (2, 12000)]:
+        files = both_ways(lambda join: wide_model(count, nodes, join))
+        last = Reading([(34, count - 1)], lambda row: row[-1] == 1)
+        rows = [[at] + [(at + place) % 2 for place in range(1, count)] for at in (9, -9)]
+        cases.append(reported(files, last, FIRST_VALUE, 2, rows))
+        cases.append(unreported(files, 20, question_of(last, FIRST_VALUE, 2, [rows[0][:-1] + [2]]), 3))
+    return cases
+
+
+def window_edges():
+    """Windows over logs at the edges of the rules, with the answers that they demand."""
+    return [
+        *window_lengths(), *window_failures(), *window_ends(), *window_slices(), *expression_orders(), *window_orders(), *no_variables(),
+        *window_ranges(), *long_expressions(), *wide_logs(),
+    ]
 
 
 def text_edges():
@@ -1776,11 +2063,12 @@ def main():
     programs += rewritten_programs('programs.txt') + rewritten_programs('earlier_programs.txt')
     texts = stored_texts(lines_of('texts.txt')) + old(stored_texts, 'texts.txt') + text_edges()
     joins = stored_joins(lines_of('joins.txt')) + rewritten_joins('joins.txt') + join_edges()
+    logs = stored_windows(lines_of('windows.txt')) + window_edges()
     calls = sum(number for _, number in lists)
     write('call_cases', [each for each, _ in lists], f'{len(lists)} lists, {2 * calls} calls, 0 differ')
     for crate, word, cases in [
         ('check_cases', 'cases', checks), ('program_cases', 'programs', programs), ('text_cases', 'texts', texts),
-        ('join_cases', 'joins', joins), ('wide_cases', 'files', wide_cases()),
+        ('join_cases', 'joins', joins), ('window_cases', 'logs', logs), ('wide_cases', 'files', wide_cases()),
     ]:
         cases = distinct(cases)
         write(crate, cases, f'{len(cases)} {word}, 0 differ')

@@ -1,11 +1,12 @@
-//! The calls on a run as one table, over one set of all that is lent; and the calls on a text, on two lists of members
-//! and on an old file.
+//! The calls on a run as one table, over one set of all that is lent; and the calls on a text, on two lists of members,
+//! on an old file and on the rows of a log.
 
 use std::fmt::Debug;
 
 use crate::guarded::{Cell, Guarded};
+use crate::tree::Node;
 
-/// An implementation: the eleven C calls with slices for pointers and lengths. Each answers 0 and its results, or
+/// An implementation: the twelve C calls with slices for pointers and lengths. Each answers 0 and its results, or
 /// a refusal number and leaves everything lent as it was.
 pub struct Engine {
     pub name: &'static str,
@@ -20,6 +21,7 @@ pub struct Engine {
     pub text: Text,
     pub synchronise: Synchronise,
     pub rewrite: Rewrite,
+    pub windows: Windows,
 }
 
 pub type Start =
@@ -92,6 +94,23 @@ pub type Synchronise = fn(
 ) -> u8;
 
 pub type Rewrite = fn(old: &[u8], out: &mut [u8], length: &mut usize) -> u8;
+
+pub type Windows = fn(
+    model: &[u8],
+    condition: Nodes,
+    number: Nodes,
+    window: usize,
+    rows: &[i32],
+    figures: &mut [i32],
+    count: &mut usize,
+) -> u8;
+
+/// An expression that is handed beside a model.
+#[derive(Clone, Copy)]
+pub struct Nodes<'a> {
+    pub kinds: &'a [u8],
+    pub parameters: &'a [i32],
+}
 
 /// All that is lent to the calls on a run beside the model, results included, each between guard cells.
 #[derive(Clone, PartialEq)]
@@ -181,7 +200,17 @@ fn first_cell<T: Cell + Debug>(name: &str, one: &Guarded<T>, two: &Guarded<T>) -
     Some(format!("{name}: cell {place} is {one:?} / {two:?}"))
 }
 
-/// All that is lent to the call on a text beside the model, each between guard cells.
+/// All that is lent to a call that is not on a run, beside the model or the old file, results included, each between guard cells.
+pub trait Arguments: Clone {
+    fn perform(&mut self, engine: &Engine, model: &[u8]) -> u8;
+
+    fn intact(&self) -> bool;
+
+    /// The parts in which two of them differ, in words.
+    fn differences(&self, other: &Self) -> Vec<String>;
+}
+
+/// All that is lent to the call on a text.
 #[derive(Clone, PartialEq)]
 pub struct Typed {
     pub text: Guarded<u8>,
@@ -199,8 +228,10 @@ impl Typed {
             count: Guarded::new(&[count]),
         }
     }
+}
 
-    pub fn perform(&mut self, engine: &Engine, model: &[u8]) -> u8 {
+impl Arguments for Typed {
+    fn perform(&mut self, engine: &Engine, model: &[u8]) -> u8 {
         (engine.text)(
             model,
             self.text.cells(),
@@ -210,12 +241,11 @@ impl Typed {
         )
     }
 
-    pub fn intact(&self) -> bool {
+    fn intact(&self) -> bool {
         self.text.intact() && self.kinds.intact() && self.parameters.intact() && self.count.intact()
     }
 
-    /// The parts in which two of them differ, in words.
-    pub fn differences(&self, other: &Typed) -> Vec<String> {
+    fn differences(&self, other: &Typed) -> Vec<String> {
         [
             part("text", &self.text, &other.text),
             part("kinds", &self.kinds, &other.kinds),
@@ -228,7 +258,7 @@ impl Typed {
     }
 }
 
-/// All that is lent to a join, which is a call of `synchronise`, beside the model, each between guard cells.
+/// All that is lent to a join, which is a call of `synchronise`.
 #[derive(Clone, PartialEq)]
 pub struct Join {
     pub mandatory: Guarded<usize>,
@@ -248,7 +278,15 @@ impl Join {
         }
     }
 
-    pub fn perform(&mut self, engine: &Engine, model: &[u8]) -> u8 {
+    /// The new model, after a join that was accepted.
+    pub fn written(&self) -> &[u8] {
+        let cells = self.out.cells();
+        &cells[..self.length.get().min(cells.len())]
+    }
+}
+
+impl Arguments for Join {
+    fn perform(&mut self, engine: &Engine, model: &[u8]) -> u8 {
         (engine.synchronise)(
             model,
             self.mandatory.cells(),
@@ -258,21 +296,14 @@ impl Join {
         )
     }
 
-    /// The new model, after a join that was accepted.
-    pub fn written(&self) -> &[u8] {
-        let cells = self.out.cells();
-        &cells[..self.length.get().min(cells.len())]
-    }
-
-    pub fn intact(&self) -> bool {
+    fn intact(&self) -> bool {
         self.mandatory.intact()
             && self.optional.intact()
             && self.out.intact()
             && self.length.intact()
     }
 
-    /// The parts in which two of them differ, in words.
-    pub fn differences(&self, other: &Join) -> Vec<String> {
+    fn differences(&self, other: &Join) -> Vec<String> {
         [
             first_cell("mandatory", &self.mandatory, &other.mandatory),
             first_cell("optional", &self.optional, &other.optional),
@@ -285,7 +316,7 @@ impl Join {
     }
 }
 
-/// All that is lent to a rewriting beside the old file, each between guard cells.
+/// All that is lent to a rewriting beside the old file.
 #[derive(Clone, PartialEq)]
 pub struct Rewriting {
     /// What the file is written to in the new layout.
@@ -301,22 +332,23 @@ impl Rewriting {
         }
     }
 
-    pub fn perform(&mut self, engine: &Engine, old: &[u8]) -> u8 {
-        (engine.rewrite)(old, self.out.cells_mut(), self.length.get_mut())
-    }
-
     /// The rewritten file, after a rewriting that was accepted.
     pub fn written(&self) -> &[u8] {
         let cells = self.out.cells();
         &cells[..self.length.get().min(cells.len())]
     }
+}
 
-    pub fn intact(&self) -> bool {
+impl Arguments for Rewriting {
+    fn perform(&mut self, engine: &Engine, old: &[u8]) -> u8 {
+        (engine.rewrite)(old, self.out.cells_mut(), self.length.get_mut())
+    }
+
+    fn intact(&self) -> bool {
         self.out.intact() && self.length.intact()
     }
 
-    /// The parts in which two of them differ, in words.
-    pub fn differences(&self, other: &Rewriting) -> Vec<String> {
+    fn differences(&self, other: &Rewriting) -> Vec<String> {
         [
             first_cell("out", &self.out, &other.out),
             part("length", &self.length, &other.length),
@@ -324,6 +356,117 @@ impl Rewriting {
         .into_iter()
         .flatten()
         .collect()
+    }
+}
+
+/// An expression that is handed beside a model, between guard cells.
+#[derive(Clone, PartialEq)]
+pub struct Handed {
+    pub kinds: Guarded<u8>,
+    pub parameters: Guarded<i32>,
+}
+
+impl Handed {
+    pub fn new(kinds: &[u8], parameters: &[i32]) -> Self {
+        Handed {
+            kinds: Guarded::new(kinds),
+            parameters: Guarded::new(parameters),
+        }
+    }
+
+    pub fn of(nodes: &[Node]) -> Self {
+        let (kinds, parameters): (Vec<u8>, Vec<i32>) = nodes.iter().copied().unzip();
+        Handed::new(&kinds, &parameters)
+    }
+
+    pub fn nodes(&self) -> Nodes<'_> {
+        Nodes {
+            kinds: self.kinds.cells(),
+            parameters: self.parameters.cells(),
+        }
+    }
+
+    fn intact(&self) -> bool {
+        self.kinds.intact() && self.parameters.intact()
+    }
+}
+
+/// All that is lent to a call on the rows of a log, and the window.
+#[derive(Clone, PartialEq)]
+pub struct Log {
+    /// The Boolean expression.
+    pub condition: Handed,
+    /// The number expression.
+    pub number: Handed,
+    pub window: usize,
+    pub rows: Guarded<i32>,
+    /// What the figures are written to, three cells for each row.
+    pub figures: Guarded<i32>,
+    /// How many rows there are.
+    pub count: Guarded<usize>,
+}
+
+impl Log {
+    pub fn new(
+        [condition, number]: [Handed; 2],
+        window: usize,
+        rows: &[i32],
+        figures: &[i32],
+        count: usize,
+    ) -> Self {
+        Log {
+            condition,
+            number,
+            window,
+            rows: Guarded::new(rows),
+            figures: Guarded::new(figures),
+            count: Guarded::new(&[count]),
+        }
+    }
+}
+
+impl Arguments for Log {
+    fn perform(&mut self, engine: &Engine, model: &[u8]) -> u8 {
+        (engine.windows)(
+            model,
+            self.condition.nodes(),
+            self.number.nodes(),
+            self.window,
+            self.rows.cells(),
+            self.figures.cells_mut(),
+            self.count.get_mut(),
+        )
+    }
+
+    fn intact(&self) -> bool {
+        self.condition.intact()
+            && self.number.intact()
+            && self.rows.intact()
+            && self.figures.intact()
+            && self.count.intact()
+    }
+
+    fn differences(&self, other: &Log) -> Vec<String> {
+        let expressions = [
+            ("condition", &self.condition, &other.condition),
+            ("number", &self.number, &other.number),
+        ];
+        let nodes = expressions.into_iter().flat_map(|(name, one, two)| {
+            [
+                first_cell(&format!("{name}, kinds"), &one.kinds, &two.kinds),
+                first_cell(
+                    &format!("{name}, parameters"),
+                    &one.parameters,
+                    &two.parameters,
+                ),
+            ]
+        });
+        let others = [
+            first_cell("rows", &self.rows, &other.rows),
+            first_cell("figures", &self.figures, &other.figures),
+            part("count", &self.count, &other.count),
+        ];
+        nodes.chain(others).flatten().collect()
     }
 }
 

@@ -1,6 +1,6 @@
 //! The C calls of libcapi.a, and safe wrappers that take slices.
 
-use crate::calls::Engine;
+use crate::calls::{Engine, Nodes};
 
 extern "C" {
     fn gts_check(model: *const u8, len: usize, sizes: *mut u32, sizes_len: usize) -> u8;
@@ -115,6 +115,24 @@ extern "C" {
         out_len: usize,
         length: *mut usize,
     ) -> u8;
+    fn gts_windows(
+        model: *const u8,
+        len: usize,
+        kinds: *const u8,
+        kinds_len: usize,
+        parameters: *const i32,
+        parameters_len: usize,
+        number_kinds: *const u8,
+        number_kinds_len: usize,
+        number_parameters: *const i32,
+        number_parameters_len: usize,
+        window: usize,
+        rows: *const i32,
+        rows_len: usize,
+        figures: *mut i32,
+        figures_len: usize,
+        count: *mut usize,
+    ) -> u8;
 }
 
 /// The library in the form of the calls' table.
@@ -131,6 +149,7 @@ pub const LIBRARY: Engine = Engine {
     text,
     synchronise,
     rewrite,
+    windows,
 };
 
 // In each wrapper the pointers and lengths are those of slices and references that are lent for the call alone.
@@ -351,4 +370,35 @@ pub fn synchronise(
 
 pub fn rewrite(old: &[u8], out: &mut [u8], length: &mut usize) -> u8 {
     unsafe { gts_rewrite(old.as_ptr(), old.len(), out.as_mut_ptr(), out.len(), length) }
+}
+
+pub fn windows(
+    model: &[u8],
+    condition: Nodes,
+    number: Nodes,
+    window: usize,
+    rows: &[i32],
+    figures: &mut [i32],
+    count: &mut usize,
+) -> u8 {
+    unsafe {
+        gts_windows(
+            model.as_ptr(),
+            model.len(),
+            condition.kinds.as_ptr(),
+            condition.kinds.len(),
+            condition.parameters.as_ptr(),
+            condition.parameters.len(),
+            number.kinds.as_ptr(),
+            number.kinds.len(),
+            number.parameters.as_ptr(),
+            number.parameters.len(),
+            window,
+            rows.as_ptr(),
+            rows.len(),
+            figures.as_mut_ptr(),
+            figures.len(),
+            count,
+        )
+    }
 }

@@ -1,9 +1,10 @@
-//! Models at the limits of a file, each with a list of calls, two texts and two joins.
+//! Models at the limits of a file, each with a list of calls, two texts, two joins and two logs.
 
 use crate::calls::{
-    Call, Join, Store, Typed, CHECK, FIRE, FIRST_OUTSIDE, MARKS, PICK, START, UNDO, VALUE,
+    Call, Handed, Join, Log, Store, Typed, CHECK, FIRE, FIRST_OUTSIDE, MARKS, PICK, START, UNDO,
+    VALUE,
 };
-use crate::tree::{Expr, Instr, Model, Transition, Variable};
+use crate::tree::{Expr, Instr, Model, Operator, Transition, Variable};
 use crate::workloads;
 
 pub struct AtLimit {
@@ -133,6 +134,29 @@ impl AtLimit {
             Join::new(&[last], &[], &out, 9),
             Join::new(&[], &[0, last], &out, 9),
         ]
+    }
+
+    /// Three rows of first values, and then 1 or 2 as the last value. Both expressions read the last variable, which is a
+    /// Boolean or a number.
+    pub fn logs(&self) -> [Log; 2] {
+        let last = self.model.variables().last();
+        let variable = Expr::Variable(self.model.variables().count().saturating_sub(1));
+        let [one, two] = [1, 2].map(Expr::Number);
+        let (condition, number) = if last.is_some_and(Variable::is_boolean) {
+            (variable.clone(), Expr::conditional(variable, two, one))
+        } else {
+            let is_two = Expr::binary(Operator::EqualNumbers, variable.clone(), two);
+            (is_two, variable)
+        };
+        let expressions = [condition, number].map(|expr| Handed::of(&expr.nodes()));
+        let firsts = self.model.variables().map(Variable::first);
+        let mut rows: Vec<i32> = firsts.collect::<Vec<i32>>().repeat(3);
+        [1, 2].map(|value| {
+            if let Some(cell) = rows.last_mut() {
+                *cell = value;
+            }
+            Log::new(expressions.clone(), 2, &rows, &[7; 9], 9)
+        })
     }
 }
 

@@ -1,9 +1,11 @@
-//! Random models, damaged files, old files, and all that is lent to lists of calls, to texts, to joins and to rewritings.
+//! Random models, damaged files, old files, and all that is lent to lists of calls, to texts, to joins, to rewritings and to
+//! calls on logs.
 
 mod crowds;
 mod damage;
 mod joins;
 mod lists;
+mod logs;
 mod old_files;
 mod shapes;
 mod shops;
@@ -14,6 +16,7 @@ mod writer;
 pub use damage::damaged;
 pub use joins::{join, joined};
 pub use lists::{calls, store};
+pub use logs::{log, twins};
 pub use old_files::{old_file, rewriting, OldFile};
 pub use texts::typed;
 

@@ -2,7 +2,7 @@
 
 use std::fmt::Write;
 
-use crate::calls::{Call, Engine, Rewriting, Store, CHECK, FIRE, MARKS, START, UNDO};
+use crate::calls::{Arguments, Call, Engine, Rewriting, Store, CHECK, FIRE, MARKS, START, UNDO};
 use crate::reference::Refusal;
 
 /// Places of the history of gtsrun.

@@ -1,5 +1,6 @@
 //! Guarded transition systems: a model file is parsed into a tree, and the calls work on that tree; texts read as
-//! expressions; models with a transition for events that happen together; and old files rewritten.
+//! expressions; models with a transition for events that happen together; old files rewritten; and windows over the rows
+//! of a log.
 
 mod evaluation;
 mod instructions;
@@ -9,6 +10,7 @@ mod rewriting;
 mod run;
 mod synchronisation;
 mod texts;
+mod windows;
 
 pub use model::{Layout, Limits, Model, Sizes, Type};
 pub use refusal::Refusal;
@@ -16,6 +18,7 @@ pub use rewriting::rewrite;
 pub use run::{check, check_expression, fire, first_outside, marks, pick, start, undo, value};
 pub use synchronisation::synchronise;
 pub use texts::write_nodes;
+pub use windows::{windows, windows_one_by_one};
 
 use crate::calls::Engine;
 
@@ -87,6 +90,13 @@ pub const ENGINE: Engine = Engine {
     rewrite: |old, out, length| {
         answer(rewrite(old, out), |written| {
             *length = written;
+            Ok(())
+        })
+    },
+    windows: |model, condition, number, window, rows, figures, count| {
+        let written = windows(model, condition, number, window, rows, figures);
+        answer(written, |rows| {
+            *count = rows;
             Ok(())
         })
     },

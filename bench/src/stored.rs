@@ -1,14 +1,17 @@
-//! The stored cases under cases/: checks.txt, calls.txt, programs.txt, gtswide.txt, texts.txt, values.txt, joins.txt; those
-//! from before A8; and those with old files, under cases/old/. Each line is a word and decimal numbers.
+//! The stored cases under cases/: checks.txt, calls.txt, programs.txt, gtswide.txt, texts.txt, values.txt, joins.txt,
+//! windows.txt; those from before A8; and those with old files, under cases/old/. Each line is a word and decimal numbers.
 
 pub mod manners;
 pub mod old;
+mod windows;
+
+pub use windows::{windows, WindowsCase};
 
 use std::iter::Peekable;
 use std::path::Path;
 use std::str::Lines;
 
-use crate::calls::{Call, Join, Store, Typed, TABLE};
+use crate::calls::{Arguments, Call, Engine, Join, Store, Typed, TABLE};
 use crate::guarded::Guarded;
 use crate::reference::Type;
 
@@ -111,28 +114,37 @@ pub struct WideCase {
     pub output: Vec<u8>,
 }
 
-/// A text beside a model, what is lent to it, and what must be answered and lie there afterwards.
-pub struct TextCase {
+/// A model, what is lent to one call beside it, and what must be answered and lie there afterwards.
+pub struct LentCase<L> {
     pub model: Vec<u8>,
-    pub lent: Typed,
+    pub lent: L,
     pub want: u8,
-    pub after: Typed,
+    pub after: L,
 }
 
-/// Values beside a model for `first_outside`, and what must be answered and lie there afterwards.
-pub struct ValuesCase {
-    pub model: Vec<u8>,
-    pub lent: Store,
-    pub want: u8,
-    pub after: Store,
-}
+/// A text beside a model.
+pub type TextCase = LentCase<Typed>;
 
-/// A join in a model, what is lent to it, and what must be answered and lie there afterwards.
-pub struct JoinCase {
-    pub model: Vec<u8>,
-    pub lent: Join,
-    pub want: u8,
-    pub after: Join,
+/// Values beside a model for `first_outside`.
+pub type ValuesCase = LentCase<Store>;
+
+/// A join in a model.
+pub type JoinCase = LentCase<Join>;
+
+impl<A: Arguments> LentCase<A> {
+    /// The answer of an implementation that gets this model, and in words all that is not as stored.
+    pub fn perform(&self, engine: &Engine, model: &[u8]) -> (u8, Vec<String>) {
+        let mut found = self.lent.clone();
+        let answer = found.perform(engine, model);
+        let mut wrong = self.after.differences(&found);
+        if answer != self.want {
+            wrong.push(format!("answer: {} / {answer}", self.want));
+        }
+        if !found.intact() {
+            wrong.push("guard cells were written".to_string());
+        }
+        (answer, wrong)
+    }
 }
 
 /// A file of the folder cases/.

@@ -54,6 +54,14 @@ impl Variable {
         matches!(self, Variable::Boolean { .. })
     }
 
+    /// A state's initial value, a flow's reset value.
+    pub fn first(&self) -> i32 {
+        match *self {
+            Variable::Boolean { first } => i32::from(first),
+            Variable::Number { first, .. } => first,
+        }
+    }
+
     /// Its ends.
     pub fn ends(&self) -> (i32, i32) {
         match *self {
@@ -393,31 +401,85 @@ pub fn decode(file: &[u8]) -> Option<([u16; 4], Vec<Node>)> {
 /// files are shuffles of each other exactly if this is the same for both.
 pub fn sorted(file: &[u8]) -> Option<([u16; 4], Vec<String>)> {
     let (sizes, nodes) = decode(file)?;
-    let mut place = 0;
-    let mut parts = Vec::new();
-    while place < nodes.len() {
-        parts.push(sorted_subtree(&nodes, &mut place)?);
+    let subtrees = subtrees(&nodes)?;
+    Some((sizes, subtrees.iter().map(Subtree::sorted).collect()))
+}
+
+/// The nodes of an accepted model, or of an accepted expression, with branches of any block and operands of any symmetric
+/// operator exchanged.
+pub fn shuffled(random: &mut Random, nodes: &[Node]) -> Vec<Node> {
+    let mut exchanged = Vec::with_capacity(nodes.len());
+    for mut subtree in subtrees(nodes).expect("a node is missing") {
+        subtree.shuffle(random);
+        subtree.write(&mut exchanged);
     }
-    Some((sizes, parts))
+    exchanged
+}
+
+/// A node and all below it.
+struct Subtree {
+    node: Node,
+    below: Vec<Subtree>,
 }
 
 /// None if a node is missing.
-fn sorted_subtree(nodes: &[Node], place: &mut usize) -> Option<String> {
-    let &(kind, parameter) = nodes.get(*place)?;
-    *place += 1;
-    let count = match kind {
-        5 | 18 | 36..=45 | 47 => 2,
-        17 | 35 => 1,
-        19 => parameter as usize,
-        46 => 3,
-        _ => 0,
-    };
-    let children = (0..count).map(|_| sorted_subtree(nodes, place));
-    let mut children: Vec<String> = children.collect::<Option<_>>()?;
-    if matches!(kind, 19 | 36 | 37 | 38 | 41 | 43 | 47) {
-        children.sort();
+fn subtrees(nodes: &[Node]) -> Option<Vec<Subtree>> {
+    let mut place = 0;
+    let mut subtrees = Vec::new();
+    while place < nodes.len() {
+        subtrees.push(Subtree::read(nodes, &mut place)?);
     }
-    Some(format!("{kind},{parameter}({})", children.join(" ")))
+    Some(subtrees)
+}
+
+impl Subtree {
+    /// The one at this place, and the place after it; none if a node is missing.
+    fn read(nodes: &[Node], place: &mut usize) -> Option<Self> {
+        let &(kind, parameter) = nodes.get(*place)?;
+        *place += 1;
+        let count = match kind {
+            5 | 18 | 36..=45 | 47 => 2,
+            17 | 35 => 1,
+            19 => parameter as usize,
+            46 => 3,
+            _ => 0,
+        };
+        let below = (0..count).map(|_| Subtree::read(nodes, place));
+        Some(Subtree {
+            node: (kind, parameter),
+            below: below.collect::<Option<_>>()?,
+        })
+    }
+
+    /// Whether what stands directly below may be exchanged.
+    fn is_symmetric(&self) -> bool {
+        matches!(self.node.0, 19 | 36 | 37 | 38 | 41 | 43 | 47)
+    }
+
+    fn sorted(&self) -> String {
+        let mut below: Vec<String> = self.below.iter().map(Subtree::sorted).collect();
+        if self.is_symmetric() {
+            below.sort();
+        }
+        let (kind, parameter) = self.node;
+        format!("{kind},{parameter}({})", below.join(" "))
+    }
+
+    fn shuffle(&mut self, random: &mut Random) {
+        for subtree in &mut self.below {
+            subtree.shuffle(random);
+        }
+        if self.is_symmetric() {
+            random.shuffle(&mut self.below);
+        }
+    }
+
+    fn write(&self, nodes: &mut Vec<Node>) {
+        nodes.push(self.node);
+        for subtree in &self.below {
+            subtree.write(nodes);
+        }
+    }
 }
 
 /// The depth of each node; 0 for variables and transitions.

@@ -3,12 +3,14 @@
 mod chains;
 mod joins;
 mod nests;
+mod windows;
 
 pub use chains::{chain, chain_in_order, flows_alone, known_at_once, one_condition, undecided};
 pub use joins::deep_joins;
 pub use nests::{deep_runs, sized_readings, Size};
+pub use windows::{deep_windows, windows};
 
-use crate::calls::Engine;
+use crate::calls::{Engine, Log};
 use crate::reference;
 use crate::tree::{Expr, Instr, Model, Operator, Transition, Variable};
 
@@ -57,6 +59,8 @@ pub enum Work {
     Synchronise(Vec<usize>, Vec<usize>),
     /// The model's old file in the new layout.
     Rewrite(Vec<u8>),
+    /// The figures of each row.
+    Windows(Log),
 }
 
 /// A workload with its buffers, to be carried out many times.
@@ -69,6 +73,8 @@ pub struct Prepared<'w> {
     parameters: Vec<i32>,
     /// What a new model, or a rewritten one, is written to.
     out: Vec<u8>,
+    /// What the figures of a log's rows are written to.
+    figures: Vec<i32>,
 }
 
 #[derive(Clone)]
@@ -211,12 +217,17 @@ impl Workload {
             // The variable is a Boolean.
             run.values[variable] = 2;
         }
+        let cells = match &self.work {
+            Work::Windows(log) => 3 * (log.rows.cells().len() / sizes.variables()),
+            _ => 0,
+        };
         Prepared {
             workload: self,
             run,
             kinds: vec![0; 400],
             parameters: vec![0; 400],
             out: vec![0; 60_010],
+            figures: vec![0; cells],
         }
     }
 }
@@ -243,6 +254,7 @@ impl Prepared<'_> {
                 self.synchronise(engine, model, mandatory, optional)
             }
             Work::Rewrite(old) => self.rewrite(engine, old),
+            Work::Windows(log) => self.windows(engine, model, log),
         }
     }
 
@@ -266,6 +278,22 @@ impl Prepared<'_> {
         let answer = (engine.rewrite)(old, &mut self.out, &mut length);
         assert_eq!(answer, 0, "{} refuses an old file", engine.name);
         length as u64 + self.written_sizes()
+    }
+
+    /// The figures and the number of rows, summed.
+    fn windows(&mut self, engine: &Engine, model: &[u8], log: &Log) -> u64 {
+        let mut count = 0;
+        let answer = (engine.windows)(
+            model,
+            log.condition.nodes(),
+            log.number.nodes(),
+            log.window,
+            log.rows.cells(),
+            &mut self.figures,
+            &mut count,
+        );
+        assert_eq!(answer, 0, "{} refuses a log", engine.name);
+        sum(&self.figures).wrapping_add(count as u64)
     }
 
     fn written_sizes(&self) -> u64 {
@@ -322,6 +350,7 @@ pub fn all() -> Vec<Workload> {
         others,
         joins::timed(),
         vec![rewrite("rewrite, 4,000 nodes", &large(4_000))],
+        windows(),
     ]
     .into_iter()
     .flatten()
@@ -471,6 +500,7 @@ pub fn growing() -> Vec<(&'static str, Vec<Workload>)> {
         ("nodes", joins::of_growing_models()),
         ("members", joins::of_growing_lists()),
         ("nodes", rewrites.into()),
+        ("rows", windows::of_growing_logs()),
     ]
 }
 

@@ -1,6 +1,6 @@
 //! Events that happen together, A5, by hand: what a join writes, and at which edge it is refused.
 
-use bench::calls::{Call, Join, Store, FIRE, MARKS, PICK, START, UNDO};
+use bench::calls::{Arguments, Call, Join, Store, FIRE, MARKS, PICK, START, UNDO};
 use bench::reference::{self, ENGINE};
 use bench::tree::{self, Expr, Instr, Model, Node, Operator, Transition, Variable};
 

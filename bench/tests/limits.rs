@@ -1,6 +1,6 @@
 //! The limits of a file, A7, by hand: headers, the largest models, history entries of two bytes, `f` with up to 5 digits.
 
-use bench::calls::{Call, Store, FIRE, MARKS, PICK, START, UNDO, VALUE};
+use bench::calls::{Arguments, Call, Store, FIRE, MARKS, PICK, START, UNDO, VALUE};
 use bench::limits;
 use bench::program::gtsrun;
 use bench::random::Random;
@@ -158,6 +158,28 @@ fn texts_at_limits() {
             assert_eq!(last, (0, 1, variables as i32 - 1), "{}", case.name);
         }
     }
+}
+
+/// What the calls on both logs of the model of this name answer, and the figures of their last rows.
+fn logs(name: &str) -> [(u8, [i32; 3]); 2] {
+    let case = limits::all().into_iter().find(|case| case.name == name);
+    let case = case.expect("a model at a limit");
+    case.logs().map(|mut log| {
+        let answer = log.perform(&ENGINE, &case.model.encode());
+        let figures = log.figures.cells();
+        (answer, [figures[6], figures[7], figures[8]])
+    })
+}
+
+/// The last value of the last row is 1 or 2, and no Boolean is 2. Of a model without variables both expressions are refused (7): v0 is
+/// not there.
+#[test]
+fn logs_at_limits() {
+    let refused = |number| (number, [7; 3]);
+    assert_eq!(logs("4,000 variables"), [(0, [1, 2, 1]), refused(20)]);
+    assert_eq!(logs("widest values"), [(0, [2, 2, 1]), refused(20)]);
+    assert_eq!(logs("12,000 nodes"), [(0, [0, 1, 1]), (0, [1, 2, 1])]);
+    assert_eq!(logs("3,999 transitions"), [refused(7); 2]);
 }
 
 /// What first_outside, marks, value, pick, fire and undo answer where only the last value, mark or entry is wrong, or none.

@@ -1,7 +1,7 @@
 //! The stored cases with old files: the refused ones through gtswide, the others rewritten, with the old answers. Failures have
 //! today's numbers.
 
-use bench::calls::{Call, FIRST_OUTSIDE};
+use bench::calls::{Arguments, Call, FIRST_OUTSIDE};
 use bench::program::gtsrun;
 use bench::reference::{self, ENGINE};
 use bench::stored::old::{refusal_of_file, rewritten_file, widened, CALL_FILES, PROGRAM_FILES};
@@ -103,9 +103,7 @@ fn texts() {
     let mut accepted = 0;
     for case in &cases {
         if let Some(model) = rewritten(&case.model, refusal_of_file(case.want)) {
-            let mut typed = case.lent.clone();
-            assert_eq!(typed.perform(&ENGINE, &model), case.want);
-            assert_eq!(case.after.differences(&typed), [""; 0]);
+            assert_eq!(case.perform(&ENGINE, &model).1, [""; 0]);
             accepted += 1;
         }
     }

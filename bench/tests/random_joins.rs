@@ -2,7 +2,7 @@
 
 use std::collections::BTreeMap;
 
-use bench::calls::{Call, Join, Store, FIRE, START};
+use bench::calls::{Arguments, Call, Join, Store, FIRE, START};
 use bench::joined::{mark_together, Beside};
 use bench::model_gen::{self, joined};
 use bench::random::Random;

@@ -2,7 +2,7 @@
 
 use std::collections::BTreeMap;
 
-use bench::calls::Rewriting;
+use bench::calls::{Arguments, Rewriting};
 use bench::example;
 use bench::model_gen::{self, OldFile};
 use bench::program::{gtsrun, gtswide};

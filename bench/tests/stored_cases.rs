@@ -1,10 +1,11 @@
 //! The stored cases through the reference implementation.
 
-use bench::calls::{Call, FIRST_OUTSIDE};
+use bench::calls::{Arguments, Call, FIRST_OUTSIDE};
 use bench::program::{gtsrun, gtswide};
+use bench::random::Random;
 use bench::reference::{self, ENGINE};
 use bench::stored::old::widened;
-use bench::stored::{self, manners, Lent, ListCase, ProgramCase};
+use bench::stored::{self, manners, Lent, LentCase, ListCase, ProgramCase, WindowsCase};
 
 #[test]
 fn checks() {
@@ -105,20 +106,20 @@ fn wide_runs() {
     assert_eq!((cases.len(), accepted), (150, 102));
 }
 
+/// Every case of a call; gives how many there are, and how many of them are accepted.
+fn cases_as_stored<A: Arguments>(what: &str, cases: &[LentCase<A>]) -> (usize, usize) {
+    for (place, case) in cases.iter().enumerate() {
+        let (_, wrong) = case.perform(&ENGINE, &case.model);
+        assert_eq!(wrong, [""; 0], "{what} {place}");
+    }
+    let accepted = cases.iter().filter(|case| case.want == 0);
+    (cases.len(), accepted.count())
+}
+
 #[test]
 fn texts() {
     let cases = stored::texts(&stored::text("texts.txt"));
-    for (place, case) in cases.iter().enumerate() {
-        let mut typed = case.lent.clone();
-        let answer = typed.perform(&ENGINE, &case.model);
-        let text = String::from_utf8_lossy(case.lent.text.cells());
-        assert_eq!(answer, case.want, "text {place}: {text}");
-        let wrong = case.after.differences(&typed);
-        assert_eq!(wrong, [""; 0], "text {place}: {text}");
-        assert!(typed.intact(), "text {place}: {text}");
-    }
-    let accepted = cases.iter().filter(|case| case.want == 0).count();
-    assert_eq!((cases.len(), accepted), (447, 149));
+    assert_eq!(cases_as_stored("text", &cases), (447, 149));
 }
 
 #[test]
@@ -145,14 +146,15 @@ fn values() {
 #[test]
 fn joins() {
     let cases = stored::joins(&stored::text("joins.txt"));
-    for (place, case) in cases.iter().enumerate() {
-        let mut join = case.lent.clone();
-        let answer = join.perform(&ENGINE, &case.model);
-        assert_eq!(answer, case.want, "join {place}");
-        let wrong = case.after.differences(&join);
-        assert_eq!(wrong, [""; 0], "join {place}");
-        assert!(join.intact(), "join {place}");
-    }
-    let accepted = cases.iter().filter(|case| case.want == 0).count();
-    assert_eq!((cases.len(), accepted), (121, 66));
+    assert_eq!(cases_as_stored("join", &cases), (121, 66));
+}
+
+/// Those of windows, each with its twin too.
+#[test]
+fn windows() {
+    let cases = stored::windows(&stored::text("windows.txt"));
+    assert_eq!(cases_as_stored("windows", &cases), (200, 92));
+    let mut random = Random::new(0);
+    let twins: Vec<WindowsCase> = cases.iter().map(|case| case.twin(&mut random)).collect();
+    assert_eq!(cases_as_stored("twin of windows", &twins), (200, 92));
 }

@@ -2,7 +2,7 @@
 
 use std::collections::BTreeMap;
 
-use bench::calls::Typed;
+use bench::calls::{Arguments, Typed};
 use bench::model_gen;
 use bench::random::Random;
 use bench::reference::{self, Type, ENGINE};

@@ -3,6 +3,8 @@
 use std::collections::BTreeSet;
 use std::path::Path;
 
+use bench::calls::{Arguments, Log};
+use bench::guarded::Guarded;
 use bench::program::{gtsrun, gtswide, rewritten};
 use bench::reference::{self, ENGINE};
 use bench::tree::{self, Instr};
@@ -85,6 +87,7 @@ fn for_the_stack(size: Size) -> Vec<Workload> {
     workloads.extend(workloads::sized_readings(size));
     workloads.extend(workloads::nested_texts(size));
     workloads.extend(workloads::deep_joins(size));
+    workloads.extend(workloads::deep_windows(size));
     workloads
 }
 
@@ -206,6 +209,39 @@ fn rewritings() {
         }
     }
     assert_eq!(count, 7);
+}
+
+/// The timed logs have 100,000 rows of 14 values; conditions are true or not, numbers fail or not, and the largest
+/// values neither rise nor fall throughout.
+#[test]
+fn windows() {
+    let all = workloads::all();
+    let logs = all.iter().filter_map(|workload| match &workload.work {
+        Work::Windows(log) => Some((workload, log)),
+        _ => None,
+    });
+    let mut windows = Vec::new();
+    for (workload, log) in logs {
+        let sizes = reference::check(&workload.model).expect("accepted");
+        assert_eq!((sizes.variables(), log.rows.cells().len()), (14, 1_400_000));
+        for nodes in [log.condition.nodes(), log.number.nodes()] {
+            assert!((7..=15).contains(&nodes.kinds.len()));
+        }
+        windows.push(log.window);
+        let mut alone = Log {
+            window: 1,
+            figures: Guarded::new(&[0; 300_000]),
+            ..log.clone()
+        };
+        assert_eq!(alone.perform(&ENGINE, &workload.model), 0);
+        let rows: Vec<&[i32]> = alone.figures.cells().chunks_exact(3).collect();
+        let sum = |cell: usize| rows.iter().map(|row| row[cell]).sum::<i32>();
+        let rising = rows.windows(2).filter(|pair| pair[0][1] < pair[1][1]);
+        assert!((10_000..50_000).contains(&sum(0)), "{} are true", sum(0));
+        assert!((90_000..95_000).contains(&sum(2)), "{} are numbers", sum(2));
+        assert!((40_000..60_000).contains(&rising.count()));
+    }
+    assert_eq!(windows, [1, 60, 1_000]);
 }
 
 #[test]

@@ -97,12 +97,17 @@ fn main() {
         print("calls that change no run", workloads::sized_readings(size));
         print("texts that nest", workloads::nested_texts(size));
         print("joins that nest", workloads::deep_joins(size));
+        print(
+            "windows whose expressions nest",
+            workloads::deep_windows(size),
+        );
     }
     let growing = workloads::growing().into_iter();
     let growing: Vec<(&str, Vec<Workload>)> = growing
         .map(|(grows, workloads)| (grows, chosen(workloads)))
         .collect();
     print_growth(&growing, samples);
+    print_lengths(&chosen(workloads::windows()), samples);
 }
 
 /// Times, their ratio and the stack of each workload.
@@ -172,5 +177,29 @@ fn print_growth(growing: &[(&str, Vec<Workload>)], samples: usize) {
             );
             before = Some(medians);
         }
+    }
+}
+
+/// The times of windows by those of the shortest: the median over samples taken side by side.
+fn print_lengths(workloads: &[Workload], samples: usize) {
+    let names = [LIBRARY.name, ENGINE.name];
+    println!("\nWindows by the shortest: near 1 where the time does not depend on the window.\n");
+    println!("| workload | {} | {} |", names[0], names[1]);
+    println!("|---|---:|---:|");
+    let ratios = [&LIBRARY, &ENGINE].map(|engine| {
+        let mut prepared: Vec<_> = workloads.iter().map(Workload::prepare).collect();
+        let mut ratios = vec![Vec::new(); workloads.len()];
+        for _ in 0..samples {
+            let times = prepared.iter_mut().map(|each| time(each, engine, 1));
+            let times: Vec<f64> = times.map(|each| each.as_secs_f64()).collect();
+            for (ratios, time) in ratios.iter_mut().zip(&times) {
+                ratios.push(time / times[0]);
+            }
+        }
+        ratios.into_iter().map(median).collect::<Vec<f64>>()
+    });
+    for (place, workload) in workloads.iter().enumerate() {
+        let [library, reference] = [ratios[0][place], ratios[1][place]];
+        println!("| {} | {library:.2} | {reference:.2} |", workload.name);
     }
 }

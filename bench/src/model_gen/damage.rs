@@ -19,7 +19,7 @@ pub(super) fn damaged_in(random: &mut Random, layout: Layout, file: &[u8]) -> Ve
     let mut file = file.to_vec();
     for _ in 0..random.between(1, 3) {
         if random.chance(3, 4) {
-            damage_nodes(random, layout, &mut file);
+            damage_nodes_in(random, layout, &mut file);
         } else {
             damage_bytes(random, layout, &mut file);
         }
@@ -110,19 +110,24 @@ fn damage_variables(random: &mut Random, file: &mut [u8]) {
 }
 
 /// Damage to nodes; the length stays in step with N.
-fn damage_nodes(random: &mut Random, layout: Layout, file: &mut Vec<u8>) {
-    let Some((sizes, mut nodes)) = layout.decode(file) else {
-        return damage_bytes(random, layout, file);
-    };
-    if nodes.is_empty() {
-        return damage_bytes(random, layout, file);
+fn damage_nodes_in(random: &mut Random, layout: Layout, file: &mut Vec<u8>) {
+    match layout.decode(file) {
+        Some((sizes, mut nodes)) if !nodes.is_empty() => {
+            damage_nodes(random, sizes, &mut nodes);
+            *file = layout.encode(sizes, &nodes);
+        }
+        _ => damage_bytes(random, layout, file),
     }
+}
+
+/// Damage to nodes of a model or of an expression beside it, of which there is one at least.
+pub(super) fn damage_nodes(random: &mut Random, sizes: [u16; 4], nodes: &mut Vec<Node>) {
     let place = random.below(nodes.len());
     match random.below(12) {
         0 => {
             nodes.pop();
         }
-        9 | 11 => deepen(random, &mut nodes),
+        9 | 11 => deepen(random, nodes),
         1 => nodes.push((*random.one(&KINDS), 0)),
         2 => {
             nodes.remove(place);
@@ -133,12 +138,11 @@ fn damage_nodes(random: &mut Random, layout: Layout, file: &mut Vec<u8>) {
             nodes.swap(place, other);
         }
         5 => nodes[place].0 = *random.one(&KINDS),
-        10 => retarget(random, sizes, &mut nodes),
+        10 => retarget(random, sizes, nodes),
         6 => nodes[place].0 = random.byte(),
         7 => nodes[place].1 = random.number(),
         _ => nodes[place].1 = nodes[place].1.wrapping_add(random.within(-1, 1)),
     }
-    *file = layout.encode(sizes, &nodes);
 }
 
 /// Lets an assignment or a variable's node name any variable, or one past the last.

@@ -36,11 +36,7 @@ fn values(random: &mut Random, model: &Model) -> Vec<i32> {
     let length = fitting_length(random, variables.len());
     let mut values: Vec<i32> = (0..length)
         .map(|place| match variables.get(place) {
-            Some(Variable::Number { first, .. }) if random.chance(1, 3) => *first,
-            Some(variable) => {
-                let (low, high) = variable.ends();
-                random.within(low, high)
-            }
+            Some(variable) => value(random, variable),
             None => random.number(),
         })
         .collect();
@@ -58,8 +54,19 @@ fn values(random: &mut Random, model: &Model) -> Vec<i32> {
     values
 }
 
+/// A value within the ends of this variable.
+pub(super) fn value(random: &mut Random, variable: &Variable) -> i32 {
+    match *variable {
+        Variable::Number { first, .. } if random.chance(1, 3) => first,
+        _ => {
+            let (low, high) = variable.ends();
+            random.within(low, high)
+        }
+    }
+}
+
 /// Puts one value outside its ends, or at times any number there, mostly where the states or the flows begin or end.
-fn put_outside(random: &mut Random, model: &Model, values: &mut [i32]) {
+pub(super) fn put_outside(random: &mut Random, model: &Model, values: &mut [i32]) {
     let states = model.states.len();
     let variables: Vec<&Variable> = model.variables().collect();
     let place = match random.below(6) {
@@ -148,7 +155,7 @@ fn entry(random: &mut Random, transitions: usize) -> u16 {
 pub(super) const CUT: [usize; 4] = [256, 65_536, 1 << 32, usize::MAX - 1_000];
 
 /// The wanted length, often more, at times less, and then often one less.
-fn fitting_length(random: &mut Random, wanted: usize) -> usize {
+pub(super) fn fitting_length(random: &mut Random, wanted: usize) -> usize {
     match random.below(16) {
         0 if wanted > 0 && random.coin() => wanted - 1,
         0 if wanted > 0 => random.below(wanted),

@@ -192,7 +192,7 @@ pub fn deep(random: &mut Random) -> Model {
     model
 }
 
-fn wrap_expression(random: &mut Random, inner: Expr) -> Expr {
+pub(super) fn wrap_expression(random: &mut Random, inner: Expr) -> Expr {
     match random.below(5) {
         0 => Expr::binary(Operator::And, Expr::Boolean(true), inner),
         1 => Expr::binary(Operator::Or, inner, Expr::Boolean(false)),

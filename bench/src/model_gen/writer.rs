@@ -39,7 +39,7 @@ impl Writer<'_> {
     }
 
     /// An expression of either type, at most `depth` deep.
-    fn expression(&mut self, readable: &[usize], boolean: bool, depth: usize) -> Expr {
+    pub fn expression(&mut self, readable: &[usize], boolean: bool, depth: usize) -> Expr {
         if boolean {
             self.boolean(readable, depth)
         } else {

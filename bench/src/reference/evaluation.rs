@@ -1,6 +1,6 @@
 //! What an expression evaluates to over a valuation that may leave variables unknown.
 
-use super::model::{Expr, ExprId, Model, Operator};
+use super::model::{Expr, ExprId, Expression, Model, Operator, Tree};
 
 /// A Boolean value is 0 or 1.
 #[derive(Clone, Copy, Debug, PartialEq, Eq)]
@@ -39,6 +39,69 @@ impl Valuation for [Option<i32>] {
 
 impl Model {
     pub fn evaluate<V: Valuation + ?Sized>(&self, id: ExprId, valuation: &V) -> Evaluation {
+        self.tree.evaluate(id, valuation)
+    }
+}
+
+impl Expression {
+    pub fn evaluate<V: Valuation + ?Sized>(&self, valuation: &V) -> Evaluation {
+        self.tree.evaluate(self.top, valuation)
+    }
+
+    /// Its value over variables that are all known, or none if it failed: for very many rows, without the manner.
+    pub fn value(&self, values: &[i32]) -> Option<i32> {
+        self.tree.value(self.top, values)
+    }
+}
+
+impl Tree {
+    /// As in `evaluate`. A leaf takes no call.
+    #[inline(always)]
+    fn value(&self, id: ExprId, values: &[i32]) -> Option<i32> {
+        match self.expr(id) {
+            Expr::Constant(value) => Some(value),
+            Expr::Variable(variable) => Some(values[variable as usize]),
+            operation => self.result(operation, values),
+        }
+    }
+
+    fn result(&self, operation: Expr, values: &[i32]) -> Option<i32> {
+        match operation {
+            Expr::Constant(_) | Expr::Variable(_) => unreachable!("a leaf is no operation"),
+            Expr::Not(operand) => Some(1 - self.value(operand, values)?),
+            Expr::Binary(Operator::And, left, right) => self.decided(left, right, 0, values),
+            Expr::Binary(Operator::Or, left, right) => self.decided(left, right, 1, values),
+            Expr::Binary(operator, left, right) => {
+                let (left, right) = (self.value(left, values)?, self.value(right, values)?);
+                match calculate(operator, left, right) {
+                    Value(value) => Some(value),
+                    _ => None,
+                }
+            }
+            Expr::Conditional(condition, chosen, other) => match self.value(condition, values) {
+                Some(0) => self.value(other, values),
+                Some(_) => self.value(chosen, values),
+                None => {
+                    let chosen = self.value(chosen, values)?;
+                    self.value(other, values).filter(|&other| other == chosen)
+                }
+            },
+        }
+    }
+
+    fn decided(&self, left: ExprId, right: ExprId, decisive: i32, values: &[i32]) -> Option<i32> {
+        let left = self.value(left, values);
+        if left == Some(decisive) {
+            return left;
+        }
+        let right = self.value(right, values);
+        if right == Some(decisive) {
+            return right;
+        }
+        left.and(right)
+    }
+
+    fn evaluate<V: Valuation + ?Sized>(&self, id: ExprId, valuation: &V) -> Evaluation {
         match self.expr(id) {
             Expr::Constant(value) => Value(value),
             Expr::Variable(variable) => valuation.get(variable as usize).map_or(Unknown, Value),

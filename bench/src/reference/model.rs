@@ -2,7 +2,7 @@
 
 use super::Refusal;
 
-/// The limits of a model and of a text.
+/// The limits of a model, of a text and of a window.
 pub struct Limits;
 
 impl Limits {
@@ -11,6 +11,8 @@ impl Limits {
     pub const TEXT: usize = 200;
     /// Cells that are lent for a text's nodes, at least.
     pub const TEXT_NODES: usize = 400;
+    /// Rows of a window.
+    pub const WINDOW: usize = 1_000;
 }
 
 /// How the sizes stand at the head of a file, and their limits.
@@ -217,12 +219,19 @@ pub struct Model {
     pub assertion: InstrId,
     /// Where the nodes of the assertion begin.
     pub assertion_place: usize,
-    tree: Tree,
+    pub(super) tree: Tree,
+}
+
+/// An expression that is handed beside a model.
+#[derive(Debug)]
+pub struct Expression {
+    pub(super) top: ExprId,
+    pub(super) tree: Tree,
 }
 
 /// All expressions and instructions; children stand before their parents.
 #[derive(Debug, Default)]
-struct Tree {
+pub(super) struct Tree {
     exprs: Vec<Expr>,
     instrs: Vec<Instr>,
     branches: Vec<InstrId>,
@@ -265,24 +274,26 @@ impl Model {
         })
     }
 
-    /// Checks an expression of the type `wanted` that is handed beside this model.
-    pub fn check_expression(
+    /// Parses an expression of the type `wanted` that is handed beside this model: refusals 3, 4 to 8.
+    pub fn expression(
         &self,
         kinds: &[u8],
         parameters: &[i32],
         wanted: Type,
-    ) -> Result<(), Refusal> {
+    ) -> Result<Expression, Refusal> {
         if kinds.len() != parameters.len() {
             return Err(Refusal::LengthDiffers);
         }
         let mut walk = Walk::new(kinds, parameters);
         walk.variables.clone_from(&self.variables);
-        walk.expression(wanted, 1)?;
-        walk.finish()
+        let top = walk.expression(wanted, 1)?;
+        walk.finish()?;
+        let tree = walk.tree;
+        Ok(Expression { top, tree })
     }
 
     pub fn expr(&self, id: ExprId) -> Expr {
-        self.tree.exprs[id.0 as usize]
+        self.tree.expr(id)
     }
 
     pub fn instr(&self, id: InstrId) -> Instr {
@@ -291,6 +302,12 @@ impl Model {
 
     pub fn branches(&self, first: u32, end: u32) -> &[InstrId] {
         &self.tree.branches[first as usize..end as usize]
+    }
+}
+
+impl Tree {
+    pub(super) fn expr(&self, id: ExprId) -> Expr {
+        self.exprs[id.0 as usize]
     }
 }
 

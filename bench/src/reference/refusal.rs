@@ -41,6 +41,8 @@ pub enum Refusal {
     GuardTooLarge = 38,
     ActionTooLarge = 39,
     AssertionTooLarge = 40,
+    /// W is zero or above 1,000, S + F is zero, or the slice is no whole number of rows.
+    NoWindows = 41,
 }
 
 impl Refusal {

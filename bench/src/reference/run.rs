@@ -16,7 +16,8 @@ pub fn check_expression(
     parameters: &[i32],
     wanted: Type,
 ) -> Result<(), Refusal> {
-    Model::parse(file)?.check_expression(kinds, parameters, wanted)
+    let model = Model::parse(file)?;
+    model.expression(kinds, parameters, wanted).map(|_| ())
 }
 
 /// Starts a run; gives the round count.

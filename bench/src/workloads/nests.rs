@@ -113,7 +113,7 @@ pub(super) struct Nest {
 }
 
 /// The nests of expressions.
-fn expression_nests() -> Vec<Nest> {
+pub(super) fn expression_nests() -> Vec<Nest> {
     let mut nests: Vec<Nest> = EXPRESSIONS
         .into_iter()
         .map(|(name, around)| Nest {

@@ -3,6 +3,7 @@ use Rattle.std.specs.Prelude.{◌≡◌, List, ℕ, zero, suc, ◌≤◌, ℤ}
 use Rattle.results.specs.Results.{answered}
 use Rattle.model.specs.Check.{Verdict, verdict, byte_verdict, answer_of}
 use Rattle.model.specs.Check.Verdict.{refusal, accepted}
+use Rattle.decoding.specs.Outside.{Handed}
 use Rattle.standing.specs.Runs.{run}
 use Rattle.steps.specs.Answers.{on_file, on_file_answer}
 use Rattle.steps.specs.Calls as calls
@@ -11,6 +12,7 @@ use Rattle.run.specs.Promises.{seen_check}
 use Rattle.texts.specs.Texts.{slices, typed_in}
 use Rattle.synchronisation.specs.Synchronisations.{synchronised_by}
 use Rattle.rewriting.specs.Rewriting.{rewritten_by}
+use Rattle.windows.specs.Reports.{reported_in}
 use Rattle.capi.specs.Codes.{coded_by, coded_rounds, coded_number, coded_sizes, coded_pick, coded_outside, coded_count}
 
 -- the cell of the round count, by the code. 01: "so it is at most F + 1"
@@ -71,3 +73,12 @@ SynchroniseCoded m mandatory optional out new_length code out' new_length' =
 abbrev pub RewriteCoded : List ℕ → List ℕ → ℕ → ℕ → List ℕ → ℕ → Type 0
 RewriteCoded old out new_length code out' new_length' =
     answered code (out', new_length') ≡ coded_count new_length (rewritten_by old (byte_verdict old) out)
+
+-- an expression whose two slices are lent one by one
+abbrev pub handed : List ℕ → List ℤ → Handed
+handed kinds parameters = record { kinds = kinds; parameters = parameters }
+
+-- W is `window`, and the log is the rows
+abbrev pub WindowsCoded : List ℕ → Handed → Handed → ℕ → List ℤ → List ℤ → ℕ → ℕ → List ℤ → ℕ → Type 0
+WindowsCoded m condition number window log figures count code figures' count' =
+    answered code (figures', count') ≡ coded_count count (reported_in (verdict m) condition number window log figures)

@@ -1,13 +1,16 @@
-// The calls on a run, on a text and on a model for C: 0 and the results, or the number of the refusal and nothing that was lent changed.
+// The calls on a run, on a text, on a model and on a log for C: 0 and the results, or the number of the refusal and nothing that was
+// lent changed.
 
 #![tactic(auto, using(crate::proofs::Coding::seen), unfolding(crate::specs::Codes::code_of, crate::specs::Codes::code_in, crate::specs::Codes::coded_sizes, crate::specs::Codes::picked_or, crate::specs::Codes::outside_or, results::specs::Refusals::number_of))]
 
 ghost use Rattle.std.specs.Prelude.{◌≡◌};
 ghost use Rattle.capi.specs.Codes.{code_in, value_or, found_over};
-ghost use Rattle.capi.specs.Promises.{CheckCoded, StartCoded, FireCoded, UndoCoded, MarksCoded, ValueCoded, PickCoded, FirstOutsideCoded, TextCoded, SynchroniseCoded, RewriteCoded};
+ghost use Rattle.capi.specs.Promises.{CheckCoded, StartCoded, FireCoded, UndoCoded, MarksCoded, ValueCoded, PickCoded, FirstOutsideCoded, TextCoded, SynchroniseCoded, RewriteCoded, WindowsCoded, handed};
 
 use results::Refusal;
 use standing::Run;
+use syntax::Tree;
+use windows::Question;
 
 // How many sizes a model has.
 const SIZE_CELLS: usize = 5;
@@ -259,4 +262,36 @@ pub extern "C" fn gts_rewrite(old: &[u8], out: &mut [u8], new_len: &mut usize) -
     ensures { RewriteCoded old.now out.old new_len.old result out.new new_len.new }
 {
     hand(rewriting::rewrite(old, out), new_len)
+}
+
+// Windows over a log: for every row how many rows of its window make the condition true, the largest value of the number there, and 1, or 0
+// and 0 where there is none; with the number of rows.
+#[unsafe(no_mangle)]
+pub extern "C" fn gts_windows(
+    model: &[u8],
+    condition_kinds: &[u8],
+    condition_parameters: &[i32],
+    number_kinds: &[u8],
+    number_parameters: &[i32],
+    window: usize,
+    rows: &[i32],
+    figures: &mut [i32],
+    count: &mut usize,
+) -> u8
+    ensures { WindowsCoded model.now (handed condition_kinds.now condition_parameters.now) (handed number_kinds.now number_parameters.now)
+        window rows.now figures.old count.old result figures.new count.new }
+{
+    let question = Question {
+        condition: Tree {
+            kinds: condition_kinds,
+            parameters: condition_parameters,
+        },
+        number: Tree {
+            kinds: number_kinds,
+            parameters: number_parameters,
+        },
+        window,
+        log: rows,
+    };
+    hand(windows::report(model, &question, figures), count)
 }

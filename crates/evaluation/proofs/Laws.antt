@@ -185,7 +185,7 @@ zero_divisor_wins op ZeroDivisor = (refl, refl)
 zero_divisor_wins op TooLarge = (refl, refl)
 
 -- one operand failed, the other has a value
-pub failed_beside : (op : Operator) (m : Manner) (v : ℤ) → decisive op v ≡ false
+failed_beside : (op : Operator) (m : Manner) (v : ℤ) → decisive op v ≡ false
     → (operated op (Failed m) (Value v) ≡ Failed m) × (operated op (Value v) (Failed m) ≡ Failed m)
 unfolding operated decides is_unknown failed_in same_manner
 failed_beside op ZeroDivisor v e = (rw e, rw e)

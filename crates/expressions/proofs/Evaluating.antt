@@ -1,6 +1,6 @@
 -- Expressions that stand among nodes: what a call of `evaluate` and of `conditional` asks, and what it gives.
 use mathlib.Core.Path.{◌≡◌, refl, sym, ap, ap₂, subst, ◌∙◌}
-use mathlib.Core.Bool.{true, false}
+use mathlib.Core.Bool.{true, false, false≢true}
 use mathlib.Core.List.{List}
 use Prim.Native.Nat.{ℕ, ◌+◌, ◌^◌, ◌<◌, ◌≤◌}
 use native.Mathlib.Omega.{arith}
@@ -9,12 +9,13 @@ use lib.Signed.{mag}
 use lib.ListN.{length, get_or}
 use mir.Syntax.{w32}
 use mir.Val.{to_z, of_z}
+use Rattle.evaluation.proofs.Laws.{eq_z_true}
 use Rattle.evaluation.proofs.Signed.{read_back}
 use Rattle.evaluation.specs.declared.Evaluation.{Evaluation}
-use Rattle.evaluation.specs.declared.Evaluation.TheVariants.{Value}
+use Rattle.evaluation.specs.declared.Evaluation.TheVariants.{Unknown, Failed, Value}
 use Rattle.evaluation.specs.declared.Operator.{Operator}
 use Rattle.evaluation.specs.declared.Operator.TheVariants.{Conjunction, Disjunction, Equality, Less, LessOrEqual, Sum, Difference, Product, Quotient, Remainder, Equivalence}
-use Rattle.evaluation.specs.Meaning.{operated, negated, chosen, is_true}
+use Rattle.evaluation.specs.Meaning.{decisive, decision, decides, operated, negated, chosen, is_true}
 use Rattle.kinds.specs.Kinds.{kind_of, operator_of}
 use Rattle.model.specs.Trees.{Expression}
 use Rattle.model.specs.Trees.Expression.{numeral, truth, variable, negation, binary, if_then_else}
@@ -54,6 +55,29 @@ operator_of_kind Quotient = refl
 operator_of_kind Remainder = refl
 operator_of_kind Equivalence = refl
 
+-- ---- an operand that decides
+
+decision_is : (op : Operator) (v : ℤ) → decisive op v ≡ true → v ≡ decision op
+unfolding decisive decision
+decision_is Conjunction v e = eq_z_true v (pos 0) e
+decision_is Disjunction v e = eq_z_true v (pos 1) e
+decision_is Equality v e = absurd (false≢true e)
+decision_is Less v e = absurd (false≢true e)
+decision_is LessOrEqual v e = absurd (false≢true e)
+decision_is Sum v e = absurd (false≢true e)
+decision_is Difference v e = absurd (false≢true e)
+decision_is Product v e = absurd (false≢true e)
+decision_is Quotient v e = absurd (false≢true e)
+decision_is Remainder v e = absurd (false≢true e)
+decision_is Equivalence v e = absurd (false≢true e)
+
+-- it is the answer, whatever the other one is
+decided_alone : (op : Operator) (a b : Evaluation) → decides op a ≡ true → a ≡ operated op a b
+unfolding decides operated
+decided_alone op Unknown b e = absurd (false≢true e)
+decided_alone op (Failed m) b e = absurd (false≢true e)
+decided_alone op (Value v) b e = rw e (ap Value (decision_is op v e))
+
 module _ (ks : List ℕ) (ps : List ℤ) where
   -- ---- places
 
@@ -70,6 +94,10 @@ module _ (ks : List ℕ) (ps : List ℤ) where
   moved e p h = subst (λ n. ExpressionAt ks ps e n) p h
 
   -- ---- what a call told
+
+  -- `past`
+  abbrev pub ToldPlace : ℕ → ℕ → Type 0
+  ToldPlace m at = (ps : List ℤ) (e : Expression) → ExpressionAt ks ps e at → m ≡ at + size_of_expression e
 
   module _ (σ : Valuation) where
     abbrev pub Told : Evaluated → ℕ → Type 0
@@ -153,6 +181,25 @@ module _ (ks : List ℕ) (ps : List ℤ) where
             (ap (λ x. x.next.at) s₂ ∙ omega arith)
         binary_given told₂ (if_then_else c a b) h q₀ q₁ q₃ o r = absurd (q₃ h.0.kind)
 
+        -- the first operand decides: the second is passed over
+        pub decided_given : (e : Expression) → ExpressionAt ks ps e at → 35 ≤ get_or ks at 0 → (get_or ks at 0 ≡ 35 → ⊥) → (get_or ks at 0 ≡ 46 → ⊥) → {op : Operator} → op ≡ operator_of (get_or ks at 0)
+            → decides op first.evaluation ≡ true → {n : ℕ} → ToldPlace n first.next.at
+            → evaluated_as first.evaluation n ≡ evaluated_as (evaluate e σ) (at + size_of_expression e)
+        unfolding ExpressionAt evaluate size_of_expression
+        decided_given (numeral v) h q₀ q₁ q₃ o d t = absurd (omega (arith, h.kind))
+        decided_given (truth v) h q₀ q₁ q₃ o d t = absurd (omega (arith, h.kind))
+        decided_given (variable x) h q₀ q₁ q₃ o d t = absurd (omega (arith, h.kind))
+        decided_given (negation a) h q₀ q₁ q₃ o d t = absurd (q₁ h.0.kind)
+        decided_given (binary f a b) h q₀ q₁ q₃ {op} o d t =
+            let s = told a h.1 in
+            let m : first.next.at ≡ at + 1 + size_of_expression a = ap (λ x. x.next.at) s in
+            let k : op ≡ f = o ∙ ap operator_of h.0.kind ∙ operator_of_kind f in
+            let e : decides f (evaluate a σ) ≡ true = ap₂ decides (sym k) (sym (ap (λ x. x.evaluation) s)) ∙ d in
+            ap₂ evaluated_as
+            (ap (λ x. x.evaluation) s ∙ decided_alone f (evaluate a σ) (evaluate b σ) e)
+            (t ps b (moved b (sym m) h.2) ∙ omega (arith, m))
+        decided_given (if_then_else c a b) h q₀ q₁ q₃ o d t = absurd (q₃ h.0.kind)
+
   -- ---- what a call asks
 
   module _ (at : ℕ) where
@@ -198,10 +245,6 @@ module _ (ks : List ℕ) (ps : List ℤ) where
           )
 
   -- ---- the branches of a conditional
-
-  -- what `past` told
-  abbrev pub ToldPlace : ℕ → ℕ → Type 0
-  ToldPlace m at = (ps : List ℤ) (e : Expression) → ExpressionAt ks ps e at → m ≡ at + size_of_expression e
 
   -- the second branch stands where the first, evaluated, has ended
   pub evaluated_stands : (at : ℕ) (s : BranchesStand ks ps at) (σ : Valuation) {r : Evaluated} → Told σ r at

@@ -7,7 +7,7 @@ use lib.ListN.{length}
 use Rattle.std.specs.Prelude.{Option}
 use Rattle.kinds.specs.declared.Sort.{Sort}
 use Rattle.kinds.specs.Kinds.{boolean_sort}
-use Rattle.model.specs.Trees.{Expression, Instruction, Instructions, Transition, System, depth_of_expression, depth_of, depth_of_all}
+use Rattle.model.specs.Trees.{Expression, Instruction, Instructions, Transition, System, variables, depth_of_expression, depth_of, depth_of_all}
 use Rattle.model.specs.Nodes.{nodes_of_system}
 use Rattle.model.specs.declared.Layout.{Layout}
 use Rattle.model.specs.Sizes.{file_layout}
@@ -202,6 +202,16 @@ exchanged_well_formed {t = t} {t' = t'} (in_assertion x) w =
 pub shuffled_well_formed : {l : Layout} {t t' : System} → Shuffled t t' → WellFormedIn l t → WellFormedIn l t'
 shuffled_well_formed same w = w
 shuffled_well_formed (step x r) w = shuffled_well_formed r (exchanged_well_formed x w)
+
+-- an exchange leaves the variables
+exchanged_variables : {t t' : System} → SystemExchanged t t' → variables t ≡ variables t'
+exchanged_variables (in_transitions x) = refl
+exchanged_variables (in_assertion x) = refl
+
+-- and so do any number of them
+pub shuffled_variables : {t t' : System} → Shuffled t t' → variables t ≡ variables t'
+shuffled_variables same = refl
+shuffled_variables (step x r) = exchanged_variables x ∙ shuffled_variables r
 
 pub shuffled_sizes : {t t' : System} → Shuffled t t' → sizes_of t ≡ sizes_of t'
 shuffled_sizes same = refl

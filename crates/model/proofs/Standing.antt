@@ -1,10 +1,10 @@
 -- What the walk finds stands among the nodes, has the wanted sorts and is not deeper than the depth that was left.
 use mathlib.Core.Path.{◌≡◌, refl, sym, ap, ◌∙◌, subst}
-use mathlib.Core.Bool.{Bool, true, false, false≢true, cond, ◌&&◌, ◌||◌}
+use mathlib.Core.Bool.{Bool, true, false, false≢true, cond, not, ◌&&◌, ◌||◌}
 use mathlib.Core.List.{List}
 use Prim.Native.Nat.{ℕ, zero, suc, ◌+◌, ◌≤◌, ◌<◌}
 use native.Mathlib.Omega.{arith}
-use borrow.Author.Tests.{ltb-true, leb-true}
+use borrow.Author.Tests.{ltb-true, leb-true, eqb-true}
 use lib.Dec.{T, eqb, leb, ltb}
 use lib.IntN.{ℤ, pos, negsuc, nat_abs}
 use lib.Signed.{non_neg}
@@ -23,13 +23,15 @@ use Rattle.model.specs.Trees.{Expression, Instruction, Instructions, count, dept
 use Rattle.model.specs.Trees.Instruction.{block}
 use Rattle.model.specs.Walk.{Walk, Scope, branches_at, parts_at, instruction_at, and_then, leaf, operands_at, expression_at}
 use Rattle.syntax.specs.Readings.{stands_at, is_target, instruction_refusal, instruction_fits, is_of_sort, expression_refusal, expression_allowed, expression_fits, kind_at, parameter_at}
-use Rattle.model.specs.Walk.Walk.{found}
+use Rattle.model.specs.Walk.Walk.{refused, found}
+use Rattle.model.specs.Check.{complete, expression_given, max_depth}
+use Rattle.results.specs.declared.refusal.Refusal.TheVariants.{WrongLength, NodesLeftOver}
 use Rattle.model.specs.WellFormed.{Sorted, Scoped, AllScoped}
 use Rattle.model.specs.Standing.{NodeAt, ExpressionAt, InstructionAt, InstructionsAt, size_of_expression, size_of, size_of_all}
 use Rattle.model.proofs.KindCases.{both, standing_place, ExpressionKind, expression_kind, operator_row, InstructionKind, instruction_kind}
 use Rattle.model.proofs.KindCases.ExpressionKind.{is_numeral, is_truth as is_truth_kind, is_variable, is_negation, is_binary, is_if_then_else}
 use Rattle.model.proofs.KindCases.InstructionKind.{is_skip, is_assign, is_if_then, is_block}
-use Rattle.model.proofs.WalkClaims.{Holds, holds_then, holds_unless, Due, no_refusal}
+use Rattle.model.proofs.WalkClaims.{Holds, holds_found, holds_then, holds_unless, Due, no_refusal}
 
 -- every parameter is a 32-bit number
 abbrev pub AllRepresentable : List ℤ → Type 0
@@ -325,3 +327,25 @@ module _ (ks : List ℕ) (ps : List ℤ) (long : length ps ≡ length ks) where
       (λ w next. expression_at ks ps s.sorts left w next) (λ w next. expression_found ks ps long s.sorts left w next)
       at (parameter_at ks ps at) (kind_at ks ps at) (instruction_kind (kind_at ks ps at) (standing_place InstructionPlace (kind_at ks ps at) d.allows))
       (due_node ks ps long d) d.suits)
+
+-- ---- an expression handed outside a model
+
+-- one that the check accepts stands at the first node
+pub given_stands : (ks : List ℕ) (ps : List ℤ) (sorts : List Sort) (wanted : Option Sort) {e : Expression} {next : ℕ}
+    → expression_given ks ps sorts wanted ≡ found e next → ExpressionAt ks ps e 0
+unfolding expression_given complete Holds
+given_stands ks ps sorts wanted h = holds_found Stands (lengths (eqb (length ks) (length ps)) refl) h
+  where
+    Stands : Expression → ℕ → Type 0
+    Stands e next = ExpressionAt ks ps e 0
+
+    ended : (e : Expression) (next : ℕ) → ExpressionAt ks ps e 0 → (b : Bool) → Holds Stands (cond b (refused NodesLeftOver) (found e next))
+    ended e next s true = tt
+    ended e next s false = s
+
+    lengths : (b : Bool) → eqb (length ks) (length ps) ≡ b
+        → Holds Stands (cond (not b) (refused WrongLength) (complete (length ks) (expression_at ks ps sorts max_depth wanted 0)))
+    lengths false e = tt
+    lengths true e =
+        holds_then (ExpressionFound ks ps sorts max_depth wanted 0) Stands (expression_at ks ps sorts max_depth wanted 0) _
+        (expression_found ks ps (sym (eqb-true (length ks) (length ps) e)) sorts max_depth wanted 0) (λ e next f. ended e next f.stands (ltb next (length ks)))

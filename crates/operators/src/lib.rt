@@ -4,7 +4,7 @@
 
 ghost use Rattle.std.specs.Prelude.{◌≡◌, false, cond, ◌||◌, ℤ, MatchOption};
 ghost use Rattle.evaluation.specs.Numbers.{eq_z};
-ghost use Rattle.evaluation.specs.Meaning.{calculated, decisive, decision, operated, negated, is_unknown, agree, chosen};
+ghost use Rattle.evaluation.specs.Meaning.{calculated, decisive, decision, decides, operated, negated, is_unknown, agree, chosen};
 
 use evaluation::{Evaluation, Manner, Operator};
 
@@ -34,6 +34,27 @@ fn deciding(op: Operator) -> Option<i32>
         Operator::Conjunction => Some(0),
         Operator::Disjunction => Some(1),
         _ => None,
+    }
+}
+
+// Does this value decide the operator?
+fn is_decisive(op: Operator, v: i32) -> bool
+    ensures { result ≡ decisive op v }
+{
+    match deciding(op) {
+        Some(d) if v == d => true,
+        _ => false,
+    }
+}
+
+// Does this operand decide the operator, whatever the other one is?
+#[tactic(auto, unfolding(evaluation::specs::Meaning::decides))]
+pub fn decides(op: Operator, operand: Evaluation) -> bool
+    ensures { result ≡ decides op operand }
+{
+    match operand {
+        Evaluation::Value(v) => is_decisive(op, v),
+        _ => false,
     }
 }
 

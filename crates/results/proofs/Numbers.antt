@@ -5,7 +5,7 @@ use native.Mathlib.Omega.{arith}
 use lib.Dec.{eqb}
 use mathlib.Core.Bool.{cond}
 use Rattle.results.specs.declared.refusal.Refusal.{Refusal}
-use Rattle.results.specs.declared.refusal.Refusal.TheVariants.{ShortFile, TooManyNodes, WrongLength, MissingNode, TooDeep, KindNotAllowed, ParameterNotAllowed, NodesLeftOver, ShortValues, ShortSlice, NoSuchTransition, NoSuchVariable, NoCommand, InvalidRun, FullHistory, EmptyHistory, GuardFalse, GuardZeroDivisor, ActionZeroDivisor, ActionOutside, ActionConflict, AssertionZeroDivisor, AssertionOutside, AssertionConflict, NotReplayable, NotInGrammar, TypesDoNotFit, TextTooLarge, NoMembers, LimitPassed, TooManyVariables, GuardTooLarge, ActionTooLarge, AssertionTooLarge}
+use Rattle.results.specs.declared.refusal.Refusal.TheVariants.{ShortFile, TooManyNodes, WrongLength, MissingNode, TooDeep, KindNotAllowed, ParameterNotAllowed, NodesLeftOver, ShortValues, ShortSlice, NoSuchTransition, NoSuchVariable, NoCommand, InvalidRun, FullHistory, EmptyHistory, GuardFalse, GuardZeroDivisor, ActionZeroDivisor, ActionOutside, ActionConflict, AssertionZeroDivisor, AssertionOutside, AssertionConflict, NotReplayable, NotInGrammar, TypesDoNotFit, TextTooLarge, NoMembers, LimitPassed, TooManyVariables, GuardTooLarge, ActionTooLarge, AssertionTooLarge, NoWindows}
 use Rattle.results.specs.Refusals.{number_of, NumbersDiffer}
 
 -- the refusal of a number; of other numbers it has no meaning
@@ -44,7 +44,8 @@ refusal_of n =
     (cond (eqb n 37) TooManyVariables
     (cond (eqb n 38) GuardTooLarge
     (cond (eqb n 39) ActionTooLarge
-    AssertionTooLarge))))))))))))))))))))))))))))))))
+    (cond (eqb n 40) AssertionTooLarge
+    NoWindows)))))))))))))))))))))))))))))))))
 
 found_again : (r : Refusal) → refusal_of (number_of r) ≡ r
 unfolding refusal_of number_of
@@ -82,6 +83,7 @@ found_again TooManyVariables = refl
 found_again GuardTooLarge = refl
 found_again ActionTooLarge = refl
 found_again AssertionTooLarge = refl
+found_again NoWindows = refl
 
 positive : (r : Refusal) → 1 ≤ number_of r
 unfolding number_of
@@ -119,6 +121,7 @@ positive TooManyVariables = omega arith
 positive GuardTooLarge = omega arith
 positive ActionTooLarge = omega arith
 positive AssertionTooLarge = omega arith
+positive NoWindows = omega arith
 
 pub numbers_differ : NumbersDiffer
 numbers_differ = (positive, λ r r' e. sym (found_again r) ∙ (ap refusal_of e ∙ found_again r'))

@@ -2,7 +2,7 @@
 -- 02's requests. Of 1, 2 and 3 the words are those of A7; of an old file they say 6 bytes, 4,000 nodes and 6 + 5N.
 use Rattle.std.specs.Prelude.{◌≡◌, ℕ, ◌≤◌}
 use Rattle.results.specs.declared.refusal.Refusal.{Refusal}
-use Rattle.results.specs.declared.refusal.Refusal.TheVariants.{ShortFile, TooManyNodes, WrongLength, MissingNode, TooDeep, KindNotAllowed, ParameterNotAllowed, NodesLeftOver, ShortValues, ShortSlice, NoSuchTransition, NoSuchVariable, NoCommand, InvalidRun, FullHistory, EmptyHistory, GuardFalse, GuardZeroDivisor, ActionZeroDivisor, ActionOutside, ActionConflict, AssertionZeroDivisor, AssertionOutside, AssertionConflict, NotReplayable, NotInGrammar, TypesDoNotFit, TextTooLarge, NoMembers, LimitPassed, TooManyVariables, GuardTooLarge, ActionTooLarge, AssertionTooLarge}
+use Rattle.results.specs.declared.refusal.Refusal.TheVariants.{ShortFile, TooManyNodes, WrongLength, MissingNode, TooDeep, KindNotAllowed, ParameterNotAllowed, NodesLeftOver, ShortValues, ShortSlice, NoSuchTransition, NoSuchVariable, NoCommand, InvalidRun, FullHistory, EmptyHistory, GuardFalse, GuardZeroDivisor, ActionZeroDivisor, ActionOutside, ActionConflict, AssertionZeroDivisor, AssertionOutside, AssertionConflict, NotReplayable, NotInGrammar, TypesDoNotFit, TextTooLarge, NoMembers, LimitPassed, TooManyVariables, GuardTooLarge, ActionTooLarge, AssertionTooLarge, NoWindows}
 
 unfoldable pub number_of : Refusal → ℕ
 -- "under 10 bytes"
@@ -69,6 +69,8 @@ number_of TooManyVariables = 37
 number_of GuardTooLarge = 38
 number_of ActionTooLarge = 39
 number_of AssertionTooLarge = 40
+-- "W zero or above 1,000, S+F zero, or a slice that is no whole number of rows"
+number_of NoWindows = 41
 
 -- 0 is no refusal's number, and no two refusals have one number. Proved in proofs/Numbers.antt.
 abbrev pub NumbersDiffer : Type 0

@@ -74,6 +74,8 @@ pub enum Refusal {
     ActionTooLarge = 39,
     // A condition or an expression of the assertion failed: a number is beyond 32 bits.
     AssertionTooLarge = 40,
+    // The window is zero or above 1,000 rows, S+F is zero, or the slice is no whole number of rows.
+    NoWindows = 41,
 }
 
 impl Refusal {

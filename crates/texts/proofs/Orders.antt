@@ -2,28 +2,15 @@
 use mathlib.Core.Path.{◌≡◌, refl, ap, ap₂, ◌∙◌}
 use mathlib.Core.List.{List, [], ◌∷◌}
 use Prim.Native.Nat.{ℕ}
-use Rattle.model.specs.Trees.{System, Variable, variables, sorts_of}
-use Rattle.model.specs.Shuffle.{SystemExchanged, Shuffled}
-use Rattle.model.specs.Shuffle.SystemExchanged.{in_transitions, in_assertion}
-use Rattle.model.specs.Shuffle.Shuffled.{same, step}
+use Rattle.model.specs.Trees.{Variable, sorts_of}
 use Rattle.model.specs.Check.{verdict}
 use Rattle.model.specs.Theorems.{Bytes, ShuffledFile}
-use Rattle.model.proofs.Shuffling.{shuffled_accepted}
+use Rattle.model.proofs.Shuffling.{shuffled_accepted, shuffled_variables}
 use Rattle.results.specs.Results.{Answered}
 use Rattle.results.specs.declared.refusal.Refusal.{Refusal}
 use Rattle.std.proofs.Common.{Result}
 use Rattle.texts.specs.Texts.{Slices, typed_in, typed_over}
 use Rattle.texts.specs.Theorems.{typed_all, TextsOrderIndependent}
-
--- an exchange leaves the variables
-exchanged_variables : {t t' : System} → SystemExchanged t t' → variables t ≡ variables t'
-exchanged_variables (in_transitions x) = refl
-exchanged_variables (in_assertion x) = refl
-
--- and so do any number of them
-shuffled_variables : {t t' : System} → Shuffled t t' → variables t ≡ variables t'
-shuffled_variables same = refl
-shuffled_variables (step x r) = exchanged_variables x ∙ shuffled_variables r
 
 -- one text: its sorts are those of the variables, which no exchange touches
 typed_alike : (m m' : List ℕ) → Bytes m → ShuffledFile m m' → (text : List ℕ) (s : Slices) → typed_in (verdict m) text s ≡ typed_in (verdict m') text s

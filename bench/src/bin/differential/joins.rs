@@ -2,12 +2,10 @@
 
 use bench::calls::{Call, Join, Store, FIRE, MARKS, START, UNDO};
 use bench::ffi::LIBRARY;
-use bench::guarded::Guarded;
 use bench::joined::{mark_together, Beside};
 use bench::limits::AtLimit;
 use bench::model_gen;
 use bench::random::Random;
-use bench::reference::ENGINE;
 use bench::tree::{self, Model};
 
 use crate::tally::{Tally, JOIN};
@@ -21,7 +19,8 @@ pub fn compare(tally: &mut Tally, random: &mut Random, case: &Case) {
     for _ in 0..JOINS {
         let (model, join) = model_gen::join(random, &case.model);
         if case.twin.is_none() {
-            perform(tally, &format!("{} join", case.name), &case.file, &join);
+            let name = format!("{} join", case.name);
+            crate::compare(tally, JOIN, &name, [&case.file; 2], &join);
             continue;
         }
         let both = Both {
@@ -40,7 +39,7 @@ pub fn compare_at_limit(tally: &mut Tally, case: &AtLimit) {
     let file = case.model.encode();
     for join in case.joins() {
         let name = format!("{} join", case.name);
-        let (answer, found) = perform(tally, &name, &file, &join);
+        let (answer, found) = crate::compare(tally, JOIN, &name, [&file; 2], &join);
         let members = (join.mandatory.cells(), join.optional.cells());
         let new = model_gen::joined(&case.model, members.0, members.1);
         if let (0, Ok(new)) = (answer, new) {
@@ -48,24 +47,6 @@ pub fn compare_at_limit(tally: &mut Tally, case: &AtLimit) {
             pair.follow(tally, &name, &every_fire(new.transitions.len()));
         }
     }
-}
-
-/// The library's answer to a join and what it wrote, compared with what the Rust implementation gives in the same model.
-pub fn perform(tally: &mut Tally, name: &str, file: &[u8], join: &Join) -> (u8, Join) {
-    let (mut expected, mut found) = (join.clone(), join.clone());
-    let lent = Guarded::new(file);
-    let wanted = expected.perform(&ENGINE, file);
-    let answer = found.perform(&LIBRARY, lent.cells());
-    tally.count(JOIN, answer);
-    let mut wrong = expected.differences(&found);
-    if wanted != answer {
-        wrong.push(format!("answer: {wanted} / {answer}"));
-    }
-    if !found.intact() || lent != Guarded::new(file) {
-        wrong.push("guard cells or the model were written".to_string());
-    }
-    tally.report(name, &wrong);
-    (answer, found)
 }
 
 /// A join in a model and in its twin.
@@ -79,13 +60,11 @@ struct Both {
 
 impl Both {
     fn compare(&self, tally: &mut Tally, random: &mut Random) {
-        let (answer, one) = perform(tally, &self.name, &self.file, &self.join);
-        let (other, two) = perform(
-            tally,
-            &format!("{} twin", self.name),
-            &self.twin,
-            &self.join,
-        );
+        let twin = format!("{} twin", self.name);
+        let mut perform =
+            |name: &str, file: &[u8]| crate::compare(tally, JOIN, name, [file; 2], &self.join);
+        let (answer, one) = perform(&self.name, &self.file);
+        let (other, two) = perform(&twin, &self.twin);
         let mut wrong = Vec::new();
         if (answer, one.length.get()) != (other, two.length.get()) {
             wrong.push(format!("{answer} in the model, {other} in the twin"));

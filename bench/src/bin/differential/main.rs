@@ -2,7 +2,8 @@
 //!
 //!     differential [CALLS [SEED]]
 //!
-//! CALLS are those on runs; each random model gets some texts and some joins beside them, and an old file is rewritten.
+//! CALLS are those on runs; each random model gets some texts, some joins and some logs beside them, and an old file is
+//! rewritten.
 //! Each case has its own seed, counted up from SEED: a difference is met again by `differential 1 SEED` with the
 //! seed that is printed for it.
 
@@ -10,10 +11,11 @@ mod joins;
 mod rewritings;
 mod stored_cases;
 mod tally;
+mod windows;
 
 use std::process::ExitCode;
 
-use bench::calls::{Call, Store, Typed};
+use bench::calls::{Arguments, Call, Store};
 use bench::ffi::LIBRARY;
 use bench::guarded::Guarded;
 use bench::limits;
@@ -22,7 +24,7 @@ use bench::random::Random;
 use bench::reference::ENGINE;
 use bench::tree::Model;
 
-use tally::{Tally, TEXT};
+use tally::{Tally, TEXT, WINDOWS};
 
 /// The texts of a random model.
 const TEXTS: usize = 3;
@@ -53,7 +55,7 @@ fn main() -> ExitCode {
     }
 }
 
-/// The models at the limits of a file, each with its twin, texts and joins.
+/// The models at the limits of a file, each with its twin, texts, logs and joins.
 fn models_at_limits(tally: &mut Tally) {
     let mut random = Random::new(0);
     for case in limits::all() {
@@ -63,15 +65,18 @@ fn models_at_limits(tally: &mut Tally) {
             let mut pair = Pair::new(&file, given, &case.store);
             pair.follow(tally, case.name, &case.calls);
             for typed in case.texts() {
-                compare_text(tally, case.name, [&file, given], &typed);
+                compare(tally, TEXT, case.name, [&file, given], &typed);
+            }
+            for log in case.logs() {
+                compare(tally, WINDOWS, case.name, [&file, given], &log);
             }
         }
         joins::compare_at_limit(tally, &case);
     }
 }
 
-/// One random model with its twin, or one damaged file, with one list of calls, some texts and some joins, and an old
-/// file of another model; gives how many calls of the list were made.
+/// One random model with its twin, or one damaged file, with one list of calls, some texts, some joins and some logs, and
+/// an old file of another model; gives how many calls of the list were made.
 fn random_case(tally: &mut Tally, seed: u64) -> usize {
     let mut random = Random::new(seed.wrapping_mul(0x9E37_79B9_7F4A_7C15));
     let case = Case::new(&mut random, seed);
@@ -79,6 +84,7 @@ fn random_case(tally: &mut Tally, seed: u64) -> usize {
     case.compare_texts(tally, &mut random);
     joins::compare(tally, &mut random, &case);
     rewritings::compare(tally, &mut random, &case.name);
+    windows::compare(tally, &mut random, &case);
     calls
 }
 
@@ -135,8 +141,9 @@ impl Case {
         for _ in 0..TEXTS {
             let typed = model_gen::typed(random, &self.model);
             for (name, given) in self.given() {
-                let name = format!("{} {name}", self.name);
-                compare_text(tally, &name, [&self.file, given], &typed);
+                let text = typed.text.cells().escape_ascii();
+                let name = format!("{} {name}, text {text}", self.name);
+                compare(tally, TEXT, &name, [&self.file, given], &typed);
             }
         }
     }
@@ -194,20 +201,27 @@ impl<'a> Pair<'a> {
     }
 }
 
-/// A text: the Rust implementation gets it beside the model, the library beside the file that is given to it.
-fn compare_text(tally: &mut Tally, name: &str, [model, given]: [&[u8]; 2], typed: &Typed) {
-    let (mut expected, mut found) = (typed.clone(), typed.clone());
-    let lent = Guarded::new(given);
+/// A call of the library with the file that is given to it, compared with what the Rust implementation gives with the
+/// model; gives the library's answer and what was lent to it.
+fn compare<A: Arguments>(
+    tally: &mut Tally,
+    column: usize,
+    name: &str,
+    [model, given]: [&[u8]; 2],
+    lent: &A,
+) -> (u8, A) {
+    let (mut expected, mut found) = (lent.clone(), lent.clone());
+    let file = Guarded::new(given);
     let wanted = expected.perform(&ENGINE, model);
-    let answer = found.perform(&LIBRARY, lent.cells());
+    let answer = found.perform(&LIBRARY, file.cells());
+    tally.count(column, answer);
     let mut wrong = expected.differences(&found);
     if wanted != answer {
         wrong.push(format!("answer: {wanted} / {answer}"));
     }
-    if !found.intact() || lent != Guarded::new(given) {
-        wrong.push("guard cells or the model were written".to_string());
+    if !found.intact() || file != Guarded::new(given) {
+        wrong.push("guard cells or the file were written".to_string());
     }
-    tally.count(TEXT, answer);
-    let text = typed.text.cells().escape_ascii();
-    tally.report(&format!("{name}, text {text}"), &wrong);
+    tally.report(name, &wrong);
+    (answer, found)
 }

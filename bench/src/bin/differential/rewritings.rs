@@ -2,7 +2,6 @@
 
 use bench::calls::Rewriting;
 use bench::ffi::LIBRARY;
-use bench::guarded::Guarded;
 use bench::model_gen::{self, OldFile};
 use bench::program::gtswide;
 use bench::random::Random;
@@ -42,21 +41,9 @@ pub fn compare(tally: &mut Tally, random: &mut Random, name: &str) {
 
 /// What the library wrote, if it accepted the old file; all is compared with the Rust implementation.
 pub fn perform(tally: &mut Tally, name: &str, old: &[u8], lent: &Rewriting) -> Option<Vec<u8>> {
-    let (mut expected, mut found) = (lent.clone(), lent.clone());
-    let given = Guarded::new(old);
-    let wanted = expected.perform(&ENGINE, old);
-    let answer = found.perform(&LIBRARY, given.cells());
-    tally.count(REWRITE, answer);
-    let mut wrong = expected.differences(&found);
-    if wanted != answer {
-        wrong.push(format!("answer: {wanted} / {answer}"));
-    }
-    if !found.intact() || given != Guarded::new(old) {
-        wrong.push("guard cells or the old file were written".to_string());
-    }
+    let (answer, found) = crate::compare(tally, REWRITE, name, [old; 2], lent);
     if gtswide(&LIBRARY, old) != gtswide(&ENGINE, old) {
-        wrong.push("gtswide prints another text".to_string());
+        tally.report(name, &["gtswide prints another text".into()]);
     }
-    tally.report(name, &wrong);
     (answer == 0).then(|| found.written().to_vec())
 }

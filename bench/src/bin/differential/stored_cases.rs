@@ -1,13 +1,16 @@
 //! The stored cases through the C calls.
 
-use bench::calls::{Call, CHECK, FIRST_OUTSIDE};
+use bench::calls::{Arguments, Call, CHECK, FIRST_OUTSIDE};
 use bench::ffi::LIBRARY;
 use bench::guarded::Guarded;
 use bench::program::{gtsrun, gtswide};
+use bench::random::Random;
 use bench::stored::old::{self, refusal_of_file, rewritten_file};
-use bench::stored::{self, manners, CheckCase, Lent, ListCase, ProgramCase, TextCase, ValuesCase};
+use bench::stored::{
+    self, manners, CheckCase, Lent, LentCase, ListCase, ProgramCase, TextCase, ValuesCase,
+};
 
-use crate::tally::{Tally, JOIN, REWRITE, TEXT};
+use crate::tally::{Tally, JOIN, REWRITE, TEXT, WINDOWS};
 use crate::Pair;
 
 pub fn compare(tally: &mut Tally) {
@@ -18,8 +21,9 @@ pub fn compare(tally: &mut Tally) {
     let texts = texts(tally);
     let values = values(tally);
     let joins = joins(tally);
+    let logs = logs(tally);
     println!(
-        "stored: {checks} checks, {lists} lists of calls with their twins, {programs} programs, {wide_runs} runs of gtswide, {texts} texts, {values} values slices, {joins} joins: {} calls, {} differ",
+        "stored: {checks} checks, {lists} lists of calls with their twins, {programs} programs, {wide_runs} runs of gtswide, {texts} texts, {values} values slices, {joins} joins, {logs} logs with their twins: {} calls, {} differ",
         tally.calls, tally.differ
     );
     let old = compare_old(tally);
@@ -90,7 +94,7 @@ fn old_texts(tally: &mut Tally) -> usize {
         stored::texts(&stored::text("old/texts.txt")),
         "old/texts.txt, text",
         |case| (&case.model[..], refusal_of_file(case.want)),
-        |tally, name, case, model| compare_text(tally, name, &TextCase { model, ..case }),
+        |tally, name, case, model| compare_case(tally, TEXT, name, &TextCase { model, ..case }),
     )
 }
 
@@ -142,7 +146,7 @@ fn old_joins(tally: &mut Tally) -> usize {
         "old/joins.txt, join",
         |case| (&case.model[..], refusal_of_file(case.want)),
         |tally, name, case, model| {
-            crate::joins::perform(tally, name, &model, &case.lent_wide());
+            crate::compare(tally, JOIN, name, [&model; 2], &case.lent_wide());
         },
     )
 }
@@ -242,38 +246,24 @@ fn compare_program(tally: &mut Tally, name: &str, case: &ProgramCase) {
     tally.report(name, &wrong);
 }
 
-/// What is wrong with an answer and a model after the call; the guard cells of the model are compared too.
-fn wrong_answer(wanted: u8, answer: u8, file: &[u8], model: &Guarded<u8>) -> Vec<String> {
-    let mut wrong = Vec::new();
-    if answer != wanted {
-        wrong.push(format!("answer: {wanted} / {answer}"));
-    }
-    if *model != Guarded::new(file) {
-        wrong.push("the model was written".to_string());
-    }
-    wrong
-}
-
 fn texts(tally: &mut Tally) -> usize {
     let texts = stored::texts(&stored::text("texts.txt"));
     for (place, case) in texts.iter().enumerate() {
-        compare_text(tally, &format!("stored text {place}"), case);
+        let text = case.lent.text.cells().escape_ascii();
+        compare_case(tally, TEXT, &format!("stored text {place}, {text}"), case);
     }
     texts.len()
 }
 
-fn compare_text(tally: &mut Tally, name: &str, case: &TextCase) {
+/// A stored case of a call.
+fn compare_case<A: Arguments>(tally: &mut Tally, column: usize, name: &str, case: &LentCase<A>) {
     let model = Guarded::new(&case.model);
-    let mut found = case.lent.clone();
-    let answer = found.perform(&LIBRARY, model.cells());
-    tally.count(TEXT, answer);
-    let mut wrong = wrong_answer(case.want, answer, &case.model, &model);
-    wrong.extend(case.after.differences(&found));
-    if !found.intact() {
-        wrong.push("guard cells were written".to_string());
+    let (answer, mut wrong) = case.perform(&LIBRARY, model.cells());
+    tally.count(column, answer);
+    if model != Guarded::new(&case.model) {
+        wrong.push("the model was written".to_string());
     }
-    let text = case.lent.text.cells().escape_ascii();
-    tally.report(&format!("{name}, {text}"), &wrong);
+    tally.report(name, &wrong);
 }
 
 fn values(tally: &mut Tally) -> usize {
@@ -293,10 +283,12 @@ fn compare_values(tally: &mut Tally, name: &str, case: &ValuesCase) {
     let mut found = case.lent.clone();
     let answer = call.perform(&LIBRARY, model.cells(), &mut found);
     tally.count_call(call.row, answer, &found);
-    let mut wrong = wrong_answer(case.want, answer, &case.model, &model);
-    wrong.extend(case.after.differences(&found));
-    if !found.intact() {
-        wrong.push("guard cells were written".to_string());
+    let mut wrong = case.after.differences(&found);
+    if answer != case.want {
+        wrong.push(format!("answer: {} / {answer}", case.want));
+    }
+    if !found.intact() || model != Guarded::new(&case.model) {
+        wrong.push("guard cells or the model were written".to_string());
     }
     tally.report(name, &wrong);
 }
@@ -304,16 +296,24 @@ fn compare_values(tally: &mut Tally, name: &str, case: &ValuesCase) {
 fn joins(tally: &mut Tally) -> usize {
     let joins = stored::joins(&stored::text("joins.txt"));
     for (place, case) in joins.iter().enumerate() {
-        let model = Guarded::new(&case.model);
-        let mut found = case.lent.clone();
-        let answer = found.perform(&LIBRARY, model.cells());
-        tally.count(JOIN, answer);
-        let mut wrong = wrong_answer(case.want, answer, &case.model, &model);
-        wrong.extend(case.after.differences(&found));
-        if !found.intact() {
-            wrong.push("guard cells were written".to_string());
-        }
-        tally.report(&format!("stored join {place}"), &wrong);
+        compare_case(tally, JOIN, &format!("stored join {place}"), case);
     }
     joins.len()
+}
+
+/// Each with its twin.
+fn logs(tally: &mut Tally) -> usize {
+    let logs = stored::windows(&stored::text("windows.txt"));
+    let mut random = Random::new(0);
+    for (place, case) in logs.iter().enumerate() {
+        let name = format!("stored windows {place}");
+        compare_case(tally, WINDOWS, &name, case);
+        compare_case(
+            tally,
+            WINDOWS,
+            &format!("{name} twin"),
+            &case.twin(&mut random),
+        );
+    }
+    logs.len()
 }

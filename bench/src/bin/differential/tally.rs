@@ -5,19 +5,20 @@ use bench::calls::{Store, FIRST_OUTSIDE, TABLE};
 /// How many differences are printed in full.
 const PRINTED: usize = 10;
 
-/// The columns of the calls on texts, of joins and of rewritings, after those of the table.
+/// The columns of the calls on texts, of joins, of rewritings and of the calls on logs, after those of the table.
 pub const TEXT: usize = TABLE.len();
 pub const JOIN: usize = TABLE.len() + 1;
 pub const REWRITE: usize = TABLE.len() + 2;
-const COLUMNS: usize = TABLE.len() + 3;
+pub const WINDOWS: usize = TABLE.len() + 3;
+const COLUMNS: usize = TABLE.len() + 4;
 
 /// The answers are below this.
-const ANSWERS: usize = 41;
+const ANSWERS: usize = 42;
 
 pub struct Tally {
     pub calls: usize,
     pub differ: usize,
-    /// For each row of the table, then for texts, for joins and for rewritings, how often each number was answered.
+    /// For each row of the table, then for texts, joins, rewritings and logs, how often each number was answered.
     answers: [[usize; ANSWERS]; COLUMNS],
     /// How often `first_outside` found a variable.
     outside: usize,
@@ -73,7 +74,10 @@ impl Tally {
         for row in &TABLE {
             print!(" {} |", row.name);
         }
-        println!(" text | join | rewrite |\n|{}", "---|".repeat(COLUMNS + 1));
+        println!(
+            " text | join | rewrite | windows |\n|{}",
+            "---|".repeat(COLUMNS + 1)
+        );
         for answer in 0..ANSWERS {
             if self.answers.iter().all(|column| column[answer] == 0) {
                 continue;

@@ -1,19 +1,20 @@
 use Prim.Native.Nat.{ℕ, ◌+◌}
-use mathlib.Core.Path.{sym, ◌∙◌}
+use mathlib.Core.Path.{sym, ap, ◌∙◌}
 use native.Mathlib.Omega.{arith}
-use Rattle.expressions.specs.Cells.{valuation_of}
-use Rattle.expressions.proofs.Evaluating.{Told, expression_within, negation_given, conditional_given, binary_given, first_stands_lem, second_stands_lem, branches_stand, then_given, else_given}
+use Rattle.expressions.specs.Cells.{evaluated_as, valuation_of}
+use Rattle.expressions.proofs.Evaluating.{Told, expression_within, negation_given, conditional_given, binary_given, decided_given, first_stands_lem, second_stands_lem, branches_stand, then_given, else_given}
 use Rattle.expressions.proofs.+conditional_evaluate.Goals.{evaluate-then-kinds-child-lt-NEGATION, evaluate-else-kinds-child-lt-NEGATION, evaluate-then-kinds-place-lt-NEGATION, evaluate-else-kinds-place-lt-NEGATION}
 use Rattle.expressions.proofs.+conditional_evaluate.Goals.{evaluate-Else-kind-eq-NEGATION}
 use Rattle.expressions.proofs.+conditional_evaluate.Goals as goal
 
 pub conditional-returns-then-is_true : goal.conditional-returns-then-is_true
-conditional-returns-then-is_true t c =
-    then_given c.args.kinds.now c.args.parameters.now c.args.cursor.at (valuation_of c.args.cells.now) c.in-Value.is (sym c.is_true.ensures ∙ c.if-is_true.true) c.evaluate-first.ensures c.past.ensures
+conditional-returns-then-is_true t c = λ a b h k.
+    ap (λ v. evaluated_as v c.passing_over.result.next.at) c.passing_over.ensures.same
+    ∙ then_given c.args.kinds.now c.args.parameters.now c.args.cursor.at (valuation_of c.args.cells.now) c.in-Value.is (sym c.is_true.ensures ∙ c.if-is_true.true) c.evaluate-first.ensures c.passing_over.ensures.place a b h k
 
 pub conditional-returns-in-Value : goal.conditional-returns-in-Value
 conditional-returns-in-Value t c =
-    else_given c.args.kinds.now c.args.parameters.now c.args.cursor.at (valuation_of c.args.cells.now) c.in-Value.is (sym c.is_true.ensures ∙ c.if-is_true.false) c.past-in-Value.ensures c.evaluate.ensures
+    else_given c.args.kinds.now c.args.parameters.now c.args.cursor.at (valuation_of c.args.cells.now) c.in-Value.is (sym c.is_true.ensures ∙ c.if-is_true.false) c.past.ensures c.evaluate.ensures
 
 pub evaluate-bounds-kinds-at : goal.evaluate-bounds-kinds-at
 evaluate-bounds-kinds-at t c =
@@ -60,6 +61,19 @@ pub evaluate-returns-then-kind-eq-CONDITIONAL : goal.evaluate-returns-then-kind-
 evaluate-returns-then-kind-eq-CONDITIONAL t c =
     let first-told = first_told t (goal.at.evaluate-returns-then-kind-eq-CONDITIONAL t c).Else-kind-eq-NEGATION in
     λ e h. conditional_given c.args.kinds.now c.args.parameters.now (valuation_of c.args.cells.now) c.args.cursor.at first-told e h c.if-kind-eq-CONDITIONAL.true c.conditional.ensures
+
+pub evaluate-passing_over-requires : goal.evaluate-passing_over-requires
+evaluate-passing_over-requires t c =
+    let first-told = first_told t (goal.at.evaluate-passing_over-requires t c).Else-kind-eq-NEGATION in
+    let s = (second_stands_lem c.args.kinds.now c.args.parameters.now c.args.cursor.at (valuation_of c.args.cells.now) first-told c.requires.expression c.requires.stands c.if-kind-lt-NEGATION.false c.if-kind-eq-NEGATION.false c.if-kind-eq-CONDITIONAL.false).0 in
+    record { parameters = c.args.parameters.now; standing = s }
+
+pub evaluate-returns-then-decides : goal.evaluate-returns-then-decides
+evaluate-returns-then-decides t c =
+    let first-told = first_told t (goal.at.evaluate-returns-then-decides t c).Else-kind-eq-NEGATION in
+    λ e h.
+    ap (λ v. evaluated_as v c.passing_over.result.next.at) c.passing_over.ensures.same
+    ∙ decided_given c.args.kinds.now c.args.parameters.now (valuation_of c.args.cells.now) c.args.cursor.at first-told e h c.if-kind-lt-NEGATION.false c.if-kind-eq-NEGATION.false c.if-kind-eq-CONDITIONAL.false c.operator_of-operator.ensures (sym c.decides.ensures ∙ c.if-decides.true) c.passing_over.ensures.place
 
 pub evaluate-bounds-kinds-place : goal.evaluate-bounds-kinds-place
 evaluate-bounds-kinds-place t c =
