@@ -9,6 +9,7 @@ use lib.IntN.{ℤ}
 use lib.Signed.{le_z}
 use Rattle.std.specs.Prelude.{Option, Some, None, get_or}
 use Rattle.std.specs.List.{list_all}
+use Rattle.std.proofs.lemmas.List.Folds.{list_all-append}
 use Rattle.evaluation.specs.declared.Evaluation.{Evaluation}
 use Rattle.evaluation.specs.declared.Evaluation.TheVariants.{Unknown}
 use Rattle.evaluation.specs.Meaning.{is_true}
@@ -20,8 +21,7 @@ use Rattle.windows.specs.Theorems.{EntersOnce}
 -- whatever all pass that are there, all pass that are left, and one more does that passes it
 module _ (p : Entry → Bool) where
   all_end : (cs : List Entry) (c : Entry) → T (list_all p cs) → T (p c) → T (list_all p (cs ++ (c ∷ [])))
-  all_end [] c h i = and_i (p c) true i tt
-  all_end (d ∷ cs) c h i = and_i (p d) (list_all p (cs ++ (c ∷ []))) (and_l (p d) (list_all p cs) h) (all_end cs c (and_r (p d) (list_all p cs) h) i)
+  all_end cs c h i = rw (list_all-append p cs (c ∷ [])) (and_i (list_all p cs) (list_all p (c ∷ [])) h (and_i (p c) true i tt))
 
   all_above : (v : ℤ) (cs : List Entry) → T (list_all p cs) → T (list_all p (above v cs))
   unfolding above

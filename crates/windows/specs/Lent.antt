@@ -81,7 +81,8 @@ pub record CanCount (s : Sliding) : Type 0 where
   pub trues : s.trues.entered + 1 < 2 ^ 64
   pub values : s.values.entered + 1 < 2 ^ 64
 
--- where the row has a value, those at the back leave that it reaches, and it enters; in a queue that falls from front to back this is `with_value`
+-- where the row has a value, those at the back leave that it reaches, and it enters; in a queue that falls from front to back this is
+-- `with_value`
 unfoldable pub yielding_to : ℕ → Option ℤ → List Entry → List Entry
 yielding_to row None cs = cs
 yielding_to row (Some v) cs = yielded v cs ++ (entry row v ∷ [])
@@ -112,8 +113,8 @@ pub record Passed (w row : ℕ) (b x : Evaluation) (before after : Sliding) : Ty
   pub trues : after.trues.entered ≡ one_more_if (is_true b) before.trues.entered
   pub values : after.values.entered ≡ one_more_if (is_some (value_in x)) before.values.entered
 
--- 02: "each row enters once and leaves at most once": n rows have gone by; each that is true has entered the one queue, each with a value the
--- other, and as many have departed from each as are not there any more
+-- 02: "each row enters once and leaves at most once": n rows have gone by; each that is true has entered the one queue, each with a
+-- value the other, and as many have departed from each as are not there any more
 pub record GoneBy (w : ℕ) (bs xs : List Evaluation) (n : ℕ) (s : Sliding) : Type 0 where
   pub slid : queues_in s ≡ slid w bs xs n
   pub trues : s.trues.entered ≡ count_true (take n bs)

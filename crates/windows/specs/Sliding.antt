@@ -1,6 +1,6 @@
--- How the code works the figures out: two queues of rows. 02, A9: "though each row enters once and leaves at most once". A row that makes the
--- condition true enters the one, a row with a value the other, at the back; it leaves at the front when the window leaves it behind, and
--- the queue of values also at the back, when a later row reaches it.
+-- How the code works the figures out: two queues of rows. 02, A9: "though each row enters once and leaves at most once". A row that
+-- makes the condition true enters the one, a row with a value the other, at the back; it leaves at the front when the window leaves it
+-- behind, and the queue of values also at the back, when a later row reaches it.
 use Rattle.std.specs.Prelude.{Bool, true, cond, not, List, [], ◌∷◌, ◌++◌, ℕ, zero, suc, ◌-◌, eqb, leb, ℤ, pos, get_or, Option, Some, None, is_some}
 use Rattle.std.specs.List.{count_by}
 use Rattle.std.specs.Int.Signed.{le_z}

@@ -12,8 +12,9 @@ use Rattle.windows.specs.Figures.{count_true, value_in, largest}
 use Rattle.windows.specs.Reports.{reported_in}
 use Rattle.windows.specs.Sliding.{entry, true_rows, candidates, with_true, with_value, without, front_value, queues, slid}
 
--- 02: "Both figures equal those worked out from the window alone": the count is how many rows the one queue holds, the largest value that
--- at the front of the other; and when a row enters at the back or leaves at the front, each holds what it should of the window as it is then
+-- 02: "Both figures equal those worked out from the window alone": the count is how many rows the one queue holds, the largest
+-- value that at the front of the other; and when a row enters at the back or leaves at the front, each holds what it should of the
+-- window as it is then
 abbrev pub QueueRight : Type 0
 QueueRight =
     (row : ℕ) (es : List Evaluation)
@@ -30,8 +31,8 @@ SlidingRight =
     (w : ℕ) (bs xs : List Evaluation) (n : ℕ) → 0 < w → n ≤ length bs → n ≤ length xs
     → slid w bs xs n ≡ queues (true_rows (n - w) (last_of w n bs)) (candidates (n - w) (last_of w n xs))
 
--- 02: "each row enters once and leaves at most once": the rows in a queue have gone by, and what is true of every entry there and of row n's is
--- true of every entry once row n has gone by too; so none enters but row n, and none that has left comes back
+-- 02: "each row enters once and leaves at most once": the rows in a queue have gone by, and what is true of every entry there and of
+-- row n's is true of every entry once row n has gone by too; so none enters but row n, and none that has left comes back
 abbrev pub EntersOnce : Type 0
 EntersOnce =
     (w : ℕ) (bs xs : List Evaluation) (n : ℕ)
@@ -41,7 +42,8 @@ EntersOnce =
     → (T (list_all p (slid w bs xs n).trues) → T (list_all p (slid w bs xs (suc n)).trues))
     × (T (list_all p (slid w bs xs n).values) → T (list_all p (slid w bs xs (suc n)).values)))
 
--- demand 3, of logs: no order in which an accepted model is written changes the report, be it the figures or the refusal of an expression, 41, 10 or 20
+-- demand 3, of logs: no order in which an accepted model is written changes the report, be it the figures or the refusal of an
+-- expression, 41, 10 or 20
 abbrev pub ReportOrderIndependent : Type 0
 ReportOrderIndependent =
     (m m' : List ℕ) → Bytes m → ShuffledFile m m' → (condition number : Handed) (w : ℕ) (log old : List ℤ)
