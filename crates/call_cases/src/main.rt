@@ -19,11 +19,10 @@ ghost use Rattle.std.specs.Prelude.{◌≡◌, ◌+◌, ◌*◌, ◌^◌, ◌<�
 use model::Sizes;
 use results::Refusal;
 use run::{Answer, Call, Store};
-use standing::RangeCheck;
 use std::fs::File;
-use std::io;
 use std::io::Read;
 use std::rt::Files;
+use std::{fmt, io};
 
 // The most values, marks or bytes of a buffer.
 const CELLS: usize = 4008;
@@ -74,11 +73,65 @@ impl From<[u8; 32]> for Head {
     }
 }
 
-// The header of a call: the call, what it must answer, none where the bytes are no answer, and n afterwards.
+// What an answer tells, by the number that the header of a call has for it.
+#[derive(Clone, Copy, PartialEq, Eq, Debug)]
+enum Form {
+    Refused = 0,
+    Rounds = 1,
+    Done = 2,
+    Value = 3,
+    Sizes = 4,
+    Transition = 5,
+    Nothing = 6,
+    Outside = 7,
+    Within = 8,
+}
+
+// An answer as the header of a call has it: its form, its number, and how many values were looked at, of sizes N. What is stored may be
+// any numbers.
+#[derive(Clone, Copy, PartialEq, Eq, Debug)]
+struct Reply {
+    form: u8,
+    number: usize,
+    looked: usize,
+}
+
+// A negative value is told as it stands in eight bytes.
+impl fmt::Display for Reply {
+    fn fmt<W: fmt::Write>(&self, f: &mut fmt::Formatter<W>) -> fmt::Result {
+        let form = self.form;
+        let number = self.number;
+        let looked = self.looked;
+        write!(f, "{form} {number} {looked}")
+    }
+}
+
+impl Reply {
+    // An answer whose number is all that it tells.
+    fn plain(form: Form, number: usize) -> Reply {
+        Reply {
+            form: form as u8,
+            number,
+            looked: 0,
+        }
+    }
+
+    // What was found, in the first form, or nothing, in the second.
+    fn found(found: Option<usize>, form: Form, nothing: Form) -> Reply {
+        match found {
+            Some(number) => Reply::plain(form, number),
+            None => Reply::plain(nothing, 0),
+        }
+    }
+}
+
+// The header of a call: whether it was read, the call, what it must answer, also as sizes, and n afterwards.
 #[derive(Clone, Copy)]
 struct Wanted {
+    is_whole: bool,
     call: Call,
-    answer: Option<Result<Answer, u8>>,
+    reply: Reply,
+    sizes: Sizes,
     n: usize,
 }
 
@@ -140,58 +193,65 @@ fn sizes_of(head: &[u8; 32]) -> Sizes {
     }
 }
 
-// The stored answer, which is the number of a refusal or what is answered; none where the bytes are no answer.
-fn answer_of(head: &[u8; 32]) -> Option<Result<Answer, u8>> {
-    let number = cases::number::<8>(head, 16);
-    let looked = cases::number::<2>(head, 2);
-    match (head[1], number, looked) {
-        (0, number, 0) => Some(Err(u8::try_from(number).ok()?)),
-        (1, count, 0) => Some(Ok(Answer::Rounds(count))),
-        (2, 0, 0) => Some(Ok(Answer::Done)),
-        (3, value, 0) => {
-            let value = (value as u64).cast_signed();
-            Some(Ok(Answer::Number(i32::try_from(value).ok()?)))
+// A value as a number of eight bytes.
+fn value_number(value: i32) -> usize {
+    i64::from(value).cast_unsigned() as usize
+}
+
+impl Wanted {
+    // The next header of the file; past its end the bytes are 0.
+    fn next(file: &mut impl Read) -> io::Result<Wanted> {
+        let mut head = [0u8; 32];
+        let is_whole = cases::is_read(file, &mut head)?;
+        Ok(Wanted {
+            is_whole,
+            call: call_of(head[0], cases::number::<8>(&head, 8)),
+            reply: Reply {
+                form: head[1],
+                number: cases::number::<8>(&head, 16),
+                looked: cases::number::<2>(&head, 2),
+            },
+            sizes: sizes_of(&head),
+            n: cases::number::<8>(&head, 24),
+        })
+    }
+
+    // An answer that came, as a header has it. Sizes stand as they are stored here; others than these are 0.
+    fn came(self, answer: Result<Answer, Refusal>) -> Reply {
+        match answer {
+            Err(refusal) => Reply::plain(Form::Refused, usize::from(refusal.number())),
+            Ok(Answer::Rounds(count)) => Reply::plain(Form::Rounds, count),
+            Ok(Answer::Done) => Reply::plain(Form::Done, 0),
+            Ok(Answer::Number(value)) => Reply::plain(Form::Value, value_number(value)),
+            Ok(Answer::Sizes(sizes)) if sizes == self.sizes => Reply {
+                form: Form::Sizes as u8,
+                ..self.reply
+            },
+            Ok(Answer::Sizes(_)) => Reply::plain(Form::Sizes, 0),
+            Ok(Answer::Picked(found)) => Reply::found(found, Form::Transition, Form::Nothing),
+            Ok(Answer::Outside(check)) => Reply {
+                looked: check.looked,
+                ..Reply::found(check.outside, Form::Outside, Form::Within)
+            },
         }
-        (4, _, _) => Some(Ok(Answer::Sizes(sizes_of(head)))),
-        (5, transition, 0) => Some(Ok(Answer::Picked(Some(transition)))),
-        (6, 0, 0) => Some(Ok(Answer::Picked(None))),
-        (7, variable, looked) => Some(Ok(Answer::Outside(RangeCheck {
-            outside: Some(variable),
-            looked,
-        }))),
-        (8, 0, looked) => Some(Ok(Answer::Outside(RangeCheck {
-            outside: None,
-            looked,
-        }))),
-        _ => None,
     }
 }
 
-impl From<[u8; 32]> for Wanted {
-    fn from(bytes: [u8; 32]) -> Wanted {
-        Wanted {
-            call: call_of(bytes[0], cases::number::<8>(&bytes, 8)),
-            answer: answer_of(&bytes),
-            n: cases::number::<8>(&bytes, 24),
-        }
-    }
-}
-
-// Are the answer and n those in the header? If not, both are told. The printer and the file stay two arguments here and below: each is of
-// a type of its own, which a struct of both would have to name wherever it is lent.
+// Was the header read, and are the answer and n those in it? If not, both are told. The printer and the file stay two arguments here and
+// below: each is of a type of its own, which a struct of both would have to name wherever it is lent.
 fn is_wanted(
     rt: &impl Print,
     wanted: Wanted,
     answer: Result<Answer, Refusal>,
     n: usize,
 ) -> io::Result<bool> {
-    let came = Some(answer.map_err(Refusal::number));
-    let answer = wanted.answer;
+    let reply = wanted.reply;
+    let came = wanted.came(answer);
     let after = wanted.n;
-    if came == answer && n == after {
+    if wanted.is_whole && came == reply && n == after {
         return Ok(true);
     }
-    print!(rt; "wanted {answer:?} {after}; came {came:?} {n}; ")?;
+    print!(rt; "wanted {reply} {after}; came {came} {n}; ")?;
     Ok(false)
 }
 
@@ -246,7 +306,7 @@ impl Head {
         Ok(is_same)
     }
 
-    // Carries out the next call of the file: are its answer, and all that is left, as stored? False where the file has no such call.
+    // Carries out the next call of the file: are its answer, and all that is left, as stored?
     fn is_next_same(
         self,
         rt: &impl Print,
@@ -254,10 +314,7 @@ impl Head {
         model: &[u8],
         store: &mut Store<'_>,
     ) -> io::Result<bool> {
-        let Some(head): Option<[u8; 32]> = cases::next_bytes(file)? else {
-            return Ok(false);
-        };
-        let wanted = Wanted::from(head);
+        let wanted = Wanted::next(file)?;
         let answer = run::perform(wanted.call, model, store);
         let is_answered = is_wanted(rt, wanted, answer, *store.n)?;
         Ok(self.is_left(rt, file, store)? & is_answered)

@@ -8,7 +8,7 @@
 
 #![tactic(auto)]
 
-ghost use Rattle.std.specs.Prelude.{◌≡◌, ◌<◌, length};
+ghost use Rattle.std.specs.Prelude.{◌≡◌, ◌<◌, length, IfOk, IsTrue, ◌↔◌};
 
 use cases::Case;
 use model::{Sizes, Sort};
@@ -37,19 +37,40 @@ enum Part {
     Expression(Expression),
 }
 
-// The header of a case.
+// The header of a case. Any byte may be stored for the answer.
 #[derive(Clone, Copy)]
 struct Head {
     part: Part,
-    refusal: u8,
+    wanted: u8,
     body: usize,
+}
+
+// What comes of a case.
+#[derive(Clone, Copy, PartialEq, Eq, Debug)]
+enum Answer {
+    Accepted,
+    OtherSizes,
+    NoExpression,
+    Refused(Refusal),
+}
+
+impl Answer {
+    // The number that a header has for it, which is told.
+    fn number(self) -> u8 {
+        match self {
+            Answer::Accepted => 0,
+            Answer::OtherSizes => 255,
+            Answer::NoExpression => 254,
+            Answer::Refused(refusal) => refusal.number(),
+        }
+    }
 }
 
 impl From<[u8; 16]> for Head {
     fn from(bytes: [u8; 16]) -> Head {
         Head {
             part: part_of(&bytes),
-            refusal: bytes[1],
+            wanted: bytes[1],
             body: cases::number::<4>(&bytes, 12),
         }
     }
@@ -82,7 +103,17 @@ fn sort_of(code: u8) -> Sort {
     }
 }
 
-// The answer of a case is the number of its nodes.
+// Is the answer the stored one? If not, both are told.
+fn is_wanted(rt: &impl Print, answer: u8, wanted: u8) -> io::Result<bool>
+    ensures { IfOk result (λ is_same. IsTrue is_same ↔ answer ≡ wanted) }
+{
+    if answer == wanted {
+        return Ok(true);
+    }
+    print!(rt; "answers {answer}, wanted {wanted}; ")?;
+    Ok(false)
+}
+
 impl Case<16> for Head {
     ghost size = { λ head. head.body };
 
@@ -91,55 +122,41 @@ impl Case<16> for Head {
     }
 
     fn is_as_stored<R: Print>(self, rt: &R, body: &[u8]) -> io::Result<bool> {
-        match self.part {
-            Part::Model(sizes) => self.is_checked(rt, body, sizes),
-            Part::Expression(expression) => self.is_expression_checked(rt, body, expression),
-        }
+        let answer = match self.part {
+            Part::Model(sizes) => model_answer(body, sizes),
+            Part::Expression(expression) => expression.answer(body),
+        };
+        is_wanted(rt, answer.number(), self.wanted)
     }
 }
 
-impl Head {
-    // Checks a model: are the answer and the sizes as stored? If not, that is told.
-    fn is_checked<R: Print>(self, rt: &R, body: &[u8], sizes: Sizes) -> io::Result<bool> {
-        let checked = model::check::check(body);
-        let answer = checked.map(|found| found.nodes).map_err(Refusal::number);
-        if !cases::is_wanted(
-            rt,
-            "nodes",
-            cases::wanted(self.refusal, sizes.nodes),
-            answer,
-        )? {
-            return Ok(false);
-        }
-        let is_other = checked.is_ok_and(|found| found != sizes);
-        if is_other {
-            print!(rt; "a size is another; ")?;
-        }
-        Ok(!is_other)
+// Checks a model whose stored sizes are these.
+fn model_answer(body: &[u8], sizes: Sizes) -> Answer {
+    match model::check::check(body) {
+        Err(refusal) => Answer::Refused(refusal),
+        Ok(found) if found == sizes => Answer::Accepted,
+        Ok(_) => Answer::OtherSizes,
     }
+}
 
-    // Checks an expression handed beside a model: is the answer as stored? If not, that is told. False where there is no such case.
-    fn is_expression_checked<R: Print>(
-        self,
-        rt: &R,
-        body: &[u8],
-        expression: Expression,
-    ) -> io::Result<bool> {
-        let count = expression.parameters;
-        let past = expression.kinds + 4 * count;
-        if body.len() != past + expression.model || PARAMETERS < count {
-            return Ok(false);
+impl Expression {
+    // Checks an expression handed beside a model, where the body is one.
+    fn answer(self, body: &[u8]) -> Answer {
+        let count = self.parameters;
+        let past = self.kinds + 4 * count;
+        if body.len() != past + self.model || PARAMETERS < count {
+            return Answer::NoExpression;
         }
         let mut parameters = [0i32; PARAMETERS];
         let parameters = &mut parameters[..count];
-        let (kinds, rest) = body.split_at(expression.kinds);
+        let (kinds, rest) = body.split_at(self.kinds);
         let (stored, model) = rest.split_at(4 * count);
         cases::load_values(stored, parameters);
         let tree = Tree { kinds, parameters };
-        let answer = decoding::check_expression(model, &tree, expression.sort)
-            .map(|()| count)
-            .map_err(Refusal::number);
-        cases::is_wanted(rt, "nodes", cases::wanted(self.refusal, count), answer)
+        match decoding::check_expression(model, &tree, self.sort) {
+            Err(refusal) => Answer::Refused(refusal),
+            Ok(()) => Answer::Accepted,
+        }
     }
 }
 

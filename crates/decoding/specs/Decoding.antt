@@ -1,5 +1,5 @@
 -- What `decode` makes of an accepted file for the layers above.
-use Rattle.std.specs.Prelude.{◌≡◌, cond, List, [], ◌∷◌, ◌++◌, ℕ, ◌+◌, ◌≤◌, ℤ, take, Result, Ok, Err}
+use Rattle.std.specs.Prelude.{◌≡◌, cond, List, [], ◌∷◌, ◌++◌, ℕ, ◌+◌, ◌<◌, ◌≤◌, ℤ, take, Result, Ok, Err}
 use Rattle.results.specs.Results.{Answered, answered, over}
 use Rattle.results.specs.declared.refusal.Refusal.{Refusal}
 use Rattle.kinds.specs.declared.Sort.{Sort}
@@ -115,6 +115,14 @@ pub record RoomFor (nodes variables node_cells variable_cells : ℕ) : Type 0 wh
 abbrev pub Enough : Sizes → ℕ → ℕ → ℕ → Type 0
 Enough s nodes variables transitions =
     RoomFor s.nodes (s.states + s.flows) nodes variables × (s.transitions ≤ transitions) × (transitions ≤ max_transitions)
+
+-- slices of these lengths have cells enough for a model of these sizes, and the places fit 16 bits
+pub record EnoughCells (s : Sizes) (parameters rows nexts guards : ℕ) : Type 0 where
+  pub for_parameters : s.nodes ≤ parameters
+  pub for_variables : s.states + s.flows ≤ rows
+  pub for_nexts : s.nodes ≤ nexts
+  pub for_guards : s.transitions ≤ guards
+  pub places : nexts < 65536
 
 -- what the arrays hold that a file is decoded to
 pub record Arrays : Type 0 where

@@ -12,7 +12,7 @@ ghost use Rattle.model.specs.Check.Verdict.{accepted};
 ghost use Rattle.model.specs.Standing.{size_of_transitions};
 ghost use Rattle.variables.specs.Rows.{variable_rows};
 ghost use Rattle.decoding.specs.NextPlaces.{children_by, following, filled};
-ghost use Rattle.decoding.specs.Decoding.{Enough, LentOf, VariablesRead, arrays_in, assertion_place, decoded_over, guard_places, nexts_of_transitions, sorts_after, transitions_place};
+ghost use Rattle.decoding.specs.Decoding.{Enough, EnoughCells, LentOf, VariablesRead, arrays, arrays_in, assertion_place, decoded_over, guard_places, nexts_of_transitions, sorts_after, transitions_place};
 ghost use Rattle.decoding.specs.Outside.{given_after};
 
 use file::AcceptedFile;
@@ -122,8 +122,7 @@ fn next_places(tree: &WholeTree, nexts: &mut [u16])
     }
 }
 
-// The places of the guards of so many transitions from place `from` on, and the place after them. With a count, and not in cells that
-// the caller cuts: of a part of a field's array that is lent last a proof knows nothing afterwards.
+// The places of the guards of so many transitions from place `from` on, and the place after them.
 fn guard_places(nexts: &[u16], count: usize, from: usize, guards: &mut [u16]) -> usize
     requires { (count ≤ length guards.old) × (length nexts.now < 65536) }
     ensures { (ts : List Transition) (rest : List ℕ) → length ts ≡ count → drop from nexts.now ≡ nexts_of_transitions ts from ++ rest →
@@ -162,6 +161,34 @@ fn decode_variables(
     read_variables(&tree, &mut variables[..sizes.variables()])
 }
 
+// The decoding of an accepted file, into slices of any lengths that are enough for it.
+pub fn decode_in(
+    file: &AcceptedFile<'_>,
+    parameters: &mut [i32],
+    variables: &mut [VariableRow],
+    nexts: &mut [u16],
+    guards: &mut [u16],
+) -> Model
+    requires { EnoughCells file.now.sizes (length parameters.old) (length variables.old) (length nexts.old) (length guards.old) }
+    ensures sizes { result.sizes ≡ file.now.sizes }
+    ensures decoded { (t : System) → verdict file.now.bytes.now ≡ accepted file.now.sizes t →
+        (result.assertion ≡ assertion_place t)
+        × (arrays parameters.new variables.new nexts.new guards.new
+        ≡ decoded_over file.now.bytes.now file.now.sizes t
+        (arrays parameters.old variables.old nexts.old guards.old)) }
+{
+    let sizes = file.sizes;
+    let nodes = sizes.nodes;
+    let transitions = decode_variables(file, parameters, variables);
+    let tree = WholeTree {
+        kinds: kinds_of(file.bytes, nodes),
+        parameters: &parameters[..nodes],
+    };
+    next_places(&tree, &mut nexts[..nodes]);
+    let assertion = guard_places(nexts, sizes.transitions, transitions, guards);
+    Model { sizes, assertion }
+}
+
 impl<const NODES: usize, const VARIABLES: usize, const TRANSITIONS: usize> Decoding<
     NODES,
     VARIABLES,
@@ -183,17 +210,13 @@ impl<const NODES: usize, const VARIABLES: usize, const TRANSITIONS: usize> Decod
             (result.assertion ≡ assertion_place t)
             × (arrays_in self.new ≡ decoded_over file.now.bytes.now file.now.sizes t (arrays_in self.old)) }
     {
-        let sizes = file.sizes;
-        let nodes = sizes.nodes;
-        let transitions = decode_variables(file, &mut self.parameters, &mut self.variables);
-        let tree = WholeTree {
-            kinds: kinds_of(file.bytes, nodes),
-            parameters: &self.parameters[..nodes],
-        };
-        let nexts = &mut self.nexts[..];
-        next_places(&tree, &mut nexts[..nodes]);
-        let assertion = guard_places(nexts, sizes.transitions, transitions, &mut self.guards);
-        Model { sizes, assertion }
+        decode_in(
+            file,
+            &mut self.parameters,
+            &mut self.variables,
+            &mut self.nexts,
+            &mut self.guards,
+        )
     }
 
     // The parts of the arrays that a model is decoded to, as they are lent.

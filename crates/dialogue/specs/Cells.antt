@@ -11,7 +11,7 @@ use Rattle.dialogue.specs.declared.Dialogue.{Dialogue}
 
 -- the bytes kept of a line
 abbrev pub kept_of : Line → List ℕ
-kept_of l = l.bytes.items
+kept_of l = take l.length l.bytes
 
 abbrev pub dimensions : ℕ → ℕ → ℕ → Dimensions
 dimensions bytes variables transitions = record { bytes = bytes; variables = variables; transitions = transitions }

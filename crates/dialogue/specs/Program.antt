@@ -17,8 +17,7 @@ use Rattle.dialogue.specs.Cells.{dimensions_of, in_use, into}
 abbrev pub text_in : Answered ℕ (List ℕ) → List ℕ
 text_in a = take a.answer a.left
 
--- the pieces of a part, each from the place where the one before it ended, while bytes are left; at most `calls` of them. A call of
--- `take_line` takes one, from the part or handed by itself
+-- what the calls of `take_line` take of a part, each from the place where the one before it ended, while bytes are left; at most `calls` of them
 unfoldable pub pieces_from : ℕ → List ℕ → ℕ → List (List ℕ)
 pieces_from zero part from = []
 pieces_from (suc calls) part from =

@@ -166,7 +166,7 @@ impl Dialogue {
     fn command(&self) -> Option<Command>
         ensures { result ≡ command_of (kept_of self.now.line) }
     {
-        commands::command_of(&self.line.bytes)
+        commands::command_of(self.line.kept())
     }
 
     // Carries out a command, or refuses a line that is none, and writes its line.
@@ -221,7 +221,7 @@ impl Dialogue {
         ensures line_unchanged { self.new.line ≡ self.old.line }
         ensures length_le_line_bytes { self.new.written ≤ line_bytes }
     {
-        if self.line.bytes.is_empty() {
+        if self.line.kept().is_empty() {
             self.written = 0;
             return;
         }

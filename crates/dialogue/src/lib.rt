@@ -10,7 +10,6 @@ ghost use Rattle.dialogue.specs.Sizes.{kept_bytes};
 ghost use Rattle.std.specs.List.{position};
 ghost use Rattle.dialogue.specs.Cells.{kept_of};
 
-use arrayvec::ArrayVec;
 use exchange::first;
 use model::Model;
 
@@ -32,10 +31,11 @@ impl Program {
     pub const LINE_BYTES: usize = 48024;
 }
 
-// The first bytes of a line.
-#[derive(Drop)]
+// The first bytes of a line, and how many they are.
+#[derive(Clone, Copy)]
 pub struct Line {
-    pub bytes: ArrayVec<u8, { Program::KEPT_BYTES }>,
+    pub bytes: [u8; Program::KEPT_BYTES],
+    pub length: usize,
 }
 
 // How many bytes of the file, values and marks are in use; none by default.
@@ -70,13 +70,21 @@ fn line_feed(part: &[u8]) -> Option<usize>
 }
 
 impl Line {
-    // No byte yet: what a derived `Default` would tell of the one field, in the words of the promises.
+    // No byte yet.
     pub fn empty() -> Line
         ensures { kept_of result ≡ [] }
     {
         Line {
-            bytes: ArrayVec::new(),
+            bytes: [0; Program::KEPT_BYTES],
+            length: 0,
         }
+    }
+
+    // The bytes kept.
+    fn kept(&self) -> &[u8]
+        ensures { result.now ≡ kept_of self.now }
+    {
+        first(&self.bytes, self.length)
     }
 
     // These bytes after the bytes kept, as many of them as there are places for.
@@ -84,7 +92,9 @@ impl Line {
         ensures kept { kept_of self.new ≡ take kept_bytes (kept_of self.old ++ bytes.now) }
         ensures fitted { length (kept_of self.old) ≤ kept_bytes }
     {
-        let room = self.bytes.remaining_capacity();
-        let _ = self.bytes.try_extend_from_slice(first(bytes, room));
+        let at = self.length.min(Program::KEPT_BYTES);
+        let more = first(bytes, Program::KEPT_BYTES - at);
+        self.length = at + more.len();
+        self.bytes[at..self.length].copy_from_slice(more);
     }
 }

@@ -5,6 +5,7 @@ use Rattle.std.proofs.lemmas.Result.{MatchResult-at_ok}
 use mathlib.Core.Bool.{true, false, true≢false}
 use mathlib.Core.Path.{◌≡◌, refl, sym, ap, ap₂, subst, ◌∙◌}
 use mathlib.Core.List.{List, ◌++◌}
+use mathlib.Core.Logic.{⊎_elim}
 use Prim.Native.Nat.{ℕ, ◌+◌, ◌-◌, ◌≤◌, ◌<◌}
 use native.Mathlib.Omega.{arith}
 use borrow.Author.Tests.{lt-ltb, le-ltb, eq-eqb, ne_eqb}
@@ -19,6 +20,7 @@ use Rattle.semantics.specs.Propagation.{settle}
 use Rattle.semantics.specs.Meanings.{meaning_of}
 use Rattle.semantics.specs.Firing.{Firing, left_by_settling, fired, begun}
 use Rattle.scratch.specs.Blank.{unknown_cell, BlankFiring}
+use Rattle.waiting.proofs.Mentions.{le_or_lt}
 use Rattle.propagation.specs.Cells.{PropagationStands, flows_by_settling}
 use Rattle.results.specs.Results.{answered}
 use Rattle.engine.specs.Cells.{Loaded, LeftByChanging}
@@ -61,15 +63,14 @@ module _ {model : Model} {kinds : List ℕ} {parameters : List ℤ} {rows : List
     unfolding begun meaning_of
     begin_short h = rw (lt-ltb (length old) (length (variables d.decoded.system)) (omega (arith, length_all d)))
 
-    -- fewer cells than there are states
-    pub begin_few : model.sizes.states + model.sizes.flows ≤ length old → length ss < model.sizes.states
-        → answered (Err Disabled) old ≡ begun (meaning_of d.decoded.system) (take (meaning_of d.decoded.system).states ss) old
+    -- more or fewer values than there are states
+    pub begin_other : model.sizes.states + model.sizes.flows ≤ length old → (length ss ≡ model.sizes.states → ⊥)
+        → answered (Err Disabled) old ≡ begun (meaning_of d.decoded.system) ss old
     unfolding begun meaning_of
-    begin_few h few =
-        let n = length d.decoded.system.states in
+    begin_other h n =
         rw (
           le-ltb (length old) (length (variables d.decoded.system)) (omega (arith, length_all d)),
-          ne_eqb (length (take n ss)) n (λ e. omega (arith, e, length-take n ss, few, loaded_states d)),
+          ne_eqb (length ss) (length d.decoded.system.states) (λ e. n (e ∙ sym (loaded_states d))),
         )
 
     module _ (room : model.sizes.states + model.sizes.flows ≤ length old) (long : length ss ≡ model.sizes.states) where
@@ -123,6 +124,14 @@ module _ {model : Model} {kinds : List ℕ} {parameters : List ℤ} {rows : List
     begun_first cells e =
         let s : model.sizes.states - 0 ≡ length d.decoded.system.states = omega (arith, loaded_states d) in
         ap (λ ss. begun (meaning_of d.decoded.system) ss old) (e ∙ ap (λ s. take s cells) s)
+
+  -- fewer cells than there are states
+  pub begin_few : (cells old : List ℤ) → length cells < model.sizes.states
+      → answered (Err Disabled) old ≡ begun (meaning_of d.decoded.system) (take (meaning_of d.decoded.system).states cells) old
+  begin_few cells old few =
+      let n = (meaning_of d.decoded.system).states in
+      ⊎_elim (λ h. begin_other (take n cells) old h (λ e. omega (arith, e, length-take n cells, few))) (λ h. begin_short (take n cells) old h)
+      (le_or_lt (model.sizes.states + model.sizes.flows) (length old))
 
   -- ---- firing
 

@@ -7,12 +7,14 @@ ghost use Rattle.results.specs.Results.{answered};
 ghost use Rattle.expressions.specs.Cells.{valuation_of};
 ghost use Rattle.semantics.specs.Meanings.{guard_over};
 ghost use Rattle.semantics.specs.Firing.{fired, begun};
+ghost use Rattle.reading.specs.Readings.{SameCells};
 ghost use Rattle.propagation.specs.Lent.{BlankIn, BlankCellsIn};
 ghost use Rattle.engine.specs.Cells.{AllHeld, admission, LeftByChanging};
 ghost use Rattle.engine.specs.Lent.{LoadedIn, OnLoadedIn, BlankFiringIn, SameWork};
 
 use crate::{DecodedModel, LoadedModel, Work};
 use evaluation::Evaluation;
+use reading::Gathering;
 use rounds::IndexedTables;
 use semantics::{Firing, NotFired};
 use syntax::Cursor;
@@ -90,25 +92,27 @@ fn change_states(
     Ok(())
 }
 
-// The states take the first of the values worked in, then the assertion.
-pub fn begin(loaded: &LoadedModel<'_>, work: &mut Work<'_, '_>, values: &mut [i32]) -> Firing
-    requires { BlankCellsIn loaded.now.decoded.tables work.old.cells.now work.old.gathering.now }
-    ensures begun { OnLoadedIn loaded.now.decoded.tables (λ m. answered result values.new ≡ begun m (take m.states work.old.states.now) values.old) }
-    ensures blank { BlankCellsIn loaded.now.decoded.tables work.new.cells.now work.new.gathering.now }
-    ensures states { work.new.states.now ≡ work.old.states.now }
-    ensures same { SameWork work.old work.new }
+// The states take these values, then the assertion.
+pub fn begin_from(
+    loaded: &LoadedModel<'_>,
+    states: &[i32],
+    cells: &mut [Option<i32>],
+    gathering: &mut Gathering<'_>,
+    values: &mut [i32],
+) -> Firing
+    requires { BlankCellsIn loaded.now.decoded.tables cells.old gathering.old }
+    ensures begun { OnLoadedIn loaded.now.decoded.tables (λ m. answered result values.new ≡ begun m states.now values.old) }
+    ensures blank { BlankCellsIn loaded.now.decoded.tables cells.new gathering.new }
+    ensures same { SameCells gathering.old gathering.new }
 {
     let state_count = loaded.decoded.tables.model.sizes.states;
     let variable_count = loaded.decoded.tables.model.sizes.variables();
     if values.len() < variable_count {
         return Err(NotFired::Disabled);
     }
-    let states = &mut *work.states;
-    let cells = &mut *work.cells;
-    let gathering = &mut *work.gathering;
-    let Some(states) = states.get(..state_count) else {
+    if states.len() != state_count {
         return Err(NotFired::Disabled);
-    };
+    }
     let indexed = IndexedTables {
         tables: &loaded.decoded.tables,
         index: &loaded.index,
@@ -123,6 +127,23 @@ pub fn begin(loaded: &LoadedModel<'_>, work: &mut Work<'_, '_>, values: &mut [i3
     .map_err(NotFired::AssertionFault)?;
     values[..state_count].copy_from_slice(states);
     Ok(count)
+}
+
+// The states take the first of the values worked in, then the assertion.
+pub fn begin(loaded: &LoadedModel<'_>, work: &mut Work<'_, '_>, values: &mut [i32]) -> Firing
+    requires { BlankCellsIn loaded.now.decoded.tables work.old.cells.now work.old.gathering.now }
+    ensures begun { OnLoadedIn loaded.now.decoded.tables (λ m. answered result values.new ≡ begun m (take m.states work.old.states.now) values.old) }
+    ensures blank { BlankCellsIn loaded.now.decoded.tables work.new.cells.now work.new.gathering.now }
+    ensures states { work.new.states.now ≡ work.old.states.now }
+    ensures same { SameWork work.old work.new }
+{
+    let states = &mut *work.states;
+    let cells = &mut *work.cells;
+    let gathering = &mut *work.gathering;
+    let Some(states) = states.get(..loaded.decoded.tables.model.sizes.states) else {
+        return Err(NotFired::Disabled);
+    };
+    begin_from(loaded, states, cells, gathering, values)
 }
 
 // Guard, action, assertion; nothing is recorded.

@@ -22,8 +22,9 @@ fn read_model(files: &impl Files, file: &mut [u8; Program::FILE_BYTES]) -> usize
 // Answers each line that a part of the input ends. The stored programs are compared by the same loop; one function of both over a closure
 // would owe a contract over its calls, which is longer than the two.
 fn answer_part(rt: &impl Print, dialogue: &mut Dialogue, part: &[u8]) -> io::Result<()> {
-    for piece in part.split_inclusive(|byte| *byte == b'\n') {
-        dialogue.take_line(piece, 0);
+    let mut at = 0;
+    while at < part.len() {
+        at = dialogue.take_line(part, at);
         rt.write_all(dialogue.printed())?;
     }
     Ok(())

@@ -76,6 +76,9 @@ module _ (size width number : ℕ) where
   pub short_of_header : size < 24 → true ≡ ltb size (room width number)
   short_of_header h = sym (lt-ltb size (room width number) (omega arith))
 
+  pub enough_for_none : 24 ≤ size → width ≡ 0 → false ≡ ltb size (room width number)
+  enough_for_none h w = sym (le-ltb size (room width number) (rw w (omega arith)))
+
   pub short_of_numbers : 24 ≤ size → 0 < width → ltb ((size - 24) / width) number ≡ ltb size (room width number)
   short_of_numbers h w = by (ltb ((size - 24) / width) number) refl
     where

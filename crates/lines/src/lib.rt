@@ -12,8 +12,8 @@ ghost use Rattle.tapes.specs.Tapes.{tape_in, put_all};
 use itoa::{Buffer, Integer};
 use tapes::Tape;
 
-// `ok`, a space, 20 digits and the line feed.
-const BASE_WIDTH: usize = 24;
+// What a line has beside its values or marks: `ok`, a space, 20 digits and the line feed.
+pub const BASE_WIDTH: usize = 24;
 
 // A number that stands in a line after a space.
 pub trait Field: Copy {
@@ -45,7 +45,7 @@ impl Field for i32 {
 
     #[tactic(auto, using(crate::proofs::Decimal::printed_signed, crate::proofs::Room::signed_length))]
     fn put(self, tape: &mut Tape<'_, u8>) {
-        put_number(self, tape);
+        put_number(self, tape); // its sign too
     }
 }
 
@@ -98,15 +98,25 @@ fn put_fields<T: Field>(fields: &[T], tape: &mut Tape<'_, u8>)
     }
 }
 
-// Is a slice of this length too short for a line with so many fields?
-#[tactic(auto, using(crate::proofs::Room::short_of_header, crate::proofs::Room::short_of_numbers))]
-pub fn is_short<T: Field>(length: usize, number: usize) -> bool
-    ensures { result ≡ ltb length (room T.WIDTH number) }
+// Is a slice of this length too short for a line with so many numbers of this width?
+#[tactic(auto, using(crate::proofs::Room::short_of_header, crate::proofs::Room::enough_for_none, crate::proofs::Room::short_of_numbers))]
+pub fn is_short_for(length: usize, width: usize, number: usize) -> bool
+    ensures { result ≡ ltb length (room width number) }
 {
     if length < BASE_WIDTH {
         return true;
     }
-    (length - BASE_WIDTH) / T::WIDTH < number
+    if width == 0 {
+        return false;
+    }
+    (length - BASE_WIDTH) / width < number
+}
+
+// Is a slice of this length too short for a line with so many fields?
+pub fn is_short<T: Field>(length: usize, number: usize) -> bool
+    ensures { result ≡ ltb length (room T.WIDTH number) }
+{
+    is_short_for(length, T::WIDTH, number)
 }
 
 // A word, a number, if there is one, and fields: how many bytes the line has; none, with nothing stored, if the slice is too

@@ -1,7 +1,6 @@
 -- Pick, by the tests that the code makes: it looks at one guard after another, and on a file it answers alone.
 use mathlib.Core.Path.{◌≡◌, refl, sym, ap, ap₂, ◌∙◌}
-use mathlib.Core.Bool.{true, false, cond}
-use Rattle.std.proofs.lemmas.Bool.{true≢false}
+use mathlib.Core.Bool.{true, cond}
 use mathlib.Core.List.{List}
 use Rattle.std.specs.Prelude.{Option, Some, None}
 use Prim.Native.Nat.{ℕ, suc, ◌+◌, ◌-◌, ◌≤◌, ◌<◌}
@@ -10,10 +9,6 @@ use native.Mathlib.Omega.{arith}
 use borrow.Author.Tests.{eq-eqb, ne_eqb, le-ltb}
 use lib.Dec.{eqb}
 use lib.IntN.{ℤ}
-use Rattle.evaluation.specs.declared.Evaluation.{Evaluation}
-use Rattle.evaluation.specs.declared.Evaluation.TheVariants.{Unknown, Failed, Value}
-use Rattle.evaluation.specs.Numbers.{eq_z, boolean}
-use Rattle.evaluation.specs.Meaning.{is_true}
 use lib.ListN.{length, take}
 use Rattle.model.specs.Check.{Verdict}
 use Rattle.model.specs.Check.Verdict.{refusal, accepted}
@@ -72,22 +67,6 @@ pub all_marks : (m : Meaning) (values : List ℤ) (used total : ℕ) → used �
 all_marks m values used total e q =
     let all : total - 0 ≡ m.transitions = omega (arith, q) in
     ap₂ (λ u n. first_fireable (marks_from m (take u values) 0 n) 0) e all
-
--- ---- the mark of a guard that is true, and of another
-
-pub marked_true : (g : Evaluation) → is_true g ≡ true → mark_of g ≡ 1
-unfolding mark_of is_true
-marked_true Unknown e = absurd (true≢false (sym e))
-marked_true (Failed manner) e = absurd (true≢false (sym e))
-marked_true (Value v) e = ap (λ t. cond t 1 0) e
-
-pub marked_other : (g : Evaluation) → is_true g ≡ false → mark_of g ≡ 1 → ⊥
-unfolding mark_of is_true
-marked_other Unknown e h = omega (arith, h)
-marked_other (Failed manner) e h = omega (arith, h)
-marked_other (Value v) e h =
-    let n : ◌≡◌ {A = ℕ} (cond (eq_z v (boolean true)) 1 0) 0 = ap (λ t. cond t 1 0) e in
-    omega (arith, n, h)
 
 -- ---- an answer alone
 

@@ -36,7 +36,7 @@ fn pick_loaded(
     // By a loop: a `find` was tried, and what its test ensures was out of reach of the proof.
     for transition in 0..declared.transitions {
         let guard = transitions::guard(decoded, cells, transition);
-        if guard.is_true() {
+        if marking::mark_of(guard) == 1 {
             return Ok(Some(transition));
         }
     }

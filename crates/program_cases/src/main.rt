@@ -37,8 +37,9 @@ impl From<[u8; 12]> for Head {
 // The program prints by the same loop.
 fn answer_part<'a>(wanted: &'a [u8], dialogue: &mut Dialogue, part: &[u8]) -> Option<&'a [u8]> {
     let mut rest = wanted;
-    for piece in part.split_inclusive(|byte| *byte == b'\n') {
-        dialogue.take_line(piece, 0);
+    let mut at = 0;
+    while at < part.len() {
+        at = dialogue.take_line(part, at);
         rest = rest.strip_prefix(dialogue.printed())?;
     }
     Some(rest)

@@ -2,7 +2,7 @@
 use mathlib.Core.Path.{◌≡◌, refl, sym, ap, ◌∙◌}
 use mathlib.Core.Bool.{Bool, true, false, cond}
 use mathlib.Core.List.{List, []}
-use Prim.Native.Nat.{ℕ, suc, ◌+◌, ◌-◌}
+use Prim.Native.Nat.{ℕ, zero, suc, ◌+◌, ◌-◌}
 use native.Mathlib.Numerals.{add-one}
 use lib.IntN.{ℤ}
 use lib.ListN.{set}
@@ -23,6 +23,7 @@ use Rattle.marking.specs.Marks.{marks_over}
 use Rattle.steps.specs.Calls as calls
 use Rattle.steps.specs.Calls.{answer_of, step_on}
 use Rattle.replaying.specs.Replays.{is_fired, initial}
+use Rattle.replaying.proofs.Tests.{clash}
 use Rattle.steps.specs.Lent.{Cells, cells_left}
 use Rattle.steps.specs.Answers.{seen_as, told_by, on_file}
 use Rattle.run.proofs.Cases.{start_cases, fire_cases, undo_cases}
@@ -99,6 +100,12 @@ module _ (m : Meaning) (values : List ℤ) (marks history : List ℕ) (n : ℕ) 
       go false false true = refl
       go false false false = refl
 
+-- an undo tells no round count
+undo_no_rounds : (m : Meaning) (r : Run) (k : ℕ) → rounds k ≡ (calls.undo m r).answer → ⊥
+undo_no_rounds m r k =
+    undo_cases m r (λ d. rounds k ≡ d.answer → ⊥) (λ i o e. clash cc) (λ h e. clash cc) (λ some-step f e. clash cc)
+    (λ held some-step values f e. clash cc)
+
 -- ---- on a file
 
 module _ (v : Verdict) (values : List ℤ) (marks history : List ℕ) (n : ℕ) (a : Answer) (new : List ℤ) (marked : List ℕ) where
@@ -130,6 +137,11 @@ module _ (v : Verdict) (values : List ℤ) (marks history : List ℕ) (n : ℕ) 
       go : (v : Verdict) → after_undo history n (cells_left (on_file v (λ m. step_on m Undo (run values marks history n)) (run values marks history n))) ≡ on_file v (λ m. calls.undo m (run values marks history n)) (run values marks history n)
       go (refusal k) = refl
       go (accepted z s) = sym (undo_follows (meaning_of s) values marks history n)
+
+undo_no_rounds_on_file : (v : Verdict) (r : Run) (k : ℕ) → rounds k ≡ (on_file v (λ m. calls.undo m r) r).answer → ⊥
+unfolding on_file
+undo_no_rounds_on_file (refusal i) r k e = clash cc
+undo_no_rounds_on_file (accepted z s) r k e = undo_no_rounds (meaning_of s) r k e
 
 -- ---- the code's answers on a file
 
@@ -168,9 +180,17 @@ module _ (v : Verdict) (values : List ℤ) (marks history : List ℕ) (n : ℕ) 
     fire_kept k q = fire_on_file v values marks history n (refused (number_of k)) new marked t (rw q at e)
 
   module _ (r : Result ℕ Refusal) (e : Advanced Undo r (run values marks history n)) where
+    -- an undo that is done answers 0
+    pub undo_zero : (k : ℕ) → r ≡ Ok k → r ≡ Ok 0
+    unfolding told_by count_after_undo
+    undo_zero zero q = q
+    undo_zero (suc k) q =
+        absurd (undo_no_rounds_on_file v (run values marks history n) (suc k)
+        (ap (λ (d : runs.Done Run). d.answer) (undo_on_file v values marks history n (rounds (suc k)) new marked (rw q at e))))
+
     pub undo_counted : (k : ℕ) → r ≡ Ok k → answered done (run new marked history (n - 1)) ≡ on_file v (λ m. calls.undo m (run values marks history n)) (run values marks history n)
     unfolding told_by count_after_undo
-    undo_counted k q = undo_on_file v values marks history n done new marked (rw q at e)
+    undo_counted k q = undo_on_file v values marks history n done new marked (rw (undo_zero k q) at e)
 
     pub undo_kept : (k : Refusal) → r ≡ Err k
         → answered (refused (number_of k)) (run new marked history n) ≡ on_file v (λ m. calls.undo m (run values marks history n)) (run values marks history n)

@@ -20,7 +20,7 @@ use Rattle.steps.specs.Answers.{seen_as, told_by, on_file}
 use Rattle.steps.specs.Calls as calls
 use Rattle.run.specs.Lists.{Promise}
 use Rattle.run.specs.Promises.{told, StartPromise, FirePromise, PerformPromise}
-use Rattle.run.proofs.Following.{Advanced, fire_on_file, undo_on_file}
+use Rattle.run.proofs.Following.{Advanced, fire_on_file, undo_on_file, undo_zero}
 use Rattle.run.proofs.Reached.{start_reached, fire_reached, undo_reached}
 use Rattle.run.proofs.Bounds.{bounded, fire_fits, undo_fits}
 
@@ -64,4 +64,5 @@ pub undo_allowed : (m : List ℕ) (values : List ℤ) (marks history : List ℕ)
 unfolding told_by
 undo_allowed m values marks history n r new marked count q e =
     let s = store (run values marks history n) [] in
-    undo_fits m s (answer_of_lem (undo_reached m s done _ (undo_on_file (verdict m) values marks history n done new marked (rw q at e))))
+    let zero_answered = undo_zero (verdict m) values marks history n new marked r e count q in
+    undo_fits m s (answer_of_lem (undo_reached m s done _ (undo_on_file (verdict m) values marks history n done new marked (rw zero_answered at e))))

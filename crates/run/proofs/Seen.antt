@@ -1,6 +1,6 @@
 -- Different answers of the code never look alike: what they tell has an inverse, and no two refusals have one number.
 use mathlib.Core.Path.{◌≡◌, refl, sym, ap, ◌∙◌}
-use Prim.Native.Nat.{ℕ}
+use Prim.Native.Nat.{ℕ, zero, suc}
 use lib.IntN.{ℤ, pos}
 use Rattle.std.specs.Prelude.{Option, None}
 use Rattle.std.proofs.Common.{Ok, Err}
@@ -13,7 +13,10 @@ use Rattle.run.specs.declared.Answer as declared
 use Rattle.run.specs.declared.Answer.TheVariants.{Rounds, Done, Number, Sizes, Picked, Outside}
 use Rattle.standing.specs.Runs.{Answer}
 use Rattle.standing.specs.Runs.Answer.{refused, rounds, done, number, sizes, picked, outside}
+use Rattle.replaying.specs.declared.Move.{Move}
+use Rattle.replaying.specs.declared.Move.TheVariants.{Start, Fire, Undo}
 use Rattle.replaying.proofs.Tests.{clash}
+use Rattle.steps.specs.Answers.{told_by}
 use Rattle.steps.proofs.NumbersApart.{refused_same}
 use Rattle.run.specs.Promises.{told}
 use Rattle.run.specs.Theorems.{Distinct, SeenDistinct}
@@ -76,6 +79,21 @@ range_in : Answer → RangeCheck
 range_in (outside o looked) = record { outside = o; looked = looked }
 range_in _ = record { outside = None; looked = 0 }
 
+-- the number that a move answered has the number back from what it tells, and tells no refusal
+number_back : (s : Move) (n : ℕ) → count_in (told_by s n) ≡ n
+unfolding count_in told_by
+number_back Start n = refl
+number_back (Fire t) n = refl
+number_back Undo zero = refl
+number_back Undo (suc n) = refl
+
+move_not_refused : (s : Move) (n k : ℕ) → told_by s n ≡ refused k → ⊥
+unfolding told_by
+move_not_refused Start n k e = clash cc
+move_not_refused (Fire t) n k e = clash cc
+move_not_refused Undo zero k e = clash cc
+move_not_refused Undo (suc n) k e = clash cc
+
 pub seen_distinct : SeenDistinct
 unfolding count_in value_in sizes_in choice_in range_in
 seen_distinct =
@@ -87,4 +105,5 @@ seen_distinct =
       valued = distinct number value_in (λ v. refl) (λ v n e. clash cc);
       chosen = distinct picked choice_in (λ o. refl) (λ o n e. clash cc);
       looked = distinct told_outside range_in (λ c. refl) (λ c n e. clash cc);
+      moved = λ s. distinct (told_by s) count_in (number_back s) (move_not_refused s);
     }

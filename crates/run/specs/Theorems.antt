@@ -15,7 +15,7 @@ use Rattle.replaying.specs.declared.Move.{Move}
 use Rattle.steps.specs.Calls.{step_on}
 use Rattle.marking.specs.Marks.{HoldsMarks}
 use Rattle.run.specs.Lists.{calls_of, Promise, Performed, last_left}
-use Rattle.steps.specs.Answers.{seen_as}
+use Rattle.steps.specs.Answers.{seen_as, told_by}
 use Rattle.inspection.specs.Asked.{told_outside}
 use Rattle.run.specs.Promises.{seen_check, told, CheckPromise, StartPromise, FirePromise, UndoPromise, MarksPromise, ValuePromise, PickPromise, FirstOutsidePromise}
 
@@ -109,7 +109,7 @@ abbrev pub Distinct : {A : Type 0} → (A → Answer) → Type 0
 Distinct {A} f = (a b : Result A Refusal) → seen_as f a ≡ seen_as f b → a ≡ b
 
 -- different answers of the code never look alike: of a call of a list, of check, of start and fire, of undo and marks, of value, of pick,
--- of first outside
+-- of first outside, of each move
 pub record SeenDistinct : Type 0 where
   pub listed : Distinct told
   pub checked : Distinct sizes
@@ -118,3 +118,4 @@ pub record SeenDistinct : Type 0 where
   pub valued : Distinct number
   pub chosen : Distinct picked
   pub looked : Distinct told_outside
+  pub moved : (s : Move) → Distinct (told_by s)

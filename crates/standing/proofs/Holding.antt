@@ -18,7 +18,7 @@ use Rattle.model.specs.Trees.{Variable}
 use Rattle.variables.specs.declared.VariableRow.{VariableRow}
 use Rattle.variables.specs.Rows.{variable_rows, within_row}
 use Rattle.variables.proofs.Columns.{blank}
-use Rattle.standing.specs.Holding.{ends_of, first_outside, all_below}
+use Rattle.standing.specs.Holding.{ends_of, first_outside, looked_at, all_below}
 
 -- ---- the values
 
@@ -72,6 +72,10 @@ module _ (rows : List VariableRow) (values : List ℤ) where
     pub all_within : i ≤ length rows → length rows ≤ i → None ≡ whole
     all_within below past = sym (left ∙ ended rows values i i past)
 
+    pub all_looked : i ≤ length rows → length rows ≤ i → looked_at (length rows) whole ≡ length rows
+    unfolding looked_at
+    all_looked below past = rw (← all_within below past)
+
     -- the value is there and within, or not
     module _ (h : i < length rows) (given : Option (Bor ℤ)) (got : IsItemAt values i given) (b : Bool)
         (none : given ≡ None → b ≡ false) (some : (value : Bor ℤ) → given ≡ Some value → b ≡ within_row (get_or rows i blank) value.now) where
@@ -88,6 +92,10 @@ module _ (rows : List VariableRow) (values : List ℤ) where
 
       pub outside_there : not b ≡ true → Some i ≡ whole
       outside_there e = let o : b ≡ false = not-true b e in sym (rw o at decided)
+
+      pub looked_there : not b ≡ true → looked_at (length rows) whole ≡ suc i
+      unfolding looked_at
+      looked_there e = rw (← outside_there e)
 
       pub goes_on : not b ≡ false → Left (i + 1)
       goes_on e = let o : b ≡ true = not-false b e in rw (add-one i) (rw o at decided)

@@ -58,33 +58,28 @@ pub struct RangeCheck {
     pub looked: usize,
 }
 
-// The first variable outside its ends, or none; no value after that one is looked at. A value that is missing is outside.
+// The first variable outside its ends finishes the check; no value after that one is looked at. A value that is missing is outside.
 // By a loop: the test of a `find` would look at the second slice too, and owe a contract, which is longer.
-fn first_outside(variables: &[VariableRow], values: &[i32]) -> Option<usize>
-    ensures first { result ≡ first_outside (map ends_of variables.now) values.now 0 }
-    ensures declared { IfSome result (λ x. x < length variables.now) }
-{
-    for (variable, row) in variables.iter().enumerate() {
-        if !values
-            .get(variable)
-            .is_some_and(|value| row.is_within(*value))
-        {
-            return Some(variable);
-        }
-    }
-    None
-}
-
-// The first variable outside its ends, and how many values were looked at to find it: its own too, or all.
-#[tactic(auto, unfolding(crate::specs::Holding::looked_at))]
 pub fn check_ranges(variables: &[VariableRow], values: &[i32]) -> RangeCheck
     ensures outside { result.outside ≡ first_outside (map ends_of variables.now) values.now 0 }
     ensures looked { result.looked ≡ looked_at (length variables.now) (first_outside (map ends_of variables.now) values.now 0) }
 {
-    let outside = first_outside(variables, values);
+    let mut looked = 0;
+    for (variable, row) in variables.iter().enumerate() {
+        looked += 1; // this one too, whatever its value is
+        if !values
+            .get(variable)
+            .is_some_and(|value| row.is_within(*value))
+        {
+            return RangeCheck {
+                outside: Some(variable),
+                looked,
+            };
+        }
+    }
     RangeCheck {
-        outside,
-        looked: outside.map_or(variables.len(), |variable| variable + 1),
+        outside: None,
+        looked,
     }
 }
 

@@ -38,14 +38,14 @@ fn refusal_of(reason: NotFired) -> Refusal
     }
 }
 
-// The answer to what was fired last: the round count, which means nothing of an undo, or why it was not fired; an undo is refused with 31.
+// The answer to what was fired last: the round count, or why it was not fired. An undo answers 0, or is refused with 31.
 #[tactic(auto, unfolding(crate::specs::Lent::answer_to, crate::specs::Answers::told_by, crate::specs::Calls::answer_of, results::specs::Refusals::number_of))]
 pub fn answer_to(step: Move, firing: Firing) -> Result<usize, Refusal>
     ensures { seen_as (told_by step) result ≡ answer_to step firing }
 {
     match step {
         Move::Start | Move::Fire(_) => firing.map_err(refusal_of),
-        Move::Undo => firing.map_err(|_| Refusal::NotReplayable),
+        Move::Undo => firing.map(|_| 0).map_err(|_| Refusal::NotReplayable),
     }
 }
 

@@ -1,52 +1,13 @@
--- A start from given states: the assertion, and what it settles on is stored.
+-- A start from the first of the states worked in.
 use native.Mathlib.Omega.{arith}
-use mathlib.Core.Path.{◌≡◌, ◌∙◌}
-use Rattle.semantics.specs.declared.NotFired.TheVariants.{AssertionFault}
-use Rattle.std.proofs.lemmas.Result.{err_from_is_err_and, MatchResult-at_err}
-use Rattle.engine.proofs.Accepted.{loaded_in}
-use Rattle.engine.proofs.Guards.{few_variables}
-use Rattle.engine.proofs.Firings.{begin_short, begin_few, flows_stand, begin_refused, begin_settled, begun_first, err_of, ok_of}
-use Prim.Native.Nat.{◌+◌, ◌≤◌}
-use lib.ListN.{length}
+use mathlib.Core.Path.{◌∙◌}
+use Rattle.engine.proofs.Firings.{begin_few, begun_first}
 use Rattle.engine.proofs.transitions.begin.Goals as goal
-
-pub variables-variable_count-requires : goal.variables-variable_count-requires
-variables-variable_count-requires c = omega (arith, few_variables (loaded_in c.args.loaded.now.decoded))
-
-pub returns-then-values-variable_count-clause-begun : goal.returns-then-values-variable_count-clause-begun
-returns-then-values-variable_count-clause-begun c =
-    λ d. begin_short d _ c.args.values.now (omega (arith, c.variables-variable_count.ensures, c.if-values-variable_count.true))
 
 pub returns-in_default-clause-begun : goal.returns-in_default-clause-begun
 returns-in_default-clause-begun c =
-    λ d. begin_few d c.args.work.now.states.now c.args.values.now (omega (arith, c.variables-variable_count.ensures, c.if-values-variable_count.false)) (omega (arith, c.in_default.ensures.lookup.0))
-
-pub propagate-requires : goal.propagate-requires
-propagate-requires c =
-    let first = c.in-Some.ensures.lookup.0 in
-    (flows_stand (loaded_in c.args.loaded.now.decoded) c.in-Some.states.now c.args.values.now (omega (arith, c.variables-variable_count.ensures, c.if-values-variable_count.false)) (omega (arith, first.3)) _ c.variables-variable_count.ensures, c.requires)
-
-pub returns-in_err-count-clause-begun : goal.returns-in_err-count-clause-begun
-returns-in_err-count-clause-begun c =
-    let p = c.propagate in
-    let first = c.in-Some.ensures.lookup.0 in
-    let states = c.in-Some.states.now in
-    let values = c.args.values.now in
-    let room : c.args.loaded.now.decoded.tables.model.sizes.states + c.args.loaded.now.decoded.tables.model.sizes.flows ≤ length values = omega (arith, c.variables-variable_count.ensures, c.if-values-variable_count.false) in
-    let long : length states ≡ c.args.loaded.now.decoded.tables.model.sizes.states = omega (arith, first.3) in
-    let e = err_from_is_err_and c.from_residual.result c.from_residual.ensures.1 in
-    let was = err_of p.result c.map_err.result c.map_err.ensures.variant c.in_err-count.was in
-    let m = err_from_is_err_and c.map_err.result (MatchResult-at_err _ _ was.0 was.1 c.map_err.ensures.cases) in
-    let told : e.0 ≡ AssertionFault was.0 = cc (e.2, c.in_err-count.was, m.1, m.2) in
-    λ d. rw (e.1, told) (begin_refused d states values room long _ c.variables-variable_count.ensures p.result p.new.flows (p.ensures.settled (flows_stand d states values room long _ c.variables-variable_count.ensures)) was.0 was.1 ∙ begun_first d states values c.args.work.now.states.now first.2)
+    λ d. begin_few d c.args.work.now.states.now c.args.values.now (omega (arith, c.in_default.ensures.lookup.0))
 
 pub returns-clause-begun : goal.returns-clause-begun
 returns-clause-begun c =
-    let p = c.propagate in
-    let first = c.in-Some.ensures.lookup.0 in
-    let states = c.in-Some.states.now in
-    let values = c.args.values.now in
-    let room : c.args.loaded.now.decoded.tables.model.sizes.states + c.args.loaded.now.decoded.tables.model.sizes.flows ≤ length values = omega (arith, c.variables-variable_count.ensures, c.if-values-variable_count.false) in
-    let long : length states ≡ c.args.loaded.now.decoded.tables.model.sizes.states = omega (arith, first.3) in
-    let was = ok_of p.result c.map_err.result c.map_err.ensures.variant _ c.map_err.ensures.cases c.in_ok-count.was in
-    λ d. begin_settled d states values room long _ c.variables-variable_count.ensures p.result p.new.flows (p.ensures.settled (flows_stand d states values room long _ c.variables-variable_count.ensures)) _ was _ c.copy_from_slice.ensures.after ∙ begun_first d states values c.args.work.now.states.now first.2
+    λ d. c.begin_from.ensures.begun d ∙ begun_first d c.in-Some.states.now c.args.values.now c.args.work.now.states.now c.in-Some.ensures.lookup.0.2
