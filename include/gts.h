@@ -85,7 +85,7 @@ extern "C" {
 #define GTS_FIGURES 3      /* of `figures`, for each row */
 
 /* The stack that a call on a run, gts_check, gts_windows or gts_rewrite needs, in bytes: the most that was measured is
- * 319,712 (README), rounded up. A thread whose stack is smaller must not make the call. The arrays have fixed sizes, and
+ * 319,648 (README), rounded up. A thread whose stack is smaller must not make the call. The arrays have fixed sizes, and
  * recursion goes by depth, at most GTS_MAX_DEPTH. */
 #define GTS_STACK_BYTES 327680
 
@@ -93,7 +93,7 @@ extern "C" {
  * depth, at most GTS_MAX_DEPTH. */
 #define GTS_SYNCHRONISE_STACK_BYTES 204800
 
-/* The stack that gts_text needs: the most that was measured is 75,480 (README), with room to spare. Recursion goes by parts of a
+/* The stack that gts_text needs: the most that was measured is 72,248 (README), with room to spare. Recursion goes by parts of a
  * text that stand in one another, in at most GTS_MAX_TEXT bytes. */
 #define GTS_TEXT_STACK_BYTES 122880
 

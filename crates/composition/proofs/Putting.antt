@@ -1,9 +1,12 @@
 -- Nodes put in before those of a part.
-use mathlib.Core.Path.{◌≡◌, ap, ◌∙◌}
+use mathlib.Core.Path.{◌≡◌, sym, ap, ◌∙◌}
 use mathlib.Core.List.{List, [], ◌∷◌, ◌++◌}
-use Prim.Native.Nat.{ℕ, ◌≤◌}
-use lib.ListN.{length, take, drop}
-use lib.Seq.{take_at, drop_at, length-take-le}
+use Prim.Native.Nat.{ℕ, suc, ◌+◌, ◌≤◌, ◌<◌}
+use native.Mathlib.Numerals.{add-one}
+use native.Mathlib.Omega.{arith}
+use lib.ListN.{length, take, drop, set, get_or, length-drop, drop_of_length-le}
+use lib.Seq.{take_at, drop_at, length-take-le, take-suc, take-suc-set, drop-cons, drop-drop}
+use Rattle.std.proofs.lemmas.List.{get_or-drop, drop-set-lt}
 use Rattle.std.proofs.Common.{Option}
 use Rattle.kinds.specs.declared.kind.Kind.TheVariants as kind
 use Rattle.kinds.specs.declared.Sort.{Sort}
@@ -43,3 +46,32 @@ module _ (old : List Node) (c : Token) (sort : Option Sort) (from : ℕ) where
       let cells : plain kind.Negation ∷ plain (operator_kind c sort) ∷ [] ≡ operator_cells c sort = rw e in
       put_before (take from old) from (length-take-le from old h) middle (plain (operator_kind c sort) ∷ own) new (plain kind.Negation ∷ []) first second
       ∙ ap (λ l. take from old ++ (l ++ own)) cells
+
+-- ---- nodes that move up by one place, before which the last one comes
+
+module _ {A : Type 0} (l old : List A) (first carried : A) (i : ℕ) (h : i < length l) (moved : take i l ≡ take i (first ∷ old))
+    (next : carried ∷ drop i l ≡ drop i (first ∷ old)) where
+  below : i < length (first ∷ old)
+  below = omega (arith, ap length next, length-drop i (first ∷ old))
+
+  here : carried ≡ get_or (first ∷ old) i carried
+  here = ap (λ m. get_or m 0 carried) next ∙ get_or-drop i (first ∷ old) 0 carried ∙ ap (λ n. get_or (first ∷ old) n carried) (omega arith)
+
+  pub one_more_moved : take (i + 1) (set l i carried) ≡ take (i + 1) (first ∷ old)
+  one_more_moved =
+      rw (add-one i) (take-suc-set l i carried h ∙ ap (λ m. m ++ (carried ∷ [])) moved
+      ∙ ap (λ a. take i (first ∷ old) ++ (a ∷ [])) here ∙ sym (take-suc (first ∷ old) i carried below))
+
+  rest : drop i l ≡ drop (suc i) (first ∷ old)
+  rest = ap (drop 1) next ∙ drop-drop 1 i (first ∷ old) ∙ ap (λ n. drop n (first ∷ old)) (add-one i)
+
+  pub next_carried : (d : A) → get_or l i d ∷ drop (i + 1) (set l i carried) ≡ drop (i + 1) (first ∷ old)
+  next_carried d =
+      rw (add-one i) (ap (λ m. get_or l i d ∷ m) (drop-set-lt (suc i) l i carried (omega arith)) ∙ sym (drop-cons l i d h) ∙ rest)
+
+pub all_moved : {A : Type 0} (old : List A) (last : ℕ) (d : A) → last + 1 ≡ length old
+    → take (last + 1) (get_or old last d ∷ old) ≡ drop last old ++ take last old
+all_moved old last d e =
+    let ended : length old ≤ suc last = omega arith in
+    let none : drop (suc last) old ≡ [] = drop_of_length-le old ended in
+    rw (add-one last) (sym (ap (λ m. m ++ take last old) (drop-cons old last d (omega arith) ∙ ap (λ m. get_or old last d ∷ m) none)))

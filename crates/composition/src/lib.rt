@@ -157,6 +157,30 @@ impl Default for Node {
     }
 }
 
+// Exchanges the first `first` nodes with the others: each of the two runs is turned round, and then both at once. With `rotate_left` here, or
+// the vector's `insert` in place of `bring_forward`, the archive for C would need `memmove` from outside.
+fn exchange(nodes: &mut [Node], first: usize)
+    requires { first ≤ length nodes.old }
+    ensures { nodes.new ≡ drop first nodes.old ++ take first nodes.old }
+{
+    nodes[..first].reverse();
+    nodes[first..].reverse();
+    nodes.reverse();
+}
+
+// The last node comes before the others, each of which moves up by one place.
+fn bring_forward(nodes: &mut [Node], last: usize)
+    requires { last + 1 ≡ length nodes.old }
+    ensures { nodes.new ≡ drop last nodes.old ++ take last nodes.old }
+{
+    let mut carried = nodes[last];
+    for i in 0..nodes.len() {
+        let own = nodes[i];
+        nodes[i] = carried;
+        carried = own;
+    }
+}
+
 // A part is composed of others, whose nodes stand one after another, those of the last one last.
 impl Part {
     // Puts a node of this kind before the part's.
@@ -165,7 +189,10 @@ impl Part {
         ensures count { length (written nodes.new) ≡ length (written nodes.old) + 1 }
         ensures nodes { written nodes.new ≡ take self.from (written nodes.old) ++ (plain kind ∷ drop self.from (written nodes.old)) }
     {
-        nodes.insert(usize::from(self.from), Node { kind, parameter: 0 });
+        let from = usize::from(self.from);
+        let end = nodes.len();
+        nodes.push(Node { kind, parameter: 0 });
+        bring_forward(&mut nodes.as_mut_slice()[from..], end - from);
     }
 
     // Puts the nodes of an operator before those of its operands, of which the part is the left one.
@@ -192,7 +219,10 @@ impl Part {
     {
         if is_greater(operator) {
             let from = usize::from(self.from);
-            nodes.as_mut_slice()[from..].rotate_left(usize::from(right.from) - from);
+            exchange(
+                &mut nodes.as_mut_slice()[from..],
+                usize::from(right.from) - from,
+            );
         }
     }
 

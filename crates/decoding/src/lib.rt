@@ -269,6 +269,8 @@ pub fn check_expression(model: &[u8], tree: &Tree, wanted: Sort) -> Result<(), R
     ensures { result ≡ given_after (verdict model.now) tree.now.kinds.now tree.now.parameters.now (Some wanted) }
 {
     let mut sorts = [Sort::Boolean; Model::MAX_VARIABLES];
-    let sizes = sorts_of(model, &mut sorts)?;
-    check::check_over_sorts(tree, &sorts[..sizes.variables()], wanted)
+    match sorts_of(model, &mut sorts) {
+        Err(refusal) => Err(refusal),
+        Ok(found) => check::check_over_sorts(tree, &sorts[..found.variables()], wanted),
+    }
 }

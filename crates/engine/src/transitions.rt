@@ -77,7 +77,7 @@ fn change_states(
     let gathering = &mut *work.gathering;
     let evaluation = guard(decoded, cells, transition);
     admit(evaluation)?;
-    states[..state_count].copy_from_slice(&values[..state_count]);
+    results::copy(&values[..state_count], &mut states[..state_count]);
     let action = tables.action_at(transition);
     if let Err(fault) = propagation::act(
         tables,
@@ -125,7 +125,7 @@ pub fn begin_from(
         &mut values[state_count..variable_count],
     )
     .map_err(NotFired::AssertionFault)?;
-    values[..state_count].copy_from_slice(states);
+    results::copy(states, &mut values[..state_count]);
     Ok(count)
 }
 

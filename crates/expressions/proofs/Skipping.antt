@@ -62,9 +62,9 @@ two_operands Remainder = refl
 two_operands Equivalence = refl
 
 -- the children of the row that was read
-pub counted : (ks : List ℕ) (here : ℕ) {r : Row} → r ≡ row_of (get_or ks here 0) → r.children ≡ children_of (get_or ks here 0)
+pub counted : (kind : ℕ) {r : Row} → r ≡ row_of kind → r.children ≡ children_of kind
 unfolding row_of
-counted ks here e = ap (λ r. r.children) e
+counted kind e = ap (λ r. r.children) e
 
 module _ (ks : List ℕ) (ps : List ℤ) where
   -- the expressions stand one after the other from the place on

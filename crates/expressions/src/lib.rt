@@ -4,6 +4,7 @@
 
 ghost use Rattle.std.specs.Prelude.{◌≡◌, List, ◌+◌, ◌<◌, ℤ, get_or};
 ghost use Rattle.evaluation.specs.Meaning.{chosen};
+ghost use Rattle.kinds.specs.Kinds.{children_of};
 ghost use Rattle.model.specs.Trees.{Expression};
 ghost use Rattle.model.specs.Standing.{ExpressionAt, size_of_expression};
 ghost use Rattle.expressions.specs.Expressions.{evaluation_of};
@@ -60,6 +61,14 @@ fn leaf(kinds: &[u8], parameters: &[i32], cells: &[Option<i32>], at: usize) -> E
     }
 }
 
+// How many children the node of an expression has.
+#[tactic(auto, using(crate::proofs::Skipping::counted), unfolding(kinds::specs::Kinds::children_of))]
+fn children(kind: u8) -> u8
+    ensures { result ≡ children_of kind }
+{
+    kinds::row_of(kind).children
+}
+
 // The place after the expression at place `at`: its nodes are counted, none is evaluated.
 fn past(kinds: &[u8], at: usize) -> usize
     requires { KindsStand kinds.now at }
@@ -69,7 +78,7 @@ fn past(kinds: &[u8], at: usize) -> usize
     let mut due: usize = 1;
     // Which node comes next is known only once this one is read, so there is no sequence to go over.
     while 0 < due {
-        due = due - 1 + usize::from(kinds::row_of(kinds[here]).children);
+        due = due - 1 + usize::from(children(kinds[here]));
         here += 1;
     }
     here

@@ -62,7 +62,7 @@ fn marks_in<const NODES: usize, const VARIABLES: usize>(
         return Err(Refusal::ShortSlice);
     }
     run.check(&declared)?;
-    buffer[..transitions].copy_from_slice(&run.marks[..transitions]);
+    results::copy(&run.marks[..transitions], &mut buffer[..transitions]);
     Ok(())
 }
 

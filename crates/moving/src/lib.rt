@@ -81,7 +81,7 @@ fn conclude(
     }
     let values = &mut *run.values;
     let marks = &mut *run.marks;
-    values[..new.len()].copy_from_slice(new);
+    results::copy(new, &mut values[..new.len()]);
     marking::refresh(decoded, values, cells, marks);
 }
 
@@ -104,7 +104,7 @@ pub fn dispatch<const NODES: usize, const VARIABLES: usize>(
     let mut copy = [0i32; VARIABLES];
     let cells = &mut cells[..count];
     let copy = &mut copy[..count];
-    copy.copy_from_slice(&lent.values[..count]);
+    results::copy(&lent.values[..count], copy);
     let firing = replay_within::<NODES, VARIABLES>(loaded, cells, copy, &lent, step);
     conclude(firing, &loaded.decoded, copy, cells, run);
     moves::answer_to(step, firing)

@@ -94,7 +94,7 @@ fn finish(
     ensures same { SameCells gathering.old gathering.new }
 {
     fill(tables.variables, cells);
-    gathering.given.copy_from_slice(cells);
+    results::copy(cells, gathering.given);
     gathering.found = Gathered::default();
     gathering.queued = 0;
     // The tables are lent again, for as long as the cells are.

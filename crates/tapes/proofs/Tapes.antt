@@ -51,7 +51,7 @@ put_room (a ∷ new) cells at h =
     ∙ ap (λ n. tape (sets (set cells at a) n new) (at + 1 + length new)) (add-one at)
     ∙ ap (tape (sets cells at (a ∷ new))) place
 
--- where there is room, copied in one
+-- where there is room, copied at once
 pub put_part : {A : Type 0} (new cells : List A) (at : ℕ) (part : List A) → at + length new ≤ length cells → part ≡ new
     → tape (put_mid at (at + length new - at) cells part) (at + length new) ≡ put_all new (tape cells at)
 put_part {A} new cells at part h e =

@@ -47,8 +47,8 @@ impl<T: Copy> Tape<'_, T> {
         }
     }
 
-    // Writes items that have room, copied in one. A function of its own: where the caller's length is known, so is that of this copy, and a
-    // few bytes are a store; of `items[..items.len().min(room)]` each is a call, and a file takes several times as long to write.
+    // Writes items that have room, with no test for each. A function of its own: where the caller's length is known, so is that of this
+    // copy, and a few bytes are a store.
     #[tactic(auto, using(crate::proofs::Tapes::put_part))]
     fn put_fitting(&mut self, items: &[T])
         requires { self.old.at + length items.now ≤ length self.old.cells.now }
@@ -56,7 +56,7 @@ impl<T: Copy> Tape<'_, T> {
         ensures same_cells { self.new.cells.ghost_name ≡ self.old.cells.ghost_name }
     {
         let past = self.at + items.len();
-        self.cells[self.at..past].copy_from_slice(items);
+        results::copy(items, &mut self.cells[self.at..past]);
         self.at = past;
     }
 

@@ -2,7 +2,6 @@
 use native.Mathlib.Omega.{arith}
 use Rattle.model.specs.declared.Sizes.{Sizes}
 use Rattle.std.specs.Prelude.{Some}
-use Rattle.std.proofs.lemmas.Result.{err_from_is_err_and}
 use Rattle.decoding.proofs.InUse.{part_within}
 use Rattle.decoding.proofs.VariablesInUse.{SortsInUse, sorts_in_use}
 use Rattle.decoding.proofs.Handed.{refused_given, ready_given}
@@ -10,48 +9,46 @@ use Rattle.decoding.proofs.check_expression.Goals as goal
 
 pub variables-requires : goal.variables-requires
 variables-requires c =
-    let sizes : Sizes = c.in_ok-sizes.sizes in
+    let sizes : Sizes = c.in-Ok.found in
     let used : SortsInUse c.args.model.now sizes
     c.sorts_of.new.sorts =
     sorts_in_use c.args.model.now _ c.sorts_of.new.sorts sizes
-    c.sorts_of.result c.sorts_of.ensures c.in_ok-sizes.was in
+    c.sorts_of.result c.sorts_of.ensures c.in-Ok.is in
     omega (arith, used.few)
 
 pub slice_bounds-sorts-end : goal.slice_bounds-sorts-end
 slice_bounds-sorts-end c =
-    let sizes : Sizes = c.in_ok-sizes.sizes in
+    let sizes : Sizes = c.in-Ok.found in
     let used : SortsInUse c.args.model.now sizes
     c.sorts_of.new.sorts =
     sorts_in_use c.args.model.now _ c.sorts_of.new.sorts sizes
-    c.sorts_of.result c.sorts_of.ensures c.in_ok-sizes.was in
+    c.sorts_of.result c.sorts_of.ensures c.in-Ok.is in
     rw c.variables.ensures (part_within _ c.sorts_of.new.sorts used.part)
 
 pub slice_bounds-check_over_sorts-end : goal.slice_bounds-check_over_sorts-end
 slice_bounds-check_over_sorts-end c =
-    let sizes : Sizes = c.in_ok-sizes.sizes in
+    let sizes : Sizes = c.in-Ok.found in
     let used : SortsInUse c.args.model.now sizes
     c.sorts_of.new.sorts =
     sorts_in_use c.args.model.now _ c.sorts_of.new.sorts sizes
-    c.sorts_of.result c.sorts_of.ensures c.in_ok-sizes.was in
+    c.sorts_of.result c.sorts_of.ensures c.in-Ok.is in
     rw c.variables.ensures used.part
 
-pub returns-in_err-sizes : goal.returns-in_err-sizes
-returns-in_err-sizes c =
+pub returns-in-Err : goal.returns-in-Err
+returns-in-Err c =
     let given = c.args in
-    let e = err_from_is_err_and c.from_residual.result c.from_residual.ensures.1 in
-    rw (e.1, e.2)
-    (refused_given given.model.now given.tree.now.kinds.now given.tree.now.parameters.now (Some given.wanted)
-    c.sorts_of.new.sorts _ c.sorts_of.result _ c.sorts_of.ensures c.in_err-sizes.was)
+    refused_given given.model.now given.tree.now.kinds.now given.tree.now.parameters.now (Some given.wanted)
+    c.sorts_of.new.sorts _ c.sorts_of.result _ c.sorts_of.ensures c.in-Err.is
 
-pub returns : goal.returns
-returns c =
-    let sizes : Sizes = c.in_ok-sizes.sizes in
+pub returns-in-Ok : goal.returns-in-Ok
+returns-in-Ok c =
+    let sizes : Sizes = c.in-Ok.found in
     let used : SortsInUse c.args.model.now sizes
     c.sorts_of.new.sorts =
     let read = c in
     let known = read in
     sorts_in_use known.args.model.now _ read.sorts_of.new.sorts sizes
-    read.sorts_of.result read.sorts_of.ensures c.in_ok-sizes.was in
+    read.sorts_of.result read.sorts_of.ensures c.in-Ok.is in
     let read = c in
     let given = read.args in
     ready_given given.model.now given.tree.now.kinds.now given.tree.now.parameters.now (Some given.wanted)

@@ -21,4 +21,4 @@ returns-in_err-check g c =
 pub returns : goal.returns
 returns g c =
     marks_copied c.declarations-declared.ensures (run_in c.args.run.now) c.in_ok-measure.ensures.enough c.args.buffer.now (omega (arith, c.if-buffer-transitions.false))
-    c.in_ok-check.ensures.held _ (ap (λ l. l ++ drop c.declarations-declared.result.transitions c.args.buffer.now) c.copy_from_slice.ensures.after)
+    c.in_ok-check.ensures.held _ (ap (λ l. l ++ drop c.declarations-declared.result.transitions c.args.buffer.now) c.copy.ensures)

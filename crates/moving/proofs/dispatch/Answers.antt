@@ -30,17 +30,20 @@ returns-in_err-test-clause-moved g c =
     rw (p.1, p.2) (step_refused (meaning d) lent c.args.step _
     (sym (ap tested c.in_err-test.was) ∙ c.test.ensures (meaning d) (loaded_declares c.args.loaded.now.decoded.tables d c.from.ensures) ∙ ap (refused_before (meaning d) c.args.step) c.shared-lent.ensures))
 
-pub slice_bounds-copy_from_slice-end : goal.slice_bounds-copy_from_slice-end
+pub slice_bounds-copy-end : goal.slice_bounds-copy-end
+slice_bounds-copy-end g c = sym (part_length (pos 0) _ g.row.VARIABLES c.requires.for_variables)
+
+pub slice_bounds-copy-end-2 : goal.slice_bounds-copy-end-2
 unfolding tested
-slice_bounds-copy_from_slice-end g c =
+slice_bounds-copy-end-2 g c =
     let lent : Run = run_in c.shared-lent.result in
     let d = loaded_in c.args.loaded.now.decoded in
     let passed : none ≡ refused_before (meaning d) c.args.step lent = sym (ap tested c.in_ok-test.was) ∙ c.test.ensures (meaning d) (loaded_declares c.args.loaded.now.decoded.tables d c.from.ensures) in
     sym (length-take-le _ lent.values (omega (arith, rows_count d, passed_enough (meaning d) lent c.args.step passed)))
 
-pub copy_from_slice-requires : goal.copy_from_slice-requires
+pub copy-requires : goal.copy-requires
 unfolding tested
-copy_from_slice-requires g c =
+copy-requires g c =
     let lent : Run = run_in c.shared-lent.result in
     let d = loaded_in c.args.loaded.now.decoded in
     let passed : none ≡ refused_before (meaning d) c.args.step lent = sym (ap tested c.in_ok-test.was) ∙ c.test.ensures (meaning d) (loaded_declares c.args.loaded.now.decoded.tables d c.from.ensures) in
@@ -62,7 +65,7 @@ conclude-requires g c =
     let passed : none ≡ refused_before (meaning d) c.args.step lent =
     sym (ap tested c.in_ok-test.was) ∙ c.test.ensures (meaning d) (loaded_declares c.args.loaded.now.decoded.tables d c.from.ensures) ∙ ap (refused_before (meaning d) c.args.step) c.shared-lent.ensures in
     let moves = c.replay_within-firing in (
-      moves.auto.values ∙ c.copy_from_slice.auto.self ∙ part_length (pos 0) _ g.row.VARIABLES c.requires.for_variables,
+      moves.auto.values ∙ c.copy.auto.cells ∙ part_length (pos 0) _ g.row.VARIABLES c.requires.for_variables,
       omega (arith, rows_count d, passed_enough (meaning d) lent c.args.step passed),
       omega (arith, guards_count d, passed_room (meaning d) lent c.args.step passed),
       moves.ensures.blank ∙ part_blank unknown_cell _ g.row.VARIABLES c.requires.for_variables,
@@ -78,13 +81,13 @@ returns-clause-moved g c =
     let d₀ = loaded_in c.args.loaded.now.decoded in
     let enough : length rows ≤ length lent.values = omega (arith, rows_count d₀, passed_enough (meaning d₀) lent c.args.step (passed d₀)) in
     let moves = c.replay_within-firing in
-    let stored = c.copy_from_slice in
+    let stored = c.copy in
     let part = part_length (pos 0) (length rows) g.row.VARIABLES c.requires.for_variables in
-    let size : length moves.new.values ≡ length rows = moves.auto.values ∙ stored.auto.self ∙ part in
-    let copied : stored.new.self ≡ take (length rows) lent.values =
-    stored.ensures.after ∙ ap (λ (r : Run). take (length rows) r.values) c.shared-lent.ensures in
+    let size : length moves.new.values ≡ length rows = moves.auto.values ∙ stored.auto.cells ∙ part in
+    let copied : stored.new.cells ≡ take (length rows) lent.values =
+    stored.ensures ∙ ap (λ (r : Run). take (length rows) r.values) c.shared-lent.ensures in
     λ d.
     dispatched (meaning d) lent c.args.step (passed d) (meaning_complete d) moves.result moves.new.values (size ∙ rows_count d)
-    (moves.ensures.moved d ∙ ap (λ (r : Run). moved (meaning d) c.args.step r.history r.count stored.new.self) c.shared-lent.ensures
+    (moves.ensures.moved d ∙ ap (λ (r : Run). moved (meaning d) c.args.step r.history r.count stored.new.cells) c.shared-lent.ensures
     ∙ ap (moved (meaning d) c.args.step lent.history lent.count) (copied ∙ ap (λ k. take k lent.values) (rows_count d)))
     (seen_as (told_by c.args.step) c.answer_to.result) c.answer_to.ensures _ c.conclude.ensures.stored _ (c.conclude.ensures.marked d)

@@ -46,4 +46,4 @@ returns-clause-begun c =
     let room : c.args.loaded.now.decoded.tables.model.sizes.states + c.args.loaded.now.decoded.tables.model.sizes.flows ≤ length values = omega (arith, c.variables-variable_count.ensures, c.if-values-variable_count.false) in
     let long : length states ≡ c.args.loaded.now.decoded.tables.model.sizes.states = omega (arith, c.if-states-state_count.false) in
     let was = ok_of p.result c.map_err.result c.map_err.ensures.variant _ c.map_err.ensures.cases c.in_ok-count.was in
-    λ d. begin_settled d states values room long _ c.variables-variable_count.ensures p.result p.new.flows (p.ensures.settled (flows_stand d states values room long _ c.variables-variable_count.ensures)) _ was _ c.copy_from_slice.ensures.after
+    λ d. begin_settled d states values room long _ c.variables-variable_count.ensures p.result p.new.flows (p.ensures.settled (flows_stand d states values room long _ c.variables-variable_count.ensures)) _ was _ c.copy.ensures

@@ -23,15 +23,18 @@ returns-in_err-admit-clause-changed c =
     let p = err_from_is_err_and c.from_residual.result c.from_residual.ensures.1 in
     rw (p.1, p.2) (λ d. over_by_guard d c.args.transition c.args.values.now c.args.work.now.states.now c.requires.1 (omega (arith, c.variables-variable_count.ensures, c.if-values-variable_count.false)) c.args.work.now.cells.now c.requires.0 c.guard-evaluation.result (c.guard-evaluation.ensures d) c.admit.result c.admit.ensures _ c.in_err-admit.was)
 
-pub slice_bounds-copy_from_slice-end : goal.slice_bounds-copy_from_slice-end
-slice_bounds-copy_from_slice-end c = few_states (loaded_in c.args.decoded.now) c.args.transition c.args.values.now c.args.work.now.states.now c.requires.1
+pub slice_bounds-copy-end : goal.slice_bounds-copy-end
+slice_bounds-copy-end c = sym (length-take-le _ c.args.values.now (omega (arith, c.variables-variable_count.ensures, c.if-values-variable_count.false)))
 
-pub slice_bounds-copy_from_slice-end-2 : goal.slice_bounds-copy_from_slice-end-2
-slice_bounds-copy_from_slice-end-2 c =
+pub slice_bounds-copy-end-2 : goal.slice_bounds-copy-end-2
+slice_bounds-copy-end-2 c = few_states (loaded_in c.args.decoded.now) c.args.transition c.args.values.now c.args.work.now.states.now c.requires.1
+
+pub slice_bounds-copy-end-3 : goal.slice_bounds-copy-end-3
+slice_bounds-copy-end-3 c =
     sym (length-take-le _ c.args.work.now.states.now (few_states (loaded_in c.args.decoded.now) c.args.transition c.args.values.now c.args.work.now.states.now c.requires.1))
 
-pub copy_from_slice-requires : goal.copy_from_slice-requires
-copy_from_slice-requires c =
+pub copy-requires : goal.copy-requires
+copy-requires c =
     length-take-le _ c.args.work.now.states.now (few_states (loaded_in c.args.decoded.now) c.args.transition c.args.values.now c.args.work.now.states.now c.requires.1)
     ∙ sym (length-take-le _ c.args.values.now (omega (arith, c.variables-variable_count.ensures, c.if-values-variable_count.false)))
 
@@ -43,14 +46,14 @@ action_at-action-requires c = (
 
 pub act-requires : goal.act-requires
 act-requires c =
-    (action_stands (loaded_in c.args.decoded.now) c.args.transition c.args.values.now c.args.work.now.states.now c.requires.1 (omega (arith, c.variables-variable_count.ensures, c.if-values-variable_count.false)) c.args.work.now.cells.now c.requires.0 c.guard-evaluation.result (c.guard-evaluation.ensures (loaded_in c.args.decoded.now)) c.admit.result c.admit.ensures c.in_ok-admit.was _ (ap (λ l. l ++ drop c.args.decoded.now.tables.model.sizes.states c.args.work.now.states.now) c.copy_from_slice.ensures.after) _ c.action_at-action.ensures, c.requires.2)
+    (action_stands (loaded_in c.args.decoded.now) c.args.transition c.args.values.now c.args.work.now.states.now c.requires.1 (omega (arith, c.variables-variable_count.ensures, c.if-values-variable_count.false)) c.args.work.now.cells.now c.requires.0 c.guard-evaluation.result (c.guard-evaluation.ensures (loaded_in c.args.decoded.now)) c.admit.result c.admit.ensures c.in_ok-admit.was _ (ap (λ l. l ++ drop c.args.decoded.now.tables.model.sizes.states c.args.work.now.states.now) c.copy.ensures) _ c.action_at-action.ensures, c.requires.2)
 
 pub returns-clause-changed : goal.returns-clause-changed
 returns-clause-changed c =
     let a = c.act in
-    λ d. changed d c.args.transition c.args.values.now c.args.work.now.states.now c.requires.1 (omega (arith, c.variables-variable_count.ensures, c.if-values-variable_count.false)) c.args.work.now.cells.now c.requires.0 c.guard-evaluation.result (c.guard-evaluation.ensures d) c.admit.result c.admit.ensures c.in_ok-admit.was _ (ap (λ l. l ++ drop c.args.decoded.now.tables.model.sizes.states c.args.work.now.states.now) c.copy_from_slice.ensures.after) _ c.action_at-action.ensures a.new.states a.auto.states a.result (a.ensures.acted (action_stands d c.args.transition c.args.values.now c.args.work.now.states.now c.requires.1 (omega (arith, c.variables-variable_count.ensures, c.if-values-variable_count.false)) c.args.work.now.cells.now c.requires.0 c.guard-evaluation.result (c.guard-evaluation.ensures d) c.admit.result c.admit.ensures c.in_ok-admit.was _ (ap (λ l. l ++ drop c.args.decoded.now.tables.model.sizes.states c.args.work.now.states.now) c.copy_from_slice.ensures.after) _ c.action_at-action.ensures)) (no_fault c.act.result c.in_default.not-Err)
+    λ d. changed d c.args.transition c.args.values.now c.args.work.now.states.now c.requires.1 (omega (arith, c.variables-variable_count.ensures, c.if-values-variable_count.false)) c.args.work.now.cells.now c.requires.0 c.guard-evaluation.result (c.guard-evaluation.ensures d) c.admit.result c.admit.ensures c.in_ok-admit.was _ (ap (λ l. l ++ drop c.args.decoded.now.tables.model.sizes.states c.args.work.now.states.now) c.copy.ensures) _ c.action_at-action.ensures a.new.states a.auto.states a.result (a.ensures.acted (action_stands d c.args.transition c.args.values.now c.args.work.now.states.now c.requires.1 (omega (arith, c.variables-variable_count.ensures, c.if-values-variable_count.false)) c.args.work.now.cells.now c.requires.0 c.guard-evaluation.result (c.guard-evaluation.ensures d) c.admit.result c.admit.ensures c.in_ok-admit.was _ (ap (λ l. l ++ drop c.args.decoded.now.tables.model.sizes.states c.args.work.now.states.now) c.copy.ensures) _ c.action_at-action.ensures)) (no_fault c.act.result c.in_default.not-Err)
 
 pub returns-in-Err-clause-changed : goal.returns-in-Err-clause-changed
 returns-in-Err-clause-changed c =
     let a = c.act in
-    λ d. over_by_action d c.args.transition c.args.values.now c.args.work.now.states.now c.requires.1 (omega (arith, c.variables-variable_count.ensures, c.if-values-variable_count.false)) c.args.work.now.cells.now c.requires.0 c.guard-evaluation.result (c.guard-evaluation.ensures d) c.admit.result c.admit.ensures c.in_ok-admit.was _ (ap (λ l. l ++ drop c.args.decoded.now.tables.model.sizes.states c.args.work.now.states.now) c.copy_from_slice.ensures.after) _ c.action_at-action.ensures a.new.states a.auto.states a.result (a.ensures.acted (action_stands d c.args.transition c.args.values.now c.args.work.now.states.now c.requires.1 (omega (arith, c.variables-variable_count.ensures, c.if-values-variable_count.false)) c.args.work.now.cells.now c.requires.0 c.guard-evaluation.result (c.guard-evaluation.ensures d) c.admit.result c.admit.ensures c.in_ok-admit.was _ (ap (λ l. l ++ drop c.args.decoded.now.tables.model.sizes.states c.args.work.now.states.now) c.copy_from_slice.ensures.after) _ c.action_at-action.ensures)) _ c.in-Err.is _ (c.fill.ensures.after (λ _ e. e))
+    λ d. over_by_action d c.args.transition c.args.values.now c.args.work.now.states.now c.requires.1 (omega (arith, c.variables-variable_count.ensures, c.if-values-variable_count.false)) c.args.work.now.cells.now c.requires.0 c.guard-evaluation.result (c.guard-evaluation.ensures d) c.admit.result c.admit.ensures c.in_ok-admit.was _ (ap (λ l. l ++ drop c.args.decoded.now.tables.model.sizes.states c.args.work.now.states.now) c.copy.ensures) _ c.action_at-action.ensures a.new.states a.auto.states a.result (a.ensures.acted (action_stands d c.args.transition c.args.values.now c.args.work.now.states.now c.requires.1 (omega (arith, c.variables-variable_count.ensures, c.if-values-variable_count.false)) c.args.work.now.cells.now c.requires.0 c.guard-evaluation.result (c.guard-evaluation.ensures d) c.admit.result c.admit.ensures c.in_ok-admit.was _ (ap (λ l. l ++ drop c.args.decoded.now.tables.model.sizes.states c.args.work.now.states.now) c.copy.ensures) _ c.action_at-action.ensures)) _ c.in-Err.is _ (c.fill.ensures.after (λ _ e. e))
