@@ -168,7 +168,7 @@ fn exchange(nodes: &mut [Node], first: usize)
     nodes.reverse();
 }
 
-// The last node comes before the others, each of which moves up by one place.
+// The last node comes before the others, each of which moves up by one place: `exchange` in one pass, since each operator is put in so.
 fn bring_forward(nodes: &mut [Node], last: usize)
     requires { last + 1 ≡ length nodes.old }
     ensures { nodes.new ≡ drop last nodes.old ++ take last nodes.old }
